@@ -1,0 +1,22 @@
+pub mod Equal
+pub mod Ring
+mod RingExamples
+pub mod Coding
+pub mod Sum
+pub mod Pow
+pub mod Poly
+pub mod Roots
+pub mod Lagrange
+pub mod Weighted
+pub mod Erasure
+pub mod Points
+pub mod Layers
+pub mod Skip
+pub mod Free
+pub mod Group
+pub mod Repair
+pub mod Cabinet
+pub mod Restore
+pub mod Card
+pub mod Numbers
+pub mod Pigeon

@@ -1,0 +1,13 @@
+pub mod Field
+pub mod Coding
+pub mod Sum
+pub mod Poly
+pub mod Lagrange
+pub mod Erasure
+pub mod Shape
+pub mod Points
+pub mod Layers
+pub mod Cabinet
+pub mod Group
+pub mod Repair
+pub mod Card
