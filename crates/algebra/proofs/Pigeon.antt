@@ -6,7 +6,7 @@ use native.Mathlib.Nat.{pow-suc, pow-zero, mul-comm, mod-lt, mod-one, mod-eq-of-
 use native.Mathlib.Decide.{ℕ-discrete, decLt}
 use native.Mathlib.Omega.{arith}
 use lib.Arith.{digits-lt, mod-mul}
-use Rattle.algebra.specs.Coding.{Coding}
+use Rattle.algebra.specs.Coding.{Coding, Coded}
 use Rattle.algebra.specs.Group.{skip, unskip}
 use Rattle.algebra.specs.Layers.{digit}
 use Rattle.algebra.proofs.Points.{digits-same}
@@ -109,7 +109,7 @@ pub record Indistinct {A : Type 0} (n m : ℕ) (rule : (ℕ → A) → ℕ → A
   pub differ : ¬ (left at ≡ right at)
   pub alike : (i : ℕ) → i < m → rule left i ≡ rule right i
 
-module _ {A : Type 0} (k : Coding A) (two : 1 < k .size) where
+module _ {A : Type 0} (k : Coding A) (ok : Coded k) (two : 1 < k .size) where
   word : ℕ → ℕ → A
   word n i = k .elem (digit (k .size) n i)
 
@@ -121,7 +121,7 @@ module _ {A : Type 0} (k : Coding A) (two : 1 < k .size) where
   unfolding word
   word-differ n x y h l Q f = bounded (λ i. digit (k .size) x i ≡ digit (k .size) y i) (λ i. ℕ-discrete _ _) Q n
       (λ all. absurd (equal all))
-      (λ i p d. f i p (λ e. d (elem-same k _ _ (digit-below (k .size) (omega arith) x i) (digit-below (k .size) (omega arith) y i) e)))
+      (λ i p d. f i p (λ e. d (elem-same k ok _ _ (digit-below (k .size) (omega arith) x i) (digit-below (k .size) (omega arith) y i) e)))
     where
       equal : ((i : ℕ) → i < n → digit (k .size) x i ≡ digit (k .size) y i) → ⊥
       equal all = omega (arith, sym (mod-eq-of-lt (below x (omega arith))) ∙ sym (number-digits (k .size) n x (omega arith)) ∙ number-congr (k .size) n _ _ all ∙ number-digits (k .size) n y (omega arith) ∙ mod-eq-of-lt l)
@@ -137,8 +137,8 @@ module _ {A : Type 0} (k : Coding A) (two : 1 < k .size) where
     at = i;
     inside = l;
     differ = d;
-    alike = λ t p. sym (k .elem-val _) ∙ ap (k .elem) (number-same (k .size) m _ _ (λ i l. k .val-below _) (λ i l. k .val-below _) (c .same) t p) ∙ k .elem-val _;
+    alike = λ t p. sym (ok .elem-val _) ∙ ap (k .elem) (number-same (k .size) m _ _ (λ i l. ok .val-below _) (λ i l. ok .val-below _) (c .same) t p) ∙ ok .elem-val _;
   })
     where
       c : Collision (sent m rule) (suc (k .size ^ m))
-      c = pigeon (k .size ^ m) (sent m rule) (λ i l. number-below (k .size) m _ (λ t p. k .val-below _))
+      c = pigeon (k .size ^ m) (sent m rule) (λ i l. number-below (k .size) m _ (λ t p. ok .val-below _))

@@ -4,7 +4,7 @@
 use mathlib.Core.Path.{_≡_}
 use Prim.Native.Nat.{ℕ, _*_, _/_, _≤_, _<_}
 use Rattle.algebra.specs.Field.{Ops, Laws}
-use Rattle.algebra.specs.Coding.{Coding}
+use Rattle.algebra.specs.Coding.{Coding, Coded}
 use Rattle.algebra.specs.Sum.{pow}
 
 -- operations, a root and its order (document 01: z and 255), and how numbers stand for elements
@@ -22,6 +22,7 @@ pub record Root {A : Type 0} (o : Ops A) (z : A) (N : ℕ) : Type 0 where
 pub record FieldLaws {A : Type 0} (f : Field A) : Type 0 where
   pub laws : Laws (f .ops)
   pub root : Root (f .ops) (f .root) (f .order)
+  pub coded : Coded (f .coding)
 
 -- document 01: z, its order, B racks of u trays, and s digits
 pub record Shape (A : Type 0) : Type 0 where

@@ -4,3 +4,4 @@ pub mod Powers
 pub mod Tables
 pub mod Loops
 pub mod Numbered
+pub mod Computed
