@@ -21,7 +21,7 @@ use Rattle.algebra.proofs.Ring.{mul-zero, mul-inv-left, inv-mul-left}
 use Rattle.algebra.proofs.Sum.{sum-congr, sum-swap, sum-single, sum-is-zero}
 use Rattle.algebra.proofs.Erasure.{check-congr, recovered, recovered-only}
 use Rattle.algebra.proofs.Points.{places-distinct, rack-check}
-use Rattle.algebra.proofs.Layers.{digit-below, layer-digit, layer-other, layer-group, layer-below, layer-back}
+use Rattle.algebra.proofs.Layers.{digit-below, layer-digit, layer-other, layer-group, layer-in, layer-back}
 use Rattle.algebra.proofs.Skip.{skip-other, skip-unskip, unskip-skip, digits-host, digits-other, join-low, join-high}
 use Rattle.algebra.proofs.Group.{group-check}
 use Rattle.algebra.proofs.Repair.{point-not-zero, solution, solution-meets, solution-shares, solution-host, host-only}
@@ -53,12 +53,6 @@ module _ {A : Type 0} (sh : Shape A) (fits : Fits sh) (h : ℕ) (host : h < sh .
   open Ops (sh .ops) using (mul as _⊗_, inv, zero as 𝟘)
 
   infixl 70 _⊗_
-  pub layer-in : (b : ℕ) → b < s → layerOf s h p b < s ^ B
-  layer-in b l = subst (λ n. layerOf s h p b < s ^ n) (more B h host) (layer-below s pos h p (B - 1) b (omega arith) l group)
-    where
-      more : (n h : ℕ) → h < n → suc (n - 1) ≡ n
-      more n h l = omega arith
-
   -- a layer counts in a group where it is one of the group's s layers
   counted : (f : ℕ → A) (j : ℕ) → choose (eqb (groupOf s h j) p) (f j) 𝟘 ≡ sum o s (λ b. choose (eqb j (layerOf s h p b)) (f j) 𝟘)
   counted f j = go (ℕ-discrete (groupOf s h j) p)
@@ -81,7 +75,7 @@ module _ {A : Type 0} (sh : Shape A) (fits : Fits sh) (h : ℕ) (host : h < sh .
       sum-congr o (s ^ B) _ _ (λ j l. counted f j)
       ∙ sum-swap o L (s ^ B) s _
       ∙ sum-congr o s _ _ (λ b l.
-      sum-single o L (s ^ B) (layerOf s h p b) _ (layer-in b l) (λ j k d. choose-other _ _ _ _ d) ∙ choose-same (layerOf s h p b) (layerOf s h p b) _ 𝟘 refl)
+      sum-single o L (s ^ B) (layerOf s h p b) _ (layer-in s pos B h p b host group l) (λ j k d. choose-other _ _ _ _ d) ∙ choose-same (layerOf s h p b) (layerOf s h p b) _ 𝟘 refl)
 
   -- the digits of the group's layers at the racks other than the host
   a : ℕ → ℕ

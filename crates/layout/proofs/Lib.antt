@@ -1,0 +1,5 @@
+pub mod Facts
+pub mod Numbers
+pub mod Parts
+pub mod Lists
+pub mod Answer

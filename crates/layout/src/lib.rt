@@ -1,0 +1,211 @@
+// Layouts: the four numbers of a cabinet, which of them document 01 admits, and the numbers that follow. Promises the definitions of specs/Layout.antt
+// for all 32-bit values, with no sum or product that wraps. A rack, a tray and a layer number are kinds of their own.
+mod power;
+
+use power::capped_power;
+ghost use mathlib.Core.Path.{_≡_};
+ghost use Prim.Native.Nat.{_+_, _*_, _/_, _%_, _^_, _<_, _≤_};
+ghost use Rattle.algebra.specs.Layers.{digit, layerOf};
+ghost use Rattle.layout.specs.Layout.{sizeAllowed, admissible, trays, checks, digits, layers, groups, parityRacks, layerLimit, Admissible, measured};
+ghost use Rattle.layout.specs.Inner.{InGroup};
+
+// The limits of document 01: trays of a cabinet, and layers of a tray.
+pub const TRAYS: u32 = 48;
+
+pub const LAYERS: u32 = 1024;
+
+// Document 01's B, u, k and d: any 32-bit values.
+#[repr(C)]
+pub struct Layout {
+    pub racks: u32,
+    pub size: u32,
+    pub dimension: u32,
+    pub helpers: u32,
+}
+
+// The number of a rack.
+pub struct Rack(u32);
+
+impl Rack {
+    pub fn of(n: u32) -> Rack
+        ensures { λ r. ⌜ r .0 ≡ n ⌝ }
+    {
+        Rack(n)
+    }
+
+    pub fn number(self) -> u32
+        ensures { λ r. ⌜ r ≡ self .0 ⌝ }
+    {
+        self.0
+    }
+}
+
+// The number of a tray.
+pub struct Tray(u32);
+
+impl Tray {
+    pub fn of(n: u32) -> Tray
+        ensures { λ r. ⌜ r .0 ≡ n ⌝ }
+    {
+        Tray(n)
+    }
+
+    pub fn number(self) -> u32
+        ensures { λ r. ⌜ r ≡ self .0 ⌝ }
+    {
+        self.0
+    }
+}
+
+// The number of a layer.
+pub struct Layer(u32);
+
+impl Layer {
+    pub fn of(n: u32) -> Layer
+        ensures { λ r. ⌜ r .0 ≡ n ⌝ }
+    {
+        Layer(n)
+    }
+
+    pub fn number(self) -> u32
+        ensures { λ r. ⌜ r ≡ self .0 ⌝ }
+    {
+        self.0
+    }
+}
+
+// What the layout call answers.
+pub enum Measured {
+    Known {
+        layers: u32,
+        checks: u32,
+        traffic: u32,
+    },
+    Refused(u8),
+}
+
+// The rack sizes for which the field has points.
+fn size_allowed(u: u32) -> bool
+    ensures { λ r. ⌜ r ≡ sizeAllowed u ⌝ }
+{
+    match u {
+        1 | 3 | 5 | 15 | 17 => true,
+        _ => false,
+    }
+}
+
+// Whether a layout is admissible.
+pub fn admitted(l: Layout) -> bool
+    ensures { λ r. ⌜ r ≡ admissible l ⌝ }
+{
+    let b = l.racks;
+    let u = l.size;
+    let k = l.dimension;
+    let d = l.helpers;
+    if b < 2 {
+        return false;
+    }
+    if !size_allowed(u) {
+        return false;
+    }
+    if TRAYS < b {
+        return false;
+    }
+    let n = b * u;
+    if TRAYS < n {
+        return false;
+    }
+    if k < u {
+        return false;
+    }
+    if n < k {
+        return false;
+    }
+    if n - k < u {
+        return false;
+    }
+    let whole = k / u;
+    if d < whole {
+        return false;
+    }
+    if b <= d {
+        return false;
+    }
+    if LAYERS < capped_power(d - whole + 1, b) {
+        return false;
+    }
+    true
+}
+
+// L, the number of layers.
+pub fn layer_count(l: Layout) -> u32
+    requires { ⌜ Admissible l ⌝ }
+    ensures { λ r. ⌜ r ≡ layers l ⌝ }
+{
+    capped_power(digit_count(l), l.racks)
+}
+
+// s, the base of a layer's digits.
+pub fn digit_count(l: Layout) -> u32
+    requires { ⌜ Admissible l ⌝ }
+    ensures { λ r. ⌜ r ≡ digits l ⌝ }
+{
+    l.helpers - l.dimension / l.size + 1
+}
+
+// n, the number of trays.
+pub fn tray_count(l: Layout) -> u32
+    requires { ⌜ Admissible l ⌝ }
+    ensures { λ r. ⌜ r ≡ trays l ⌝ }
+{
+    l.racks * l.size
+}
+
+// r, the number of checks of a layer.
+pub fn check_count(l: Layout) -> u32
+    requires { ⌜ Admissible l ⌝ }
+    ensures { λ r. ⌜ r ≡ checks l ⌝ }
+{
+    l.racks * l.size - l.dimension
+}
+
+// L/s, the number of groups for a host rack.
+pub fn group_count(l: Layout) -> u32
+    requires { ⌜ Admissible l ⌝ }
+    ensures { λ r. ⌜ r ≡ groups l ⌝ }
+{
+    layer_count(l) / digit_count(l)
+}
+
+// Digit i of layer j, in base s; digit 0 is the lowest.
+pub fn digit_at(s: u32, j: u32, i: u32) -> u32
+    requires { ⌜ (1 ≤ s) × (s ^ i ≤ layerLimit) ⌝ }
+    ensures { λ r. ⌜ r ≡ digit s j i ⌝ }
+{
+    j / capped_power(s, i) % s
+}
+
+// The layer of group p with digit a, for the host rack h.
+pub fn layer_of(l: Layout, h: u32, p: u32, a: u32) -> u32
+    requires { ⌜ InGroup l h p a ⌝ }
+    ensures { λ r. ⌜ (r ≡ layerOf (digits l) h p a) × (r < layers l) ⌝ }
+{
+    let s = digit_count(l);
+    let q = capped_power(s, h);
+    (p / q * s + a) * q + p % q
+}
+
+// The layout call: L, r and the traffic of a repair, or 1.
+pub fn measure(l: Layout) -> Measured
+    ensures { λ r. ⌜ r ≡ measured l ⌝ }
+{
+    let d = l.helpers;
+    if !admitted(l) {
+        return Measured::Refused(1);
+    }
+    Measured::Known {
+        layers: layer_count(l),
+        checks: check_count(l),
+        traffic: d * group_count(l),
+    }
+}

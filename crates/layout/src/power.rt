@@ -1,0 +1,31 @@
+// Powers of plain numbers by halving the exponent. Above the limit for L only that they are above it is known.
+use crate::LAYERS;
+ghost use mathlib.Core.Path.{_≡_};
+ghost use Prim.Native.Nat.{_+_, _^_, min};
+ghost use Rattle.layout.specs.Layout.{layerLimit};
+
+// base to the power e, or one more than the limit where it is above the limit.
+pub fn capped_power(base: u32, e: u32) -> u32
+    ensures { λ r. ⌜ r ≡ min (base ^ e) (layerLimit + 1) ⌝ }
+{
+    if e == 0 {
+        return 1;
+    }
+    let root = capped_power(base, e / 2);
+    let square = capped(root as u64 * root as u64);
+    if e % 2 == 0 {
+        return square;
+    }
+    capped(square as u64 * base as u64)
+}
+
+// The smaller of x and one more than the limit.
+fn capped(x: u64) -> u32
+    ensures { λ r. ⌜ r ≡ min x (layerLimit + 1) ⌝ }
+{
+    if x <= LAYERS as u64 {
+        x as u32
+    } else {
+        LAYERS + 1
+    }
+}
