@@ -199,13 +199,13 @@ pub fn layer_of(l: Layout, h: u32, p: u32, a: u32) -> u32
 pub fn measure(l: Layout) -> Measured
     ensures { λ r. ⌜ r ≡ measured l ⌝ }
 {
-    let d = l.helpers;
+    let helpers = l.helpers;
     if !admitted(l) {
         return Measured::Refused(1);
     }
     Measured::Known {
         layers: layer_count(l),
         checks: check_count(l),
-        traffic: d * group_count(l),
+        traffic: helpers * group_count(l),
     }
 }
