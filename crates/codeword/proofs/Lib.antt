@@ -1,0 +1,5 @@
+pub mod Usable
+pub mod Buffers
+pub mod Points
+pub mod Answers
+pub mod Unique

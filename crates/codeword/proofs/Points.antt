@@ -1,0 +1,57 @@
+-- Points of the field of 256 as the code works them out.
+-- Assumes nothing.
+use mathlib.Core.Path.{_≡_, refl, sym, ap, ap₂, _∙_}
+use mathlib.Core.List.{List}
+use Prim.Native.Nat.{ℕ, _+_, _*_, _/_, _%_, _<_}
+use native.Mathlib.Nat.{mod-lt}
+use lib.ListN.{getD}
+use Rattle.algebra.specs.Field.{Ops}
+use Rattle.algebra.specs.Sum.{pow}
+use Rattle.algebra.specs.Points.{trayPoint, point}
+use Rattle.algebra.specs.Layers.{digit}
+use Rattle.algebra.specs.Cabinet.{layerPoint}
+use Rattle.algebra.proofs.Pow.{pow-mul}
+use Rattle.algebra.proofs.Points.{exponent}
+use Rattle.algebra.proofs.Layers.{digit-below}
+use Rattle.symbol.specs.Arithmetic.{zpow, _⊗_}
+use Rattle.symbol.specs.Elem.{elem, ops, z, gf256}
+use Rattle.symbol.proofs.Elem.{laws, elem-zpow, elem-⊗}
+use Rattle.layout.specs.declared.Layout.{Layout}
+use Rattle.layout.specs.Layout.{trays, digits, layers, Admissible}
+use Rattle.layout.proofs.Facts.{bounds, rack-in}
+use Rattle.codeword.specs.Codeword.{shapeOf, symbolAt, pointAt}
+use Rattle.codeword.specs.Inner.{exponentAt}
+use Rattle.codeword.proofs.Usable.{usable}
+
+-- the point by its exponent
+point-is : (l : Layout) (x j : ℕ) → pointAt gf256 l j x ≡ pow ops z (exponentAt l x j)
+unfolding pointAt exponentAt layerPoint trayPoint point
+point-is l x j = refl
+
+pub point-power-is : (l : Layout) (x j t : ℕ) → elem (zpow (exponentAt l x j * t)) ≡ pow ops (pointAt gf256 l j x) t
+point-power-is l x j t =
+    elem-zpow (exponentAt l x j * t) ∙ pow-mul ops laws z (exponentAt l x j) t ∙ ap (λ p. pow ops p t) (sym (point-is l x j))
+
+-- a tray's part in a check
+pub term-is : (l : Layout) (c : List ℕ) (total x j t p at r : ℕ) → elem p ≡ pow ops (pointAt gf256 l j x) t → at ≡ x * total + j → total ≡ layers l → r ≡ p ⊗ getD c at 0 →
+    elem r ≡ ops .mul (pow ops (pointAt gf256 l j x) t) (symbolAt gf256 l c x j)
+unfolding symbolAt
+term-is l c total x j t p at r ep ea et er =
+    ap elem er ∙ elem-⊗ p (getD c at 0)
+    ∙ ap₂ (ops .mul) ep (ap (λ i. elem (getD c i 0)) (ea ∙ ap (λ n. x * n + j) et))
+
+module _ (l : Layout) (a : Admissible l) where
+  -- exponents are below the root's order
+  pub exponent-below : (x j : ℕ) → x < trays l → exponentAt l x j < 255
+  unfolding exponentAt
+  exponent-below x j h =
+      exponent (shapeOf gf256 l) (usable l a .fits) (x / l .size) (digit (digits l) j (x / l .size)) (x % l .size)
+      (rack-in l a x h) (digit-below (digits l) (bounds l a .digits-low) j (x / l .size)) (mod-lt x (bounds l a .size-low))
+
+  -- the exponent as the code works it out
+  pub exponent-known : (x j s d : ℕ) → x < trays l → s ≡ digits l → d ≡ digit s j (x / l .size) →
+      (x / l .size * s + d + x % l .size * (255 / l .size) ≡ exponentAt l x j) × (x / l .size * s + d + x % l .size * (255 / l .size) < 255)
+  exponent-known x j s d h es ed = (same, rw same (exponent-below x j h))
+    where
+      same : x / l .size * s + d + x % l .size * (255 / l .size) ≡ exponentAt l x j
+      same = unfold exponentAt in rw (ed, es) refl

@@ -1,0 +1,46 @@
+-- What a test of a codeword answers.
+-- Assumes nothing.
+use mathlib.Core.Path.{_≡_}
+use mathlib.Core.List.{List}
+use Prim.Native.Nat.{ℕ, _*_, _<_}
+use lib.Dec.{eqb}
+use lib.ListN.{length}
+use Rattle.lists.specs.Lists.{unless}
+use Rattle.algebra.specs.Shape.{Field}
+use Rattle.layout.specs.declared.Layout.{Layout}
+use Rattle.layout.specs.declared.Layer.{Layer}
+use Rattle.layout.specs.Layout.{trays, checks, layers, admissible}
+use Rattle.codeword.specs.declared.Tested.{Tested}
+use Rattle.codeword.specs.declared.Tested.the-variants.{Sound, Bad, Refused}
+use Rattle.codeword.specs.Codeword.{checkAt, Codeword}
+
+-- the refusal of a test, given the buffer's length; 0 for none
+unfoldable pub testRefusal : Layout → ℕ → ℕ
+testRefusal l n = unless (admissible l) 1 (unless (eqb n (trays l * layers l)) 2 0)
+
+module _ {A : Type 0} (f : Field A) (l : Layout) (c : List ℕ) where
+  -- layer j is the first with a broken check, and t the least broken there
+  pub record FirstBad (j t : ℕ) : Type 0 where
+    pub layer-in : j < layers l
+    pub check-in : t < checks l
+    pub broken : ¬ (checkAt f l c j t ≡ f .ops .zero)
+    pub earlier-layers : (i : ℕ) → i < j → (v : ℕ) → v < checks l → checkAt f l c i v ≡ f .ops .zero
+    pub earlier-checks : (v : ℕ) → v < t → checkAt f l c j v ≡ f .ops .zero
+
+  -- the contract of the test
+  abbrev pub TestAnswer : Tested → Type 0
+  TestAnswer Sound = (testRefusal l (length c) ≡ 0) × Codeword f l c
+  TestAnswer (Bad j t) = (testRefusal l (length c) ≡ 0) × FirstBad (j .0) t
+  TestAnswer (Refused e) = (e ≡ testRefusal l (length c)) × (0 < e)
+
+-- document 01's numbers for each answer: the refusal (0 for none), the verdict (1 sound, 2 bad), the layer and the check
+pub record Numbers : Type 0 where
+  pub refusal : ℕ
+  pub verdict : ℕ
+  pub layer : ℕ
+  pub check : ℕ
+
+abbrev pub numbersOf : Tested → Numbers
+numbersOf Sound = record { refusal = 0; verdict = 1; layer = 0; check = 0 }
+numbersOf (Bad j t) = record { refusal = 0; verdict = 2; layer = j .0; check = t }
+numbersOf (Refused e) = record { refusal = e; verdict = 0; layer = 0; check = 0 }

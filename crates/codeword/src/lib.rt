@@ -1,0 +1,113 @@
+// Codewords of document 01 in a buffer, and testing one. Promises that a test answers sound exactly when the buffer is a codeword, and else the first bad
+// layer with the least check broken there; a layout or length that does not fit is refused, for every layout and buffer.
+use layout::Layout;
+use layout::Layer;
+use symbol::Symbol;
+ghost use mathlib.Core.Path.{_≡_};
+ghost use Prim.Native.Nat.{_+_, _*_, _<_, _≤_};
+ghost use lib.ListN.{length};
+ghost use Rattle.algebra.specs.Field.{Ops};
+ghost use Rattle.algebra.specs.Sum.{pow};
+ghost use Rattle.symbol.specs.Elem.{elem, ops, gf256};
+ghost use Rattle.layout.specs.Layout.{trays, layers, trayLimit, layerLimit, Admissible};
+ghost use Rattle.codeword.specs.Codeword.{pointAt, symbolAt, checkAt};
+ghost use Rattle.codeword.specs.Test.{TestAnswer};
+ghost use Rattle.codeword.specs.Inner.{exponentAt, Placed, Scannable, Scanned};
+
+// What a test of a codeword answers.
+pub enum Tested {
+    Sound,
+    Bad { layer: Layer, check: u32 },
+    Refused(u8),
+}
+
+// The exponent of the point of tray x in layer j.
+fn exponent(l: Layout, x: u32, j: u32) -> u32
+    requires { ⌜ Admissible l × (x < trays l) ⌝ }
+    ensures { λ r. ⌜ (r ≡ exponentAt l x j) × (r < 255) ⌝ }
+{
+    let u = l.size;
+    let s = layout::digit_count(l);
+    let i = x / u;
+    i * s + layout::digit_at(s, j, i) + x % u * (255 / u)
+}
+
+// The point of tray x in layer j, to the power t.
+pub fn point_power(l: Layout, x: u32, j: u32, t: u32) -> Symbol
+    requires { ⌜ Admissible l × (x < trays l) × (t ≤ trayLimit) ⌝ }
+    ensures { λ r. ⌜ elem (r .0) ≡ pow ops (pointAt gf256 l j x) t ⌝ }
+{
+    Symbol::root_power(exponent(l, x, j) as usize * t as usize)
+}
+
+// Where symbol j of tray x stands, in trays of so many layers.
+pub fn cell(total: u32, x: u32, j: u32) -> usize
+    requires { ⌜ (total ≤ layerLimit) × (x < trayLimit) × (j < total) ⌝ }
+    ensures { λ r. ⌜ r ≡ x * total + j ⌝ }
+{
+    x as usize * total as usize + j as usize
+}
+
+// Tray x's part in check t of layer j.
+fn check_term(l: Layout, total: u32, c: &[u8], x: u32, j: u32, t: u32) -> Symbol
+    requires { ⌜ Placed l total (now c) j t × (x < trays l) ⌝ }
+    ensures { λ r. ⌜ elem (r .0) ≡ ops .mul (pow ops (pointAt gf256 l j x) t) (symbolAt gf256 l (now (c .entry)) x j) ⌝ }
+{
+    let at = cell(total, x, j);
+    point_power(l, x, j, t).mul(Symbol(c[at]))
+}
+
+// The sum of check t in layer j.
+pub fn check_sum(l: Layout, total: u32, c: &[u8], j: u32, t: u32) -> Symbol
+    requires { ⌜ Placed l total (now c) j t ⌝ }
+    ensures { λ r. ⌜ elem (r .0) ≡ checkAt gf256 l (now (c .entry)) j t ⌝ }
+{
+    let n = layout::tray_count(l);
+    let mut sum = Symbol(0);
+    let mut x = 0u32;
+    while x < n {
+        sum = sum.add(check_term(l, total, c, x, j, t));
+        x += 1;
+    }
+    sum
+}
+
+// The first layer with a broken check and the least check broken there, in a buffer of the right length.
+fn scan(l: Layout, total: u32, c: &[u8]) -> Tested
+    requires { ⌜ Scannable l total (now c) ⌝ }
+    ensures { λ r. ⌜ Scanned gf256 l (now (c .entry)) r ⌝ }
+{
+    let r = layout::check_count(l);
+    let mut j = 0u32;
+    let mut t = 0u32;
+    'layers: while j < total {
+        t = 0;
+        while t < r {
+            let sum = check_sum(l, total, c, j, t);
+            if sum.0 != 0 {
+                break 'layers;
+            }
+            t += 1;
+        }
+        j += 1;
+    }
+    if j < total {
+        Tested::Bad { layer: Layer::of(j), check: t }
+    } else {
+        Tested::Sound
+    }
+}
+
+// Tests a whole codeword.
+pub fn test(l: Layout, c: &[u8]) -> Tested
+    ensures { λ r. ⌜ TestAnswer gf256 l (now (c .entry)) r ⌝ }
+{
+    if !layout::admitted(l) {
+        return Tested::Refused(1);
+    }
+    let total = layout::layer_count(l);
+    if c.len() != layout::tray_count(l) as usize * total as usize {
+        return Tested::Refused(2);
+    }
+    scan(l, total, c)
+}
