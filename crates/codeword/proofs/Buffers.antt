@@ -42,7 +42,7 @@ module _ {A : Type 0} (f : Field A) (l : Layout) where
     unfolding symbolAt
     buffers-same c d ec ed sc sd same =
         ext-getD 0 c d (ec ∙ sym ed) (λ i h.
-          let inside : i < trays l * layers l = subst (λ n. i < n) ec h in
-          let e = same (i / layers l) (i % layers l) (div-lt-iff-lt-mul layers-pos .1 inside) (mod-lt i layers-pos) in
-          elem-same (f .coding) (ok .field .coded) _ _ (sc .at i h) (sd .at i (subst (λ n. i < n) (ec ∙ sym ed) h))
-          (subst (λ k. f .coding .elem (getD c k 0) ≡ f .coding .elem (getD d k 0)) (div-add-mod' i (layers l)) e))
+        let inside : i < trays l * layers l = subst (λ n. i < n) ec h in
+        let e = same (i / layers l) (i % layers l) (div-lt-iff-lt-mul layers-pos .1 inside) (mod-lt i layers-pos) in
+        elem-same (f .coding) (ok .field .coded) _ _ (sc .at i h) (sd .at i (subst (λ n. i < n) (ec ∙ sym ed) h))
+        (subst (λ k. f .coding .elem (getD c k 0) ≡ f .coding .elem (getD d k 0)) (div-add-mod' i (layers l)) e))

@@ -1,7 +1,7 @@
 // Codewords of document 01 in a buffer, and testing one. Promises that a test answers sound exactly when the buffer is a codeword, and else the first bad
 // layer with the least check broken there; a layout or length that does not fit is refused, for every layout and buffer.
-use layout::Layout;
 use layout::Layer;
+use layout::Layout;
 use symbol::Symbol;
 ghost use mathlib.Core.Path.{_≡_};
 ghost use Prim.Native.Nat.{_+_, _*_, _<_, _≤_};
@@ -92,7 +92,10 @@ fn scan(l: Layout, total: u32, c: &[u8]) -> Tested
         j += 1;
     }
     if j < total {
-        Tested::Bad { layer: Layer::of(j), check: t }
+        Tested::Bad {
+            layer: Layer::of(j),
+            check: t,
+        }
     } else {
         Tested::Sound
     }

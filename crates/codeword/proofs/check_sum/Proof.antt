@@ -37,9 +37,10 @@ loop-less : tie.Need-loop-less Inv-loop μ-loop
 loop-less c = omega arith
 
 loop-again : tie.Need-loop-again Inv-loop μ-loop
-loop-again c =
-    (omega arith,
-     sum-turn ops _ _ (ap elem (c .add .ensures) ∙ elem-⊕ _ _) (c .before .before .before .loop .inv .1) (c .before .check-term .ensures))
+loop-again c = (
+  omega arith,
+  sum-turn ops _ _ (ap elem (c .add .ensures) ∙ elem-⊕ _ _) (c .before .before .before .loop .inv .1) (c .before .check-term .ensures),
+)
 
 returns : tie.Need-returns Inv-loop μ-loop
 unfolding checkAt check

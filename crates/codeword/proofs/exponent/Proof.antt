@@ -27,9 +27,10 @@ mul-result : tie.Need-mul-result
 mul-result c = record { fits = mul-below trayLimit trayLimit (rack-high c) (base-high c) tt }
 
 digit-at-requires : tie.Need-digit-at-requires
-digit-at-requires c κs =
-    (omega (arith, bounds _ (c .before .pre .0)),
-     rw (c .digit-count .ensures) (power-in _ (c .before .pre .0) _ (le-of-lt (rack-in _ (c .before .pre .0) _ (c .before .pre .1)))))
+digit-at-requires c κs = (
+  omega (arith, bounds _ (c .before .pre .0)),
+  rw (c .digit-count .ensures) (power-in _ (c .before .pre .0) _ (le-of-lt (rack-in _ (c .before .pre .0) _ (c .before .pre .1)))),
+)
 
 -- the three summands
 parts : (c : tie.After-digit-at) →
@@ -40,10 +41,11 @@ parts c =
     let a = c .before .before .args in
     let adm = c .before .before .pre .0 in
     let b = bounds (a .l) adm in
-    let s-low : 0 < c .before .digit-count .result = omega arith in
-    (mul-le-mul (rack-high (c .before)) (base-high (c .before)),
-     omega (arith, digit-below (c .before .digit-count .result) s-low (a .j) (a .x / a .l .size), base-high (c .before)),
-     le-trans (mul-le-mul (le-of-lt (mod-lt (a .x) (b .size-low))) (le-refl _)) (mul-div-le 255 (a .l .size)))
+    let s-low : 0 < c .before .digit-count .result = omega arith in (
+      mul-le-mul (rack-high (c .before)) (base-high (c .before)),
+      omega (arith, digit-below (c .before .digit-count .result) s-low (a .j) (a .x / a .l .size), base-high (c .before)),
+      le-trans (mul-le-mul (le-of-lt (mod-lt (a .x) (b .size-low))) (le-refl _)) (mul-div-le 255 (a .l .size)),
+    )
 
 add-result : tie.Need-add-result
 add-result c = omega (arith, parts c)

@@ -42,7 +42,8 @@ check-sum-requires c κs =
       total-is = p .total-is;
       long = p .long;
       layer-in = omega arith;
-      check-in = omega arith }
+      check-in = omega arith;
+    }
 
 add-t : tie.Need-add-t Inv-loop μ-loop Inv-layers μ-layers
 add-t c = omega arith
@@ -51,9 +52,10 @@ loop-less : tie.Need-loop-less Inv-loop μ-loop Inv-layers μ-layers
 loop-less c = omega arith
 
 loop-again : tie.Need-loop-again Inv-loop μ-loop Inv-layers μ-layers
-loop-again c =
-    (omega arith,
-     below-more _ _ (c .before .before .before .before .loop .inv .1) (sym (c .before .before .check-sum .ensures) ∙ ap elem (c .if1 .left) ∙ elem-zero))
+loop-again c = (
+  omega arith,
+  below-more _ _ (c .before .before .before .before .loop .inv .1) (sym (c .before .before .check-sum .ensures) ∙ ap elem (c .if1 .left) ∙ elem-zero),
+)
 
 add-j : tie.Need-add-j Inv-loop μ-loop Inv-layers μ-layers
 add-j c = omega arith
@@ -62,9 +64,10 @@ layers-less : tie.Need-layers-less Inv-loop μ-loop Inv-layers μ-layers
 layers-less c = omega arith
 
 layers-again : tie.Need-layers-again Inv-loop μ-loop Inv-layers μ-layers
-layers-again c =
-    (omega arith,
-     below-more _ _ (c .before .before .before .layers .inv .1) (λ v h. c .before .loop .inv .1 v (omega arith)))
+layers-again c = (
+  omega arith,
+  below-more _ _ (c .before .before .before .layers .inv .1) (λ v h. c .before .loop .inv .1 v (omega arith)),
+)
 
 returns : tie.Need-returns Inv-loop μ-loop Inv-layers μ-layers
 returns c =
@@ -75,7 +78,8 @@ returns c =
       check-in = omega arith;
       broken = λ e. w .5 .taken (elem-nil (omega arith) (w .3 .ensures ∙ e));
       earlier-layers = c .before .before .before .layers .inv .1;
-      earlier-checks = w .1 .inv .1 }))
+      earlier-checks = w .1 .inv .1;
+    }))
     (c .before .before .layers-test .came)
 
 returns-2 : tie.Need-returns-2 Inv-loop μ-loop Inv-layers μ-layers

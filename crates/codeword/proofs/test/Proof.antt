@@ -36,7 +36,6 @@ bytes c = record { at = λ i h. omega (arith, c .before .before .shared-slice-kn
 long : (c : tie.Else2) → length (c .before .before .before .before .before .before .args .c .now) ≡ trays (c .before .before .before .before .before .before .args .l) * layers (c .before .before .before .before .before .before .args .l)
 long c = c .if2 .left ∙ ap₂ _*_ (c .before .tray-count .ensures) (c .before .before .layer-count .ensures)
 
-
 layer-count-requires : tie.Need-layer-count-requires
 layer-count-requires c κs = facts c
 
