@@ -1,4 +1,3 @@
-use Prim.Native.Nat.{_*_, _<_}
 use native.Mathlib.Omega.{arith}
 use Rattle.lists.proofs.Numbers.{mul-below}
 use borrow.Author.Needs.{needs}
@@ -6,14 +5,8 @@ use Rattle.layout.specs.Layout.{trayLimit, layerLimit}
 use Rattle.codeword.proofs.cell.Statement.{statement}
 use Rattle.codeword.proofs.cell.Tie as tie
 
-mul-result : tie.Need-mul-result
-mul-result c = record { fits = mul-below trayLimit layerLimit (omega arith) (omega arith) tt }
-
-add-result : tie.Need-add-result
-add-result c = omega (arith, mul-below {a = c .args .x} {b = c .args .total} trayLimit layerLimit {z = 65536} (omega arith) (omega arith) tt)
-
-returns : tie.Need-returns
-returns c = search needs
-
 pub cell-spec : {M : Type 1} → statement M
-cell-spec = tie.close (tie.spec mul-result add-result returns)
+cell-spec = tie.close (tie.spec
+    (λ c. record { fits = mul-below trayLimit layerLimit (omega arith) (omega arith) tt })
+    (λ c. omega (arith, mul-below {a = c .args .x} {b = c .args .total} trayLimit layerLimit {z = 65536} (omega arith) (omega arith) tt))
+    (λ c. search needs))

@@ -1,5 +1,5 @@
-use mathlib.Core.Path.{_≡_, refl, sym, ap, _∙_}
-use Prim.Native.Nat.{ℕ, _*_, _<_}
+use mathlib.Core.Path.{sym, ap, _∙_}
+use Prim.Native.Nat.{_*_}
 use native.Mathlib.Omega.{arith}
 use Rattle.layout.specs.Layout.{trays}
 use Rattle.lists.proofs.Numbers.{read-in}
@@ -8,28 +8,17 @@ use borrow.Author.Needs.{needs}
 use Rattle.codeword.proofs.check_term.Statement.{statement}
 use Rattle.codeword.proofs.check_term.Tie as tie
 
-cell-requires : tie.Need-cell-requires
-cell-requires c κs = search needs
-
-point-power-requires : tie.Need-point-power-requires
-point-power-requires c κs = search needs
-
-shared-slice-read-t10 : tie.Need-shared-slice-read-t10
-shared-slice-read-t10 c =
+pub check-term-spec : {M : Type 1} → statement M
+check-term-spec =
+    tie.close (tie.spec
+    (λ c κs. search needs)
+    (λ c κs. search needs)
+    (λ c.
     let a = c .before .before .before .before .args in
     let p = c .before .before .before .before .pre in
     read-in (a .c .now) (trays (a .l)) (a .total) (a .x) (a .j) _ (c .before .before .cell .ensures)
-    (p .0 .long ∙ ap (λ n. trays (a .l) * n) (sym (p .0 .total-is))) (p .1) (omega arith)
-
-mul-requires : tie.Need-mul-requires
-mul-requires c κs = search needs
-
-returns : tie.Need-returns
-returns c =
+    (p .0 .long ∙ ap (λ n. trays (a .l) * n) (sym (p .0 .total-is))) (p .1) (omega arith))
+    (λ c κs. search needs)
+    (λ c.
     let a = c .before .before .before .before .before .args in
-    term-is (a .l) (a .c .now) (a .total) (a .x) (a .j) (a .t) _ _ _ (c .before .before .point-power .ensures) (c .before .before .before .cell .ensures) (omega arith) (c .mul .ensures)
-
-pub check-term-spec : {M : Type 1} → statement M
-check-term-spec =
-    tie.close
-    (tie.spec cell-requires point-power-requires shared-slice-read-t10 mul-requires returns)
+    term-is (a .l) (a .c .now) (a .total) (a .x) (a .j) (a .t) _ _ _ (c .before .before .point-power .ensures) (c .before .before .before .cell .ensures) (omega arith) (c .mul .ensures)))

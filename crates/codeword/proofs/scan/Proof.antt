@@ -1,11 +1,10 @@
-use mathlib.Core.Path.{_≡_, refl, sym, ap, _∙_}
-use Prim.Native.Nat.{ℕ, _+_, _-_, _<_, _≤_}
+use mathlib.Core.Path.{_≡_, sym, ap, _∙_}
+use Prim.Native.Nat.{ℕ, _-_, _<_, _≤_}
 use mathlib.Core.Logic.{⊎-elim}
 use native.Mathlib.Omega.{arith}
 use native.Mathlib.Nat.{not-suc-le-zero}
 use borrow.Author.Count.{below-more}
 use Rattle.layout.specs.Layout.{layers, checks}
-use Rattle.layout.proofs.Facts.{bounds}
 use Rattle.algebra.specs.Field.{Ops}
 use Rattle.symbol.specs.Elem.{elem, ops, gf256}
 use Rattle.symbol.proofs.Elem.{elem-zero, elem-nil}
@@ -25,17 +24,13 @@ Inv-layers l total c r j₀ t₀ j t = (j ≤ layers l) × ((i : ℕ) → i < j 
 abbrev μ-layers : tie.MeasureT-layers
 μ-layers l total c r j₀ t₀ j t = layers l - j
 
-check-count-requires : tie.Need-check-count-requires Inv-loop μ-loop Inv-layers μ-layers
-check-count-requires c κs = c .before .pre .adm
-
-layers-holds : tie.Need-layers-holds Inv-loop μ-loop Inv-layers μ-layers
-layers-holds c = (omega arith, λ i h. absurd (not-suc-le-zero h))
-
-loop-holds : tie.Need-loop-holds Inv-loop μ-loop Inv-layers μ-layers
-loop-holds c = (omega arith, λ v h. absurd (not-suc-le-zero h))
-
-check-sum-requires : tie.Need-check-sum-requires Inv-loop μ-loop Inv-layers μ-layers
-check-sum-requires c κs =
+pub scan-spec : {M : Type 1} → statement M
+scan-spec =
+    tie.close (tie.spec Inv-loop μ-loop Inv-layers μ-layers
+    (λ c κs. c .before .pre .adm)
+    (λ c. (omega arith, λ i h. absurd (not-suc-le-zero h)))
+    (λ c. (omega arith, λ v h. absurd (not-suc-le-zero h)))
+    (λ c κs.
     let p = c .before .before .before .before .before .before .pre in
     record {
       adm = p .adm;
@@ -43,34 +38,21 @@ check-sum-requires c κs =
       long = p .long;
       layer-in = omega arith;
       check-in = omega arith;
-    }
-
-add-t : tie.Need-add-t Inv-loop μ-loop Inv-layers μ-layers
-add-t c = omega arith
-
-loop-less : tie.Need-loop-less Inv-loop μ-loop Inv-layers μ-layers
-loop-less c = omega arith
-
-loop-again : tie.Need-loop-again Inv-loop μ-loop Inv-layers μ-layers
-loop-again c = (
-  omega arith,
-  below-more _ _ (c .before .before .before .before .loop .inv .1) (sym (c .before .before .check-sum .ensures) ∙ ap elem (c .if1 .left) ∙ elem-zero),
-)
-
-add-j : tie.Need-add-j Inv-loop μ-loop Inv-layers μ-layers
-add-j c = omega arith
-
-layers-less : tie.Need-layers-less Inv-loop μ-loop Inv-layers μ-layers
-layers-less c = omega arith
-
-layers-again : tie.Need-layers-again Inv-loop μ-loop Inv-layers μ-layers
-layers-again c = (
-  omega arith,
-  below-more _ _ (c .before .before .before .layers .inv .1) (λ v h. c .before .loop .inv .1 v (omega arith)),
-)
-
-returns : tie.Need-returns Inv-loop μ-loop Inv-layers μ-layers
-returns c =
+    })
+    (λ c. omega arith)
+    (λ c. omega arith)
+    (λ c. (
+      omega arith,
+      below-more _ _ (c .before .before .before .before .loop .inv .1) (sym (c .before .before .check-sum .ensures) ∙ ap elem (c .if1 .left) ∙ elem-zero),
+    ))
+    (λ c. omega arith)
+    (λ c. omega arith)
+    (λ c. (
+      omega arith,
+      below-more _ _ (c .before .before .before .layers .inv .1) (λ v h. c .before .loop .inv .1 v (omega arith)),
+    ))
+    (λ c κs. tt)
+    (λ c.
     ⊎-elim
     (λ w. absurd (let h = w .0 .left in omega arith))
     (λ w. rw (c .of .ensures, w .6) (record {
@@ -80,29 +62,5 @@ returns c =
       earlier-layers = c .before .before .before .layers .inv .1;
       earlier-checks = w .1 .inv .1;
     }))
-    (c .before .before .layers-test .came)
-
-returns-2 : tie.Need-returns-2 Inv-loop μ-loop Inv-layers μ-layers
-returns-2 c i hi v hv = c .before .before .layers .inv .1 i (omega arith) v hv
-
-pub scan-spec : {M : Type 1} → statement M
-scan-spec =
-    tie.close
-    (tie.spec
-    Inv-loop
-    μ-loop
-    Inv-layers
-    μ-layers
-    check-count-requires
-    layers-holds
-    loop-holds
-    check-sum-requires
-    add-t
-    loop-less
-    loop-again
-    add-j
-    layers-less
-    layers-again
-    (λ c κs. tt)
-    returns
-    returns-2)
+    (c .before .before .layers-test .came))
+    (λ c i hi v hv. c .before .before .layers .inv .1 i (omega arith) v hv))

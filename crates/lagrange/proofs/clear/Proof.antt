@@ -1,6 +1,6 @@
 use mathlib.Core.Path.{_≡_, refl, ap, _∙_}
 use mathlib.Core.List.{_++_, append-nil}
-use Prim.Native.Nat.{ℕ, _+_, _-_, _<_, _≤_}
+use Prim.Native.Nat.{_+_, _-_, _≤_}
 use native.Mathlib.Omega.{arith}
 use lib.ListN.{length, drop, replicate, set, length-set}
 use lib.Seq.{drop-length}
@@ -13,12 +13,6 @@ Inv-loop out₀ i₀ out i = (i ≤ length out₀) × (length out ≡ length out
 
 abbrev μ-loop : tie.MeasureT-loop
 μ-loop out₀ i₀ out i = length out₀ - i
-
-returns : tie.Need-returns Inv-loop μ-loop
-returns c =
-    let out₀ = c .before .before .args .out .now in
-    let e : c .before .loop .i ≡ length out₀ = omega arith in
-    c .before .loop .inv .2 ∙ rw (e, drop-length) (append-nil _)
 
 pub clear-spec : {M : Type 1} → statement M
 clear-spec =
@@ -33,4 +27,7 @@ clear-spec =
       ap (λ o. set o (c .before .loop .i) 0) (c .before .loop .inv .2) ∙ fill-more (c .before .loop .i) 0 (c .before .before .args .out .now) (omega arith),
     ))
     (λ c. c .before .loop .inv .1)
-    returns)
+    (λ c.
+    let out₀ = c .before .before .args .out .now in
+    let e : c .before .loop .i ≡ length out₀ = omega arith in
+    c .before .loop .inv .2 ∙ rw (e, drop-length) (append-nil _)))

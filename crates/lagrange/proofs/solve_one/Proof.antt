@@ -1,13 +1,7 @@
-use mathlib.Core.Path.{_∙_}
 use borrow.Author.Needs.{needs}
 use Rattle.lagrange.proofs.Steps.{solved-is}
 use Rattle.lagrange.proofs.solve_one.Statement.{statement}
 use Rattle.lagrange.proofs.solve_one.Tie as tie
-
-returns : tie.Need-returns
-returns c =
-    let s = c .before .before .before .before .before .before .before .before .before in
-    solved-is (s .args .points .now) (s .args .b .now) _ (s .args .k) (s .pre .0 .sides) (search needs) (c .before .before .before .before .coefficients .ensures) (c .dot .ensures)
 
 pub solve-one-spec : {M : Type 1} → statement M
 solve-one-spec =
@@ -15,4 +9,6 @@ solve-one-spec =
     (λ c κs. search needs)
     (λ c κs. search needs)
     (λ c. search needs)
-    returns)
+    (λ c.
+    let s = c .before .before .before .before .before .before .before .before .before in
+    solved-is (s .args .points .now) (s .args .b .now) _ (s .args .k) (s .pre .0 .sides) (search needs) (c .before .before .before .before .coefficients .ensures) (c .dot .ensures)))

@@ -1,4 +1,3 @@
-use mathlib.Core.Path.{_≡_, refl}
 use mathlib.Core.Logic.{⊎-elim, inl, inr}
 use borrow.Author.Tests.{ne-eqb}
 use Rattle.layout.specs.Layout.{sizeAllowed}
@@ -23,4 +22,6 @@ returns-2 c =
     )
 
 pub size-allowed-spec : {M : Type 1} → statement M
-size-allowed-spec = tie.close (tie.spec returns returns-2)
+size-allowed-spec = tie.close (tie.spec
+    returns
+    returns-2)

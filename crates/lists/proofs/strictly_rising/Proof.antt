@@ -1,7 +1,6 @@
-use mathlib.Core.Path.{_≡_}
-use Prim.Native.Nat.{ℕ, _+_, _-_, _<_, _≤_}
+use Prim.Native.Nat.{_-_, _≤_}
 use native.Mathlib.Omega.{arith}
-use lib.ListN.{length, getD}
+use lib.ListN.{length}
 use borrow.Author.Needs.{needs}
 use Rattle.lists.proofs.Numbered.{RisingTo, rising-false, rising-true, rising-none, rising-more}
 use Rattle.lists.proofs.strictly_rising.Statement.{statement}

@@ -10,4 +10,5 @@ unfolding _⊕_
 returns c = search needs
 
 pub add-spec : {M : Type 1} → statement M
-add-spec = tie.close (tie.spec returns)
+add-spec = tie.close (tie.spec
+    returns)

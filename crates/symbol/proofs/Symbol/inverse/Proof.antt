@@ -1,4 +1,3 @@
-use native.Mathlib.Omega.{arith}
 use borrow.Author.Needs.{needs}
 use Rattle.symbol.proofs.Elem.{inverse-zero, inverse-log}
 use Rattle.symbol.proofs.Symbol.inverse.Statement.{statement}

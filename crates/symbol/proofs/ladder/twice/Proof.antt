@@ -4,4 +4,7 @@ use Rattle.symbol.proofs.ladder.twice.Statement.{statement}
 use Rattle.symbol.proofs.ladder.twice.Tie as tie
 
 pub twice-spec : {M : Type 1} → statement M
-twice-spec = tie.close (tie.spec (λ c κs. search needs) (λ c. search needs) (λ c. search twice-is))
+twice-spec = tie.close (tie.spec
+    (λ c κs. search needs)
+    (λ c. search needs)
+    (λ c. search twice-is))
