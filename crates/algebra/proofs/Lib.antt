@@ -1,6 +1,5 @@
 pub mod Equal
 pub mod Ring
-mod RingExamples
 pub mod Coding
 pub mod Sum
 pub mod Pow

@@ -1,0 +1,26 @@
+-- The numbers that cross to C: for each answer those that document 01 gives it.
+-- Assumes nothing.
+use mathlib.Core.Path.{_≡_}
+use mathlib.Core.List.{List}
+use Prim.Native.Nat.{ℕ}
+use Rattle.symbol.specs.Elem.{gf256}
+use Rattle.layout.specs.declared.Layout.{Layout}
+use Rattle.layout.specs.declared.Measured.{Measured}
+use Rattle.layout.specs.Layout.{numbersOf}
+use Rattle.codeword.specs.declared.Tested.{Tested}
+use Rattle.codeword.specs.Test.{TestAnswer, numbersOf as tested}
+use Rattle.gesarumbo.specs.declared.MeasureNumbers.{MeasureNumbers}
+use Rattle.gesarumbo.specs.declared.TestNumbers.{TestNumbers}
+
+abbrev pub measureNumbers : Measured → MeasureNumbers
+measureNumbers a =
+    record { refusal = numbersOf a .refusal; layers = numbersOf a .layers; checks = numbersOf a .checks; traffic = numbersOf a .traffic }
+
+abbrev pub testNumbers : Tested → TestNumbers
+testNumbers a = record { refusal = tested a .refusal; verdict = tested a .verdict; layer = tested a .layer; check = tested a .check }
+
+-- the numbers are those of an answer that the test's contract allows
+pub record TestShown (l : Layout) (c : List ℕ) (r : TestNumbers) : Type 0 where
+  pub answer : Tested
+  pub right : TestAnswer gf256 l c answer
+  pub shown : r ≡ testNumbers answer
