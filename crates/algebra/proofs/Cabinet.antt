@@ -34,11 +34,11 @@ digits-are s h p b pos l = fun-ext (λ i. go i (ℕ-discrete i h))
     go i (yes e) = ap (digitsAt h (digit s (layerOf s h p 0)) b) e ∙ digits-host h (digit s (layerOf s h p 0)) b ∙ sym (layer-digit s pos h p b l) ∙ ap (digit s (layerOf s h p b)) (sym e)
     go i (no e) = digits-other h (digit s (layerOf s h p 0)) b i e ∙ layer-other s pos h p 0 b i pos l e
 
-choose-same : {A : Type 0} (m n : ℕ) (x y : A) → m ≡ n → choose (eqb m n) x y ≡ x
+pub choose-same : {A : Type 0} (m n : ℕ) (x y : A) → m ≡ n → choose (eqb m n) x y ≡ x
 unfolding choose
 choose-same m n x y e = ap (λ b. choose b x y) (ap (λ k. eqb k n) e ∙ eqb-same n)
 
-choose-other : {A : Type 0} (m n : ℕ) (x y : A) → ¬ (m ≡ n) → choose (eqb m n) x y ≡ y
+pub choose-other : {A : Type 0} (m n : ℕ) (x y : A) → ¬ (m ≡ n) → choose (eqb m n) x y ≡ y
 unfolding choose
 choose-other m n x y d = ap (λ b. choose b x y) (eqb-other d)
 

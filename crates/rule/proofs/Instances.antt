@@ -1,0 +1,27 @@
+-- The theorems of the rule for document 01's field and every admissible layout.
+-- Assumes nothing.
+use mathlib.Core.Path.{_≡_}
+use mathlib.Core.List.{List}
+use Prim.Native.Nat.{ℕ, _<_}
+use lib.ListN.{getD}
+use Rattle.algebra.specs.Sum.{sum}
+use Rattle.symbol.specs.Elem.{ops, gf256}
+use Rattle.symbol.proofs.Elem.{gf256-laws}
+use Rattle.layout.specs.declared.Layout.{Layout}
+use Rattle.layout.specs.Layout.{layers, groups, Admissible}
+use Rattle.codeword.proofs.Usable.{usable}
+use Rattle.rule.specs.Rule.{trayPart, groupAt, Helpers, rackSymbol, weightedSum, Ruled, One, Of}
+use Rattle.rule.proofs.Racks.{plain-sum}
+use Rattle.rule.proofs.Rule.{rule-one}
+use Rattle.rule.proofs.Exact.{rule-exact}
+
+pub plain-sum-256 : (l : Layout) (rack : List ℕ) (j : ℕ) → weightedSum gf256 l 0 rack j ≡ sum ops (l .size) (λ g. rackSymbol gf256 l rack g j)
+plain-sum-256 l = plain-sum gf256 l gf256-laws
+
+module _ (l : Layout) (a : Admissible l) (x : ℕ) (helpers : List ℕ) (help : Helpers l x helpers) (shares host : List ℕ) where
+  pub rule-one-256 : One gf256 l x helpers shares host
+  rule-one-256 = rule-one gf256 l (usable l a) x helpers help shares host
+
+  pub rule-exact-256 : (c : List ℕ) → Of gf256 l x helpers shares host c → (p : ℕ) → p < groups l → (spare : List ℕ) → Ruled gf256 l x helpers shares host p spare →
+      (j : ℕ) → j < layers l → groupAt l x j ≡ p → getD spare j 0 ≡ getD (trayPart l c x) j 0
+  rule-exact-256 = rule-exact gf256 l (usable l a) x helpers help shares host

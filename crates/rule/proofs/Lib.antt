@@ -1,0 +1,4 @@
+pub mod Racks
+pub mod Rule
+pub mod Exact
+pub mod Instances
