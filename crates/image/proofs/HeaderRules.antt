@@ -1,0 +1,117 @@
+-- An image is well formed exactly when it keeps document 01's rules one by one: that the header is the one of what the image says of itself holds
+-- nothing more and nothing less.
+-- Assumes nothing.
+use mathlib.Core.Path.{_≡_, refl, sym, ap, subst, _∙_}
+use mathlib.Core.Bool.{Bool, true, false, _&&_}
+use mathlib.Core.List.{List, [], _∷_, _++_}
+use mathlib.Core.Logic.{_↔_}
+use Prim.Native.Nat.{ℕ, zero, suc, _+_, _*_, _/_, _%_, _^_, _<_}
+use native.Mathlib.Omega.{arith}
+use lib.Dec.{eqb, lit<}
+use lib.ListN.{length, getD, drop}
+use borrow.Author.Tests.{eq-eqb}
+use Rattle.lists.specs.Lists.{all}
+use Rattle.layout.specs.declared.Layout.{Layout}
+use Rattle.layout.specs.Layout.{layers, layerLimit}
+use Rattle.layout.proofs.Facts.{admissible-facts, facts-admissible}
+use Rattle.image.specs.Image.{headerLength, edition, little, numberAt, header, ownLayout, ownState, ownTray, ownVolume, begins, wellFormed}
+use Rattle.image.specs.Rules.{Rules}
+use Rattle.image.proofs.Bytes.{header-length, begins-split}
+use Rattle.image.proofs.Ranges.{InRange}
+use Rattle.image.proofs.Forms.{WellFormed, formed-facts, facts-formed}
+use Rattle.image.proofs.Written.{four-bytes}
+
+-- so many bytes of a list from a place on
+abbrev window : ℕ → ℕ → List ℕ → List ℕ
+window at zero s = []
+window at (suc n) s = getD s at 0 ∷ window (suc at) n s
+
+module _ (s : List ℕ) (byte : (i : ℕ) → getD s i 0 < 256) where
+  -- the number that bytes hold has these bytes
+  bytes-of : (n at : ℕ) → little n (numberAt at n s) ≡ window at n s
+  unfolding little
+  bytes-of zero at = refl
+  bytes-of (suc n) at =
+      let m = numberAt (suc at) n s in
+      let b = byte at in
+      let p : (getD s at 0 + 256 * m) % 256 ≡ getD s at 0 = omega arith in
+      let q : (getD s at 0 + 256 * m) / 256 ≡ m = omega arith in
+      rw (p, q) (ap (λ (t : List ℕ). getD s at 0 ∷ t) (bytes-of n (suc at)))
+
+  -- an entry of the table, where the list holds its number
+  entry : (n at x : ℕ) → x ≡ numberAt at n s → little n x ≡ window at n s
+  entry n at x e = ap (little n) e ∙ bytes-of n at
+
+  one : (at : ℕ) → getD s at 0 ≡ numberAt at 1 s
+  one at = omega arith
+
+  own-header : Rules s → header (ownLayout s) (ownTray s) (ownState s) (ownVolume s) ≡ window 0 headerLength s
+  unfolding header ownLayout
+  own-header r = λ i.
+      entry 2 0 headerLength (sym (r .length-is)) i
+      ++ entry 1 2 edition (sym (r .edition-is)) i
+      ++ entry 1 3 (ownState s) (one 3) i
+      ++ entry 1 4 (getD s 4 0) (one 4) i
+      ++ entry 1 5 (getD s 5 0) (one 5) i
+      ++ entry 1 6 (getD s 6 0) (one 6) i
+      ++ entry 1 7 (getD s 7 0) (one 7) i
+      ++ entry 1 8 (ownTray s) (one 8) i
+      ++ entry 3 9 0 (sym (r .zero-is)) i
+      ++ entry 4 12 (ownVolume s) refl i
+      ++ entry 4 16 headerLength (sym (r .offset-is)) i
+      ++ entry 4 20 (layers (ownLayout s)) (sym (r .count-is)) i
+
+  same : (x : ℕ) → eqb x x ≡ true
+  same x = eq-eqb x x refl
+
+  begins-window : begins s (window 0 headerLength s) ≡ true
+  unfolding begins all
+  begins-window = simp same
+
+  rules-formed : Rules s → wellFormed s ≡ true
+  rules-formed r =
+      facts-formed s (record {
+        long = r .long;
+        adm = admissible-facts (ownLayout s) (r .layout-ok);
+        whole = r .whole;
+        range = record { tray-in = r .tray-in; state-ok = r .state-ok; volume-ok = r .volume-ok };
+        front = ap (begins s) (own-header r) ∙ begins-window;
+      })
+
+-- the entries that the table fixes, in a list that begins with a header
+record Fixed (s : List ℕ) (total : ℕ) : Type 0 where
+  length-is : numberAt 0 2 s ≡ headerLength
+  edition-is : numberAt 2 1 s ≡ edition
+  zero-is : numberAt 9 3 s ≡ 0
+  offset-is : numberAt 16 4 s ≡ headerLength
+  count-is : numberAt 20 4 s ≡ total
+
+fixed : (l : Layout) (tray state volume : ℕ) (rest : List ℕ) → layers l < 2 ^ 32 → Fixed (header l tray state volume ++ rest) (layers l)
+unfolding header little
+fixed l tray state volume rest h = record { length-is = refl; edition-is = refl; zero-is = refl; offset-is = refl; count-is = four-bytes (layers l) h }
+
+formed-rules : (s : List ℕ) → wellFormed s ≡ true → Rules s
+formed-rules s h =
+    let w = formed-facts s h in
+    let a = w .adm in
+    let own = header (ownLayout s) (ownTray s) (ownState s) (ownVolume s) in
+    let n = header-length (ownLayout s) (ownTray s) (ownState s) (ownVolume s) in
+    let q : layerLimit < 2 ^ 32 = lit< tt in
+    let f = subst (λ t. Fixed t (layers (ownLayout s))) (sym (begins-split s own (omega (arith, n, w .long)) (w .front)))
+    (fixed (ownLayout s) (ownTray s) (ownState s) (ownVolume s) (drop (length own) s) (omega arith)) in
+    record {
+      long = w .long;
+      length-is = f .length-is;
+      edition-is = f .edition-is;
+      state-ok = w .range .state-ok;
+      zero-is = f .zero-is;
+      volume-ok = w .range .volume-ok;
+      offset-is = f .offset-is;
+      count-is = f .count-is;
+      layout-ok = sym (facts-admissible (ownLayout s) a);
+      tray-in = w .range .tray-in;
+      whole = w .whole;
+    }
+
+pub formed-exactly : (s : List ℕ) → ((i : ℕ) → getD s i 0 < 256) → (wellFormed s ≡ true) ↔ Rules s
+formed-exactly s byte = (formed-rules s, rules-formed s byte)

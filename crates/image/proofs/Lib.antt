@@ -1,0 +1,12 @@
+pub mod Bytes
+pub mod Ranges
+pub mod WriteGrounds
+pub mod Copies
+pub mod Forms
+pub mod ReadGrounds
+pub mod Written
+pub mod RoundTrip
+pub mod AcceptedExactly
+pub mod LiveOnly
+pub mod HeaderRules
+pub mod WorkedExample

@@ -1,0 +1,3 @@
+pub mod Refusals
+pub mod Sums
+pub mod Shares

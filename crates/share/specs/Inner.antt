@@ -1,0 +1,30 @@
+-- What inner functions are told. Nothing here has to be believed.
+-- Assumes nothing.
+use mathlib.Core.Path.{_≡_}
+use mathlib.Core.List.{List}
+use Prim.Native.Nat.{ℕ, _*_, _<_}
+use lib.ListN.{length}
+use Rattle.layout.specs.declared.Layout.{Layout}
+use Rattle.layout.specs.Layout.{layers, groups, Admissible}
+
+-- what `rack_sum` is told
+pub record InRack (l : Layout) (total : ℕ) (rack : List ℕ) (j : ℕ) : Type 0 where
+  pub adm : Admissible l
+  pub total-is : total ≡ layers l
+  pub long : length rack ≡ l .size * layers l
+  pub layer-in : j < layers l
+
+-- what `share_symbol` is told
+pub record Summing (l : Layout) (total h : ℕ) (rack : List ℕ) (p : ℕ) : Type 0 where
+  pub adm : Admissible l
+  pub total-is : total ≡ layers l
+  pub long : length rack ≡ l .size * layers l
+  pub host-in : h < l .racks
+  pub group-in : p < groups l
+
+-- what `send` is told
+pub record Sending (l : Layout) (h : ℕ) (rack out : List ℕ) : Type 0 where
+  pub adm : Admissible l
+  pub long : length rack ≡ l .size * layers l
+  pub room : length out ≡ groups l
+  pub host-in : h < l .racks
