@@ -3,12 +3,17 @@
 use mathlib.Core.Path.{_≡_}
 use mathlib.Core.List.{List}
 use Prim.Native.Nat.{ℕ}
+use mathlib.Core.Bool.{cond}
+use lib.Dec.{eqb}
+use lib.ListN.{length, take, drop}
 use Rattle.symbol.specs.Elem.{gf256}
 use Rattle.layout.specs.declared.Layout.{Layout}
 use Rattle.layout.specs.declared.Measured.{Measured}
 use Rattle.layout.specs.Layout.{numbersOf}
 use Rattle.codeword.specs.declared.Tested.{Tested}
 use Rattle.codeword.specs.Test.{TestAnswer, numbersOf as tested}
+use Rattle.image.specs.Image.{headerLength, readRefusal, readTray, readPart}
+use Rattle.gesarumbo.specs.declared.ImageNumbers.{ImageNumbers}
 use Rattle.gesarumbo.specs.declared.MeasureNumbers.{MeasureNumbers}
 use Rattle.gesarumbo.specs.declared.TestNumbers.{TestNumbers}
 
@@ -24,3 +29,11 @@ pub record TestShown (l : Layout) (c : List ℕ) (r : TestNumbers) : Type 0 wher
   pub answer : Tested
   pub right : TestAnswer gf256 l c answer
   pub shown : r ≡ testNumbers answer
+
+-- the numbers and the place of the part that a read gives
+pub record ReadShown (l : Layout) (volume : ℕ) (image : List ℕ) (r : ImageNumbers) : Type 0 where
+  pub refusal-is : r .refusal ≡ readRefusal l volume image
+  pub tray-is : r .tray ≡ readTray l volume image
+  pub offset-is : r .offset ≡ cond (eqb (readRefusal l volume image) 0) headerLength 0
+  pub length-is : r .length ≡ length (readPart l volume image)
+  pub part-is : take (r .length) (drop (r .offset) image) ≡ readPart l volume image

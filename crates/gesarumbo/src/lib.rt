@@ -3,9 +3,15 @@
 use codeword::Tested;
 use layout::Layout;
 use layout::Measured;
+use layout::Rack;
+use layout::Tray;
 ghost use mathlib.Core.Path.{_≡_};
+ghost use lib.ListN.{length};
+ghost use Rattle.symbol.specs.Elem.{gf256};
 ghost use Rattle.layout.specs.Layout.{measured};
-ghost use Rattle.gesarumbo.specs.Boundary.{measureNumbers, testNumbers, TestShown};
+ghost use Rattle.share.specs.Share.{shareRefusal, shareBuffer};
+ghost use Rattle.image.specs.Image.{writeRefusal, writeBuffer};
+ghost use Rattle.gesarumbo.specs.Boundary.{measureNumbers, testNumbers, TestShown, ReadShown};
 
 #[repr(C)]
 pub struct MeasureNumbers {
@@ -21,6 +27,14 @@ pub struct TestNumbers {
     pub verdict: u32,
     pub layer: u32,
     pub check: u32,
+}
+
+#[repr(C)]
+pub struct ImageNumbers {
+    pub refusal: u32,
+    pub tray: u32,
+    pub offset: usize,
+    pub length: usize,
 }
 
 // The numbers of an answer of the layout call.
@@ -85,4 +99,57 @@ pub extern "C" fn gesarumbo_test(l: Layout, codeword: &[u8]) -> TestNumbers
     ensures { λ r. ⌜ TestShown l (now (codeword .entry)) r ⌝ }
 {
     test_numbers(codeword::test(l, codeword))
+}
+
+#[no_mangle]
+pub extern "C" fn gesarumbo_share(
+    l: Layout,
+    host: u32,
+    helper: u32,
+    rack: &[u8],
+    share: &mut [u8],
+) -> u32
+    ensures answer { λ r. ⌜ r ≡ shareRefusal l host helper (length (now (rack .entry))) (length (now (share .entry))) ⌝ }
+    ensures buffer { λ _. ⌜ now (share .exit) ≡ shareBuffer gf256 l host helper (now (rack .entry)) (now (share .entry)) ⌝ }
+{
+    share::share(l, Rack::of(host), Rack::of(helper), rack, share) as u32
+}
+
+#[no_mangle]
+pub extern "C" fn gesarumbo_write_image(
+    l: Layout,
+    tray: u32,
+    state: u32,
+    volume: u32,
+    symbols: &[u8],
+    image: &mut [u8],
+) -> u32
+    ensures answer { λ r. ⌜ r ≡ writeRefusal l tray state volume (length (now (symbols .entry))) (length (now (image .entry))) ⌝ }
+    ensures buffer { λ _. ⌜ now (image .exit) ≡ writeBuffer l tray state volume (now (symbols .entry)) (now (image .entry)) ⌝ }
+{
+    image::write(l, Tray::of(tray), state, volume, symbols, image) as u32
+}
+
+#[no_mangle]
+pub extern "C" fn gesarumbo_read_image(l: Layout, volume: u32, image: &[u8]) -> ImageNumbers
+    ensures { λ r. ⌜ ReadShown l volume (now (image .entry)) r ⌝ }
+{
+    let mut refusal = 0u32;
+    let mut tray = 0u32;
+    let part = image::read(l, volume, image, &mut refusal, &mut tray);
+    let length = part.len();
+    if refusal != 0 {
+        return ImageNumbers {
+            refusal: refusal,
+            tray: 0,
+            offset: 0,
+            length: 0,
+        };
+    }
+    ImageNumbers {
+        refusal: 0,
+        tray: tray,
+        offset: image::HEADER,
+        length: length,
+    }
 }

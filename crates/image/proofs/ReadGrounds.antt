@@ -14,8 +14,7 @@ use Rattle.layout.specs.declared.Layout.{Layout}
 use Rattle.layout.specs.Layout.{admissible, Admissible}
 use Rattle.layout.proofs.Facts.{admissible-facts, facts-admissible}
 use Rattle.layout.specs.declared.Tray.{Tray}
-use Rattle.image.specs.declared.Located.the-variants.{Live, Refused}
-use Rattle.image.specs.Image.{headerLength, live, ownLayout, ownState, ownTray, ownVolume, wellFormed, sameLayout, expected, readRefusal, readTray, readPart, located}
+use Rattle.image.specs.Image.{headerLength, live, ownLayout, ownState, ownTray, ownVolume, wellFormed, sameLayout, expected, readRefusal, readTray, readPart}
 use Rattle.image.proofs.Ranges.{told-false, told-true}
 use Rattle.image.proofs.Forms.{WellFormed, formed-facts, malformed}
 
@@ -130,10 +129,6 @@ module _ (l : Layout) (volume : ℕ) (s : List ℕ) where
     unfolding readTray
     refused-tray d = simp (ne-eqb _ _ (λ z. d (q ∙ z)))
 
-    pub located-refused : (e ≡ 0 → ⊥) → Refused e ≡ located l volume s
-    unfolding located
-    located-refused d = simp (ne-eqb _ _ (λ z. d (q ∙ z))) (ap Refused q)
-
     module _ (z : e ≡ 0) where
       pub given-0 : 0 ≡ readRefusal l volume s
       given-0 = sym z ∙ q
@@ -155,7 +150,3 @@ module _ (l : Layout) (volume : ℕ) (s : List ℕ) where
       pub given-tray : (x t : ℕ) → x ≡ ownTray s → t ≡ x → t ≡ readTray l volume s
       unfolding readTray
       given-tray x t o p = simp (eq-eqb _ _ (sym given-0)) (p ∙ o)
-
-      pub located-live : (x : ℕ) (t : Tray) → x ≡ ownTray s → t .0 ≡ x → Live t ≡ located l volume s
-      unfolding located
-      located-live x t o p = simp (eq-eqb _ _ (sym given-0)) (λ i. Live (record { 0 = (p ∙ o) i }))

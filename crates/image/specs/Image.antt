@@ -8,8 +8,6 @@ use lib.ListN.{length, getD, drop}
 use Rattle.lists.specs.Lists.{unless, all}
 use Rattle.layout.specs.declared.Layout.{Layout}
 use Rattle.layout.specs.Layout.{trays, layers, admissible}
-use Rattle.image.specs.declared.Located.{Located}
-use Rattle.image.specs.declared.Located.the-variants.{Live, Refused}
 
 -- the length of the header, where the symbols start, and the edition
 abbrev pub headerLength : ℕ
@@ -129,16 +127,3 @@ readTray l volume s = cond (eqb (readRefusal l volume s) 0) (ownTray s) 0
 
 unfoldable pub readPart : Layout → ℕ → List ℕ → List ℕ
 readPart l volume s = cond (eqb (readRefusal l volume s) 0) (drop headerLength s) []
-
--- the answer by value
-unfoldable pub located : Layout → ℕ → List ℕ → Located
-located l volume s = cond (eqb (readRefusal l volume s) 0) (Live (record { 0 = ownTray s })) (Refused (readRefusal l volume s))
-
--- document 01's number and tray for each answer by value
-abbrev pub refusalOf : Located → ℕ
-refusalOf (Live t) = 0
-refusalOf (Refused e) = e
-
-abbrev pub trayOf : Located → ℕ
-trayOf (Live t) = t .0
-trayOf (Refused e) = 0

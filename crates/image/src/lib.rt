@@ -13,7 +13,7 @@ use layout::Tray;
 ghost use mathlib.Core.Path.{_≡_};
 ghost use lib.ListN.{length};
 ghost use Rattle.layout.specs.Layout.{Admissible};
-ghost use Rattle.image.specs.Image.{stateAllowed, volumeAllowed, inRange, writeRefusal, writeBuffer, wellFormed, sameLayout, readRefusal, readTray, readPart, located, refusalOf, trayOf};
+ghost use Rattle.image.specs.Image.{stateAllowed, volumeAllowed, inRange, writeRefusal, writeBuffer, wellFormed, sameLayout, readRefusal, readTray, readPart};
 ghost use Rattle.image.specs.Inner.{Headed};
 
 // The length of the header, which is where the symbols start, and the edition.
@@ -25,12 +25,6 @@ pub const EDITION: u8 = 1;
 pub const LIVE: u32 = 1;
 
 pub const DEMONSTRATION: u32 = 2;
-
-// The tray of a live image, or the refusal's number.
-pub enum Located {
-    Live(Tray),
-    Refused(u8),
-}
 
 // Whether an image may have this state.
 fn state_allowed(state: u32) -> bool
@@ -156,19 +150,6 @@ fn read_refusal(l: Layout, volume: u32, image: &[u8]) -> u8
         return 11;
     }
     0
-}
-
-// The tray of a live image of the layout and volume expected. Its symbols are the bytes from HEADER on.
-pub fn locate(l: Layout, volume: u32, image: &[u8]) -> Located
-    ensures answer { λ r. ⌜ r ≡ located l volume (now (image .entry)) ⌝ }
-    ensures refusal { λ r. ⌜ refusalOf r ≡ readRefusal l volume (now (image .entry)) ⌝ }
-    ensures tray { λ r. ⌜ trayOf r ≡ readTray l volume (now (image .entry)) ⌝ }
-{
-    let refusal = read_refusal(l, volume, image);
-    if refusal != 0 {
-        return Located::Refused(refusal);
-    }
-    Located::Live(Tray::of(byte_at(image, 8)))
 }
 
 // Reads a live image of the layout and volume expected: gives its symbols, and writes the refusal's number and the tray's.
