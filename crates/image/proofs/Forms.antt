@@ -7,13 +7,13 @@ use Prim.Native.Nat.{ℕ, _+_, _≤_}
 use lib.Dec.{eqb, leb}
 use lib.ListN.{length, getD}
 use borrow.Author.Tests.{eq-eqb, eqb-true, leb-true, le-leb}
-use Rattle.lists.proofs.Bools.{both, not-true-false}
+use Rattle.lists.proofs.Bools.{both, not-true-false, told-false, told-true}
 use Rattle.layout.specs.declared.Layout.{Layout}
 use Rattle.layout.specs.Layout.{layers, admissible, Admissible}
-use Rattle.layout.proofs.Facts.{admissible-facts, facts-admissible}
+use Rattle.layout.proofs.Facts.{admissible-facts, facts-admissible, admitted-so}
 use Rattle.image.specs.Image.{headerLength, header, inRange, ownLayout, ownState, ownTray, ownVolume, begins, wellFormed}
 use Rattle.image.specs.Inner.{Headed}
-use Rattle.image.proofs.Ranges.{told-false, told-true, admitted-so, InRange, range-facts, facts-range}
+use Rattle.image.proofs.Ranges.{InRange, range-facts, facts-range}
 
 module _ (s : List ℕ) where
   pub record WellFormed : Type 0 where

@@ -5,22 +5,11 @@ use mathlib.Core.Bool.{Bool, true, false, not, _&&_, false≢true}
 use Prim.Native.Nat.{ℕ, _≤_, _<_}
 use native.Mathlib.Omega.{arith}
 use lib.Dec.{ltb}
-use borrow.Author.Tests.{lt-ltb, ltb-true, not-true, not-false}
-use Rattle.lists.proofs.Bools.{both, not-true-false}
+use borrow.Author.Tests.{lt-ltb, ltb-true}
+use Rattle.lists.proofs.Bools.{both, not-true-false, told-false, told-true}
 use Rattle.layout.specs.declared.Layout.{Layout}
-use Rattle.layout.specs.Layout.{trays, admissible, Admissible}
-use Rattle.layout.proofs.Facts.{admissible-facts}
+use Rattle.layout.specs.Layout.{trays}
 use Rattle.image.specs.Image.{stateAllowed, volumeAllowed, inRange}
-
--- a test that answered a definition, and what the branch on it shows
-pub told-false : {a b : Bool} → a ≡ b → not a ≡ true → b ≡ false
-told-false {a} e h = sym e ∙ not-true a h
-
-pub told-true : {a b : Bool} → a ≡ b → not a ≡ false → b ≡ true
-told-true {a} e h = sym e ∙ not-false a h
-
-pub admitted-so : (l : Layout) (a : Bool) → a ≡ admissible l → not a ≡ false → Admissible l
-admitted-so l a e h = admissible-facts l (told-true e h)
 
 pub record InRange (l : Layout) (tray state volume : ℕ) : Type 0 where
   pub tray-in : tray < trays l

@@ -9,13 +9,11 @@ use lib.Dec.{eqb, lit<}
 use lib.ListN.{length, getD, take, drop, length-drop}
 use lib.Seq.{take-all}
 use borrow.Author.Tests.{eq-eqb, ne-eqb, eqb-true}
-use Rattle.lists.proofs.Bools.{passed, both, not-true-false}
+use Rattle.lists.proofs.Bools.{passed, both, not-true-false, told-false, told-true}
 use Rattle.layout.specs.declared.Layout.{Layout}
 use Rattle.layout.specs.Layout.{admissible, Admissible}
 use Rattle.layout.proofs.Facts.{admissible-facts, facts-admissible}
-use Rattle.layout.specs.declared.Tray.{Tray}
 use Rattle.image.specs.Image.{headerLength, live, ownLayout, ownState, ownTray, ownVolume, wellFormed, sameLayout, expected, readRefusal, readTray, readPart}
-use Rattle.image.proofs.Ranges.{told-false, told-true}
 use Rattle.image.proofs.Forms.{WellFormed, formed-facts, malformed}
 
 -- layouts with the same four numbers

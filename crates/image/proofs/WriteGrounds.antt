@@ -7,12 +7,12 @@ use Prim.Native.Nat.{ℕ, _+_}
 use lib.Dec.{eqb, lit<}
 use lib.ListN.{length}
 use borrow.Author.Tests.{eq-eqb, ne-eqb, eqb-true}
-use Rattle.lists.proofs.Bools.{passed, both, not-both}
+use Rattle.lists.proofs.Bools.{passed, both, not-both, told-false, told-true}
 use Rattle.layout.specs.declared.Layout.{Layout}
 use Rattle.layout.specs.Layout.{layers, admissible, Admissible}
 use Rattle.layout.proofs.Facts.{admissible-facts, facts-admissible}
 use Rattle.image.specs.Image.{headerLength, header, inRange, writeRefusal, writeBuffer}
-use Rattle.image.proofs.Ranges.{told-false, told-true, InRange, range-facts, facts-range}
+use Rattle.image.proofs.Ranges.{InRange, range-facts, facts-range}
 
 module _ (l : Layout) (tray state volume count room : ℕ) where
   pub write-1 : (a : Bool) → a ≡ admissible l → not a ≡ true → 1 ≡ writeRefusal l tray state volume count room

@@ -1,13 +1,13 @@
 -- What an admissible layout is, as a test and as facts, and what follows for its numbers.
 use mathlib.Core.Path.{_≡_, refl, sym, ap, _∙_}
-use mathlib.Core.Bool.{Bool, true, false, _&&_, _||_}
+use mathlib.Core.Bool.{Bool, true, false, not, _&&_, _||_}
 use mathlib.Core.Logic.{⊎-elim, _⊎_, inl, inr}
 use Prim.Native.Nat.{ℕ, zero, suc, _+_, _-_, _*_, _/_, _%_, _^_, _≤_, _<_}
 use native.Mathlib.Nat.{le-mul-of-pos-right, mul-comm, mul-one, one-le-pow, pow-le-pow-right, le-trans, le-of-lt, div-lt-iff-lt-mul, div-le-self}
 use native.Mathlib.Omega.{arith}
 use lib.Dec.{leb, ltb, eqb}
 use borrow.Author.Tests.{leb-true, le-leb, eqb-true}
-use Rattle.lists.proofs.Bools.{both, and-true, either, not-true-false}
+use Rattle.lists.proofs.Bools.{both, and-true, either, not-true-false, told-true}
 use Rattle.layout.specs.declared.Layout.{Layout}
 use Rattle.layout.specs.Layout.{trays, wholeRacks, checks, digits, layers, groups, trayLimit, layerLimit, sizeAllowed, admissible, Admissible}
 
@@ -46,6 +46,10 @@ module _ (l : Layout) where
         le-leb _ _ (a .helpers-high),
         le-leb _ _ (a .layers-high),
       )
+
+  -- from a test of it, and the branch taken on that
+  pub admitted-so : (a : Bool) → a ≡ admissible l → not a ≡ false → Admissible l
+  admitted-so a e h = admissible-facts (told-true e h)
 
   pub inadmissible : (Admissible l → ⊥) → false ≡ admissible l
   inadmissible h = not-true-false (admissible l) (λ e. h (admissible-facts e))

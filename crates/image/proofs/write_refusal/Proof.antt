@@ -1,5 +1,5 @@
 use borrow.Author.Needs.{needs}
-use Rattle.image.proofs.Ranges.{admitted-so}
+use Rattle.layout.proofs.Facts.{admitted-so}
 use Rattle.image.proofs.WriteGrounds.{write-1, write-2-count, write-2-room, write-3, write-0}
 use Rattle.image.proofs.write_refusal.Statement.{statement}
 use Rattle.image.proofs.write_refusal.Tie as tie

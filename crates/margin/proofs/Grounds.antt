@@ -1,0 +1,98 @@
+-- The grounds for refusing a margin one by one, from the tests as the code makes them, and the answer.
+-- Assumes nothing.
+use mathlib.Core.Path.{_≡_, sym, ap, _∙_}
+use mathlib.Core.Bool.{Bool, true, false, cond, not}
+use mathlib.Core.List.{List}
+use Prim.Native.Nat.{ℕ, _≤_, _<_}
+use native.Mathlib.Omega.{arith}
+use lib.Dec.{eqb, leb, lit<}
+use lib.IntN.{ℤ, pos, _-ℤ_}
+use lib.ListN.{length, getD}
+use borrow.Author.Tests.{eq-eqb, ne-eqb, eqb-true, leb-true, le-leb}
+use mir.Syntax.{w32}
+use mir.Val.{toZ, ofZ}
+use Rattle.lists.specs.Lists.{all}
+use Rattle.lists.proofs.Bools.{passed, all-true, all-false, told-false, told-true}
+use Rattle.layout.specs.declared.Layout.{Layout}
+use Rattle.layout.specs.Layout.{trays, admissible, trayLimit}
+use Rattle.layout.proofs.Facts.{admissible-facts, dimension-in}
+use Rattle.margin.specs.declared.LossMargin.the-variants.{Known, Refused}
+use Rattle.margin.specs.Margin.{stateLimit, present, marginOf, statesKnown, marginRefusal, marginAnswer, marginValue}
+use Rattle.margin.proofs.Signed.{handed-on}
+
+module _ (states : List ℕ) where
+  pub known-true : ((x : ℕ) → x < length states → getD states x 0 ≤ stateLimit) → true ≡ statesKnown states
+  unfolding statesKnown
+  known-true h = sym (all-true _ (length states) (λ x l. le-leb _ _ (h x l)))
+
+  pub known-false : (x : ℕ) → x < length states → stateLimit < getD states x 0 → false ≡ statesKnown states
+  unfolding statesKnown
+  known-false x l h = all-false _ (length states) x l (λ e. omega (arith, leb-true (getD states x 0) stateLimit e))
+
+module _ (l : Layout) (states : List ℕ) where
+  pub margin-1 : (a : Bool) → a ≡ admissible l → not a ≡ true → 1 ≡ marginRefusal l states
+  unfolding marginRefusal
+  margin-1 a e h = simp (told-false e h)
+
+  module _ (a : Bool) (e : a ≡ admissible l) (h : not a ≡ false) (n : ℕ) (f : n ≡ trays l) where
+    pub margin-2 : (length states ≡ n → ⊥) → 2 ≡ marginRefusal l states
+    unfolding marginRefusal
+    margin-2 d = simp (told-true e h, ne-eqb (length states) (trays l) (λ q. d (q ∙ sym f)))
+
+    module _ (k : length states ≡ n) (b : Bool) (g : b ≡ statesKnown states) where
+      pub margin-3 : not b ≡ true → 3 ≡ marginRefusal l states
+      unfolding marginRefusal
+      margin-3 q = simp (told-true e h, eq-eqb (length states) (trays l) (k ∙ f), told-false g q)
+
+      pub margin-0 : not b ≡ false → 0 ≡ marginRefusal l states
+      unfolding marginRefusal
+      margin-0 q = simp (told-true e h, eq-eqb (length states) (trays l) (k ∙ f), told-true g q)
+
+  -- past the grounds there are as many states as trays, and k is within the limit
+  pub record Measurable : Type 0 where
+    pub length-is : length states ≡ trays l
+    pub length-high : length states ≤ trayLimit
+    pub dimension-high : l .dimension ≤ trayLimit
+
+  pub measurable : marginRefusal l states ≡ 0 → Measurable
+  unfolding marginRefusal
+  measurable h =
+      let p = passed (admissible l) 1 _ (lit< tt) h in
+      let q = passed (eqb (length states) (trays l)) 2 _ (lit< tt) (p .1) in
+      let a = admissible-facts l (p .0) in
+      let e = eqb-true (length states) (trays l) (q .0) in
+      record { length-is = e; length-high = omega arith; dimension-high = omega (arith, dimension-in l a) }
+
+  module _ (e : ℕ) (q : e ≡ marginRefusal l states) where
+    module _ (d : e ≡ 0 → ⊥) where
+      pub refused-answer : Refused e ≡ marginAnswer l states
+      unfolding marginAnswer
+      refused-answer = simp (ne-eqb (marginRefusal l states) 0 (λ z. d (q ∙ z))) (ap Refused q)
+
+      pub refused-value : pos 0 ≡ marginValue l states
+      unfolding marginValue
+      refused-value = simp (ne-eqb (marginRefusal l states) 0 (λ z. d (q ∙ z)))
+
+    module _ (z : e ≡ 0) where
+      pub given-0 : 0 ≡ marginRefusal l states
+      given-0 = sym z ∙ q
+
+      pub given-length : length states ≤ trayLimit
+      given-length = measurable (sym given-0) .length-high
+
+      pub given-dimension : l .dimension ≤ trayLimit
+      given-dimension = measurable (sym given-0) .dimension-high
+
+      -- a margin m that is handed on
+      module _ (count : ℕ) (p : count ≡ present states (length states)) (h : count ≤ trayLimit) (m : ℤ) (m-is : m ≡ pos count -ℤ pos (l .dimension)) where
+        is-margin : toZ w32 (ofZ w32 m) ≡ marginOf l states
+        unfolding marginOf
+        is-margin = handed-on count (l .dimension) h given-dimension m m-is ∙ ap (λ n. pos n -ℤ pos (l .dimension)) p
+
+        pub given-answer : Known (toZ w32 (ofZ w32 m)) ≡ marginAnswer l states
+        unfolding marginAnswer
+        given-answer = simp (eq-eqb (marginRefusal l states) 0 (sym given-0)) (ap Known is-margin)
+
+        pub given-value : toZ w32 (ofZ w32 m) ≡ marginValue l states
+        unfolding marginValue
+        given-value = simp (eq-eqb (marginRefusal l states) 0 (sym given-0)) is-margin

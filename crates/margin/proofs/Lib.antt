@@ -1,0 +1,4 @@
+pub mod Counting
+pub mod Signed
+pub mod Grounds
+pub mod Range

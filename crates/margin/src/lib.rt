@@ -1,0 +1,91 @@
+// The loss margin: how many more trays may go before data are lost. For any bytes it answers the trays not absent, less k, or the first ground for
+// refusing; a margin below zero is an answer. It runs from -k to n - k (proofs/Range.antt).
+use layout::Layout;
+ghost use mathlib.Core.Path.{_≡_};
+ghost use Prim.Native.Nat.{_≤_};
+ghost use lib.IntN.{pos, _-ℤ_};
+ghost use lib.ListN.{length};
+ghost use Rattle.layout.specs.Layout.{trayLimit};
+ghost use Rattle.margin.specs.Margin.{counts, present, statesKnown, marginRefusal, marginAnswer, marginValue, refusalOf, valueOf};
+
+// The last of the states 0 absent, 1 live, 2 demonstration.
+const STATES: u8 = 2;
+
+// The margin, or the refusal's number.
+pub enum LossMargin {
+    Known(i32),
+    Refused(u8),
+}
+
+// Whether a tray of this state counts.
+fn counted(state: u8) -> bool
+    ensures { λ r. ⌜ r ≡ counts state ⌝ }
+{
+    state != 0
+}
+
+// The trays that count.
+fn present_count(states: &[u8]) -> u32
+    requires { ⌜ length (now states) ≤ trayLimit ⌝ }
+    ensures { λ r. ⌜ (r ≡ present (now (states .entry)) (length (now (states .entry)))) × (r ≤ trayLimit) ⌝ }
+{
+    let mut count = 0u32;
+    let mut x = 0usize;
+    while x < states.len() {
+        count += counted(states[x]) as u32;
+        x += 1;
+    }
+    count
+}
+
+// One small number less another, below zero too.
+fn difference(a: u32, b: u32) -> i32
+    requires { ⌜ (a ≤ trayLimit) × (b ≤ trayLimit) ⌝ }
+    ensures { λ r. ⌜ r ≡ pos a -ℤ pos b ⌝ }
+{
+    a as i32 - b as i32
+}
+
+// Whether every state is one of the three.
+fn states_known(states: &[u8]) -> bool
+    ensures { λ r. ⌜ r ≡ statesKnown (now (states .entry)) ⌝ }
+{
+    let mut x = 0usize;
+    while x < states.len() {
+        if STATES < states[x] {
+            return false;
+        }
+        x += 1;
+    }
+    true
+}
+
+// The refusal, 0 for none.
+fn margin_refusal(l: Layout, states: &[u8]) -> u8
+    ensures { λ r. ⌜ r ≡ marginRefusal l (now (states .entry)) ⌝ }
+{
+    if !layout::admitted(l) {
+        return 1;
+    }
+    if states.len() != layout::tray_count(l) as usize {
+        return 2;
+    }
+    if !states_known(states) {
+        return 3;
+    }
+    0
+}
+
+// The margin of a cabinet whose trays have these states, one byte a tray.
+pub fn margin(l: Layout, states: &[u8]) -> LossMargin
+    ensures answer { λ r. ⌜ r ≡ marginAnswer l (now (states .entry)) ⌝ }
+    ensures refusal { λ r. ⌜ refusalOf r ≡ marginRefusal l (now (states .entry)) ⌝ }
+    ensures value { λ r. ⌜ valueOf r ≡ marginValue l (now (states .entry)) ⌝ }
+{
+    let k = l.dimension;
+    let refusal = margin_refusal(l, states);
+    if refusal != 0 {
+        return LossMargin::Refused(refusal);
+    }
+    LossMargin::Known(difference(present_count(states), k))
+}

@@ -1,0 +1,6 @@
+pub mod Restored
+pub mod Layer
+pub mod Writes
+pub mod Grounds
+pub mod Answers
+pub mod NeverLooks

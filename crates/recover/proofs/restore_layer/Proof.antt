@@ -1,0 +1,36 @@
+use mathlib.Core.Path.{sym}
+use Prim.Native.Nat.{_-_, _≤_}
+use native.Mathlib.Omega.{arith}
+use lib.ListN.{length}
+use borrow.Author.Needs.{needs}
+use Rattle.layout.specs.Layout.{trayLimit}
+use Rattle.recover.proofs.Layer.{zeros-long, room}
+use Rattle.recover.proofs.restore_layer.Statement.{statement}
+use Rattle.recover.proofs.restore_layer.Tie as tie
+
+few : (c : tie.Start) → length (c .args .es .now) ≤ trayLimit
+few c = let a = c .pre .0 .adm in omega (arith, c .pre .0 .listed .few)
+
+count : (c : tie.After-tray-count) → c .tray-count .result ≤ trayLimit
+count c = let a = c .before .before .before .pre .0 .adm in omega arith
+
+pub restore-layer-spec : {M : Type 1} → statement M
+restore-layer-spec =
+    tie.close (tie.spec
+    (λ c κs. search needs)
+    (λ c. search needs)
+    (λ c. search needs)
+    (λ c. sym (zeros-long _ (count (c .before .before))))
+    (λ c. search needs)
+    (λ c. sym (zeros-long _ (count (c .before .before .before))))
+    (λ c. search needs)
+    (λ c. sym (zeros-long _ (few (c .before .before .before .before .before .before .before))))
+    (λ c. search needs)
+    (λ c. sym (zeros-long _ (few (c .before .before .before .before .before .before .before .before))))
+    (λ c. search needs)
+    (λ c. sym (zeros-long _ (few (c .before .before .before .before .before .before .before .before .before))))
+    (λ c. search needs)
+    (λ c. sym (zeros-long _ (few (c .before .before .before .before .before .before .before .before .before .before))))
+    (λ c κs. (c .before .before .before .before .before .before .before .before .before .before .pre .0, c .before .before .before .before .before .before .before .before .before .before .pre .1, room (c .before .before .before .before .before .before .before .before .before .before .args .l) (c .before .before .before .before .before .before .before .before .before .before .args .es .now) (c .before .before .before .before .before .before .before .tray-count .result) (c .before .before .before .before .before .before .before .tray-count .ensures) (count (c .before .before .before .before .before .before .before)) (few (c .before .before .before .before .before .before .before .before .before .before))))
+    (λ c. search needs)
+    (λ c. search needs))
