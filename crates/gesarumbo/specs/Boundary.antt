@@ -14,6 +14,9 @@ use Rattle.codeword.specs.declared.Tested.{Tested}
 use Rattle.codeword.specs.Test.{TestAnswer, numbersOf as tested}
 use Rattle.image.specs.Image.{headerLength, readRefusal, readTray, readPart}
 use Rattle.gesarumbo.specs.declared.ImageNumbers.{ImageNumbers}
+use Rattle.margin.specs.declared.LossMargin.{LossMargin}
+use Rattle.margin.specs.Margin.{refusalOf, valueOf}
+use Rattle.gesarumbo.specs.declared.MarginNumbers.{MarginNumbers}
 use Rattle.gesarumbo.specs.declared.MeasureNumbers.{MeasureNumbers}
 use Rattle.gesarumbo.specs.declared.TestNumbers.{TestNumbers}
 
@@ -23,6 +26,9 @@ measureNumbers a =
 
 abbrev pub testNumbers : Tested → TestNumbers
 testNumbers a = record { refusal = tested a .refusal; verdict = tested a .verdict; layer = tested a .layer; check = tested a .check }
+
+abbrev pub marginNumbers : LossMargin → MarginNumbers
+marginNumbers a = record { refusal = refusalOf a; margin = valueOf a }
 
 -- the numbers are those of an answer that the test's contract allows
 pub record TestShown (l : Layout) (c : List ℕ) (r : TestNumbers) : Type 0 where

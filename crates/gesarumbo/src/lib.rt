@@ -5,13 +5,16 @@ use layout::Layout;
 use layout::Measured;
 use layout::Rack;
 use layout::Tray;
+use margin::LossMargin;
 ghost use mathlib.Core.Path.{_≡_};
 ghost use lib.ListN.{length};
 ghost use Rattle.symbol.specs.Elem.{gf256};
 ghost use Rattle.layout.specs.Layout.{measured};
+ghost use Rattle.recover.specs.Recover.{RecoverAnswer};
+ghost use Rattle.margin.specs.Margin.{marginRefusal, marginValue};
 ghost use Rattle.share.specs.Share.{shareRefusal, shareBuffer};
 ghost use Rattle.image.specs.Image.{writeRefusal, writeBuffer};
-ghost use Rattle.gesarumbo.specs.Boundary.{measureNumbers, testNumbers, TestShown, ReadShown};
+ghost use Rattle.gesarumbo.specs.Boundary.{measureNumbers, testNumbers, marginNumbers, TestShown, ReadShown};
 
 #[repr(C)]
 pub struct MeasureNumbers {
@@ -35,6 +38,12 @@ pub struct ImageNumbers {
     pub tray: u32,
     pub offset: usize,
     pub length: usize,
+}
+
+#[repr(C)]
+pub struct MarginNumbers {
+    pub refusal: u32,
+    pub margin: i32,
 }
 
 // The numbers of an answer of the layout call.
@@ -83,6 +92,22 @@ fn test_numbers(answer: Tested) -> TestNumbers
             verdict: 0,
             layer: 0,
             check: 0,
+        },
+    }
+}
+
+// The numbers of an answer of the margin call.
+fn margin_numbers(answer: LossMargin) -> MarginNumbers
+    ensures { λ r. ⌜ r ≡ marginNumbers answer ⌝ }
+{
+    match answer {
+        LossMargin::Known(m) => MarginNumbers {
+            refusal: 0,
+            margin: m,
+        },
+        LossMargin::Refused(e) => MarginNumbers {
+            refusal: e as u32,
+            margin: 0,
         },
     }
 }
@@ -152,4 +177,19 @@ pub extern "C" fn gesarumbo_read_image(l: Layout, volume: u32, image: &[u8]) -> 
         offset: image::HEADER,
         length: length,
     }
+}
+
+#[no_mangle]
+pub extern "C" fn gesarumbo_recover(l: Layout, codeword: &mut [u8], erased: &[u32]) -> u32
+    ensures { λ r. ⌜ RecoverAnswer gf256 l (now (erased .entry)) (now (codeword .entry)) (now (codeword .exit)) r ⌝ }
+{
+    recover::recover(l, codeword, erased) as u32
+}
+
+#[no_mangle]
+pub extern "C" fn gesarumbo_margin(l: Layout, states: &[u8]) -> MarginNumbers
+    ensures refusal { λ r. ⌜ r .refusal ≡ marginRefusal l (now (states .entry)) ⌝ }
+    ensures margin { λ r. ⌜ r .margin ≡ marginValue l (now (states .entry)) ⌝ }
+{
+    margin_numbers(margin::margin(l, states))
 }
