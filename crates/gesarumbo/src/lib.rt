@@ -11,6 +11,7 @@ ghost use lib.ListN.{length};
 ghost use Rattle.symbol.specs.Elem.{gf256};
 ghost use Rattle.layout.specs.Layout.{measured};
 ghost use Rattle.recover.specs.Recover.{RecoverAnswer};
+ghost use Rattle.store.specs.Store.{StoreAnswer};
 ghost use Rattle.margin.specs.Margin.{marginRefusal, marginValue};
 ghost use Rattle.share.specs.Share.{shareRefusal, shareBuffer};
 ghost use Rattle.image.specs.Image.{writeRefusal, writeBuffer};
@@ -177,6 +178,13 @@ pub extern "C" fn gesarumbo_read_image(l: Layout, volume: u32, image: &[u8]) -> 
         offset: image::HEADER,
         length: length,
     }
+}
+
+#[no_mangle]
+pub extern "C" fn gesarumbo_store(l: Layout, words: &[u8], codeword: &mut [u8]) -> u32
+    ensures { λ r. ⌜ StoreAnswer gf256 l (now (words .entry)) (now (codeword .entry)) (now (codeword .exit)) r ⌝ }
+{
+    store::store(l, words, codeword) as u32
 }
 
 #[no_mangle]

@@ -13,9 +13,9 @@ use Rattle.lists.proofs.Bools.{passed, not-true-false}
 use Rattle.layout.specs.declared.Layout.{Layout}
 use Rattle.layout.specs.Layout.{trays, checks, layers, admissible, Admissible}
 use Rattle.layout.proofs.Facts.{admissible-facts}
-use Rattle.layout.proofs.Lists.{list-places}
 use Rattle.recover.specs.Recover.{recoverRefusal}
 use Rattle.recover.specs.Inner.{Listed}
+use Rattle.recover.proofs.Restored.{list-listed}
 
 module _ (l : Layout) (es : List ℕ) (n : ℕ) where
   pub ground-1 : admissible l ≡ false → 1 ≡ recoverRefusal l es n
@@ -66,5 +66,5 @@ recoverable l es n h =
     record {
       adm = admissible-facts l (p1 .0);
       long = eqb-true _ _ (p2 .0);
-      listed = record { places = list-places es (trays l) (p3 .0) (p4 .0); few = leb-true _ _ (p5 .0) };
+      listed = list-listed l es (p3 .0) (p4 .0) (leb-true _ _ (p5 .0));
     }

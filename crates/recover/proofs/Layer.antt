@@ -20,17 +20,17 @@ use Rattle.algebra.proofs.Ring.{zero-add}
 use Rattle.algebra.proofs.Sum.{sum-congr}
 use Rattle.algebra.proofs.Lagrange.{unique, meets}
 use Rattle.algebra.proofs.Erasure.{fill-at, fill-outside, check-fill, points, place-cases}
-use Rattle.algebra.proofs.Restore.{restored-codeword}
 use Rattle.symbol.specs.Arithmetic.{_⊕_, _⊗_, power}
 use Rattle.symbol.specs.Elem.{Elem, elem, ops, gf256}
 use Rattle.symbol.proofs.Elem.{laws, elem-zero, elem-val, elem-⊕, elem-⊗, elem-power, neg-is}
 use Rattle.lagrange.specs.Solve.{symbolsOf, solvedAt}
 use Rattle.layout.specs.declared.Layout.{Layout}
 use Rattle.layout.specs.Layout.{trays, checks, layers, trayLimit, Admissible}
-use Rattle.codeword.specs.Codeword.{shapeOf, symbolAt, pointAt}
+use Rattle.codeword.specs.Codeword.{symbolAt, pointAt}
 use Rattle.codeword.proofs.Usable.{usable}
 use Rattle.codeword.proofs.Buffers.{points-distinct}
 use Rattle.recover.specs.Inner.{entryOf, Listed, restoredAt, LayerFits, Says, survivorAt, erasedAt, checkOf, Room, Solved}
+use Rattle.recover.proofs.Restored.{low-checks}
 
 -- ---- what a test says
 pub says-true : {P : Type 0} (b : Bool) → b ≡ true → Says b P → P
@@ -131,10 +131,6 @@ module _ (l : Layout) (es c : List ℕ) (j : ℕ) where
           (ap (λ n. check ops (symbolsOf ps) n (symbolsOf word) t) ps-long ∙ check-same (trays l) _ _ _ _ t (s .points-are) (s .word-is))
           (ap (λ n. check ops (symbolsOf qs) n (symbolsOf v) t) qs-long ∙ check-same (length es) _ _ _ _ t (s .listed-are) (s .solved)))
 
-      low : (t : ℕ) → t < length es → check ops (pointAt gf256 l j) (trays l) (λ x. restoredAt gf256 l es c x j) t ≡ ops .zero
-      unfolding pointAt
-      low t b = (restored-codeword (shapeOf gf256 l) (usable l a .fits) (entryOf es) (length es) (listed .places) (symbolAt gf256 l c)) .at j t h b
-
       abbrev Rest : Type 0
       Rest = (t : ℕ) → length v ≤ t → t < checks l → ops .add (checkOf ps word t) (checkOf qs v t) ≡ ops .zero
 
@@ -142,7 +138,7 @@ module _ (l : Layout) (es c : List ℕ) (j : ℕ) where
       rest-fits w t b = go (decLt t (length es))
         where
           go : Dec (t < length es) → check ops (pointAt gf256 l j) (trays l) (λ x. restoredAt gf256 l es c x j) t ≡ ops .zero
-          go (yes q) = low t q
+          go (yes q) = low-checks gf256 l (usable l a) es c listed j h t q
           go (no q) = layer-check t ∙ w t (omega arith) b
 
       -- the checks that were not used for solving decide

@@ -1,0 +1,4 @@
+pub mod Trays
+pub mod Answers
+pub mod Settled
+pub mod Examples
