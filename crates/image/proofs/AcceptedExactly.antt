@@ -2,18 +2,16 @@
 -- and volume makes these very bytes, whatever the lent ones held.
 -- Assumes nothing.
 use mathlib.Core.Path.{_≡_, refl, sym, ap, ap₂, _∙_}
-use mathlib.Core.Bool.{true, false}
 use mathlib.Core.List.{List, _++_}
 use mathlib.Core.Logic.{_↔_}
-use Prim.Native.Nat.{ℕ, _+_, _^_, _<_}
+use Prim.Native.Nat.{ℕ, _^_, _<_}
 use native.Mathlib.Omega.{arith}
 use lib.ListN.{length, drop, length-drop}
 use Rattle.layout.specs.declared.Layout.{Layout}
 use Rattle.layout.specs.Layout.{trays, layers}
-use Rattle.image.specs.Image.{headerLength, live, header, stateAllowed, volumeAllowed, writeRefusal, writeBuffer, ownLayout, ownState, ownTray, ownVolume, readRefusal, readTray, readPart}
+use Rattle.image.specs.Image.{headerLength, live, header, stateAllowed, volumeAllowed, writeRefusal, writeBuffer, ownLayout, ownState, ownTray, ownVolume, ownHeader, readRefusal, readTray, readPart}
 use Rattle.image.proofs.Bytes.{header-length, begins-split}
-use Rattle.image.proofs.WriteGrounds.{Writable, writable, written, written-0}
-use Rattle.image.proofs.Forms.{WellFormed}
+use Rattle.image.proofs.WriteGrounds.{Writable, written, written-0}
 use Rattle.image.proofs.ReadGrounds.{Readable, readable, given-symbols, given-tray}
 use Rattle.image.proofs.RoundTrip.{round-trip}
 
@@ -26,7 +24,7 @@ module _ (l : Layout) (volume : ℕ) (s : List ℕ) (ok : readRefusal l volume s
   split =
       let f = r .formed in
       let h = header-length (ownLayout s) (ownTray s) (ownState s) (ownVolume s) in
-      begins-split s (header (ownLayout s) (ownTray s) (ownState s) (ownVolume s)) (omega (arith, h, f .long)) (f .front)
+      begins-split s (ownHeader s) (omega (arith, h, f .long)) (f .front)
       ∙ ap₂ (λ x n. x ++ drop n s) (λ i. header (sym (r .layout-is) i) (ownTray s) (r .live-is i) (sym (r .volume-is) i)) h
 
   may : Writable l (ownTray s) live volume (length (drop headerLength s)) (length s)

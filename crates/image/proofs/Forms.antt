@@ -1,17 +1,17 @@
 -- A well-formed image as facts, and from the tests as the code makes them.
 -- Assumes nothing.
 use mathlib.Core.Path.{_≡_, sym, ap, _∙_}
-use mathlib.Core.Bool.{Bool, true, false, not, _&&_, false≢true}
+use mathlib.Core.Bool.{Bool, true, false, not, false≢true}
 use mathlib.Core.List.{List}
 use Prim.Native.Nat.{ℕ, _+_, _≤_}
 use lib.Dec.{eqb, leb}
-use lib.ListN.{length, getD}
+use lib.ListN.{length}
 use borrow.Author.Tests.{eq-eqb, eqb-true, leb-true, le-leb}
 use Rattle.lists.proofs.Bools.{both, not-true-false, told-false, told-true}
 use Rattle.layout.specs.declared.Layout.{Layout}
 use Rattle.layout.specs.Layout.{layers, admissible, Admissible}
 use Rattle.layout.proofs.Facts.{admissible-facts, facts-admissible, admitted-so}
-use Rattle.image.specs.Image.{headerLength, header, inRange, ownLayout, ownState, ownTray, ownVolume, begins, wellFormed}
+use Rattle.image.specs.Image.{headerLength, header, inRange, ownLayout, ownState, ownTray, ownVolume, ownHeader, begins, wellFormed}
 use Rattle.image.specs.Inner.{Headed}
 use Rattle.image.proofs.Ranges.{InRange, range-facts, facts-range}
 
@@ -21,12 +21,12 @@ module _ (s : List ℕ) where
     pub adm : Admissible (ownLayout s)
     pub whole : length s ≡ headerLength + layers (ownLayout s)
     pub range : InRange (ownLayout s) (ownTray s) (ownState s) (ownVolume s)
-    pub front : begins s (header (ownLayout s) (ownTray s) (ownState s) (ownVolume s)) ≡ true
+    pub front : begins s (ownHeader s) ≡ true
 
   pub formed-facts : wellFormed s ≡ true → WellFormed
   unfolding wellFormed
   formed-facts h =
-      let h4 = both _ (begins s (header (ownLayout s) (ownTray s) (ownState s) (ownVolume s))) h in
+      let h4 = both _ (begins s (ownHeader s)) h in
       let h3 = both _ (inRange (ownLayout s) (ownTray s) (ownState s) (ownVolume s)) (h4 .0) in
       let h2 = both _ (eqb (length s) (headerLength + layers (ownLayout s))) (h3 .0) in
       let h1 = both (leb headerLength (length s)) (admissible (ownLayout s)) (h2 .0) in
@@ -73,5 +73,5 @@ module _ (own : Layout) (s : List ℕ) (h : Headed own s) where
     formed-header total head r k l-is n-is h-is r-is =
         let a : admissible (ownLayout s) ≡ true = ap admissible (sym (h .own-is)) ∙ sym (facts-admissible own (h .adm)) in
         let w : length s ≡ headerLength + layers (ownLayout s) = n-is ∙ ap (λ t. headerLength + t) l-is ∙ ap (λ (m : Layout). headerLength + layers m) (h .own-is) in
-        let q : head ≡ header (ownLayout s) (ownTray s) (ownState s) (ownVolume s) = h-is ∙ (λ i. header (h .own-is i) ((t ∙ f) i) (e i) (v i)) in
+        let q : head ≡ ownHeader s = h-is ∙ (λ i. header (h .own-is i) ((t ∙ f) i) (e i) (v i)) in
         simp (le-leb _ _ (h .long), a, eq-eqb _ _ w, told-true own-range k) (r-is ∙ ap (begins s) q)

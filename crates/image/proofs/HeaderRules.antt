@@ -2,7 +2,7 @@
 -- nothing more and nothing less.
 -- Assumes nothing.
 use mathlib.Core.Path.{_≡_, refl, sym, ap, subst, _∙_}
-use mathlib.Core.Bool.{Bool, true, false, _&&_}
+use mathlib.Core.Bool.{true}
 use mathlib.Core.List.{List, [], _∷_, _++_}
 use mathlib.Core.Logic.{_↔_}
 use Prim.Native.Nat.{ℕ, zero, suc, _+_, _*_, _/_, _%_, _^_, _<_}
@@ -14,11 +14,10 @@ use Rattle.lists.specs.Lists.{all}
 use Rattle.layout.specs.declared.Layout.{Layout}
 use Rattle.layout.specs.Layout.{layers, layerLimit}
 use Rattle.layout.proofs.Facts.{admissible-facts, facts-admissible}
-use Rattle.image.specs.Image.{headerLength, edition, little, numberAt, header, ownLayout, ownState, ownTray, ownVolume, begins, wellFormed}
+use Rattle.image.specs.Image.{headerLength, edition, little, numberAt, header, ownLayout, ownState, ownTray, ownVolume, ownHeader, begins, wellFormed}
 use Rattle.image.specs.Rules.{Rules}
 use Rattle.image.proofs.Bytes.{header-length, begins-split}
-use Rattle.image.proofs.Ranges.{InRange}
-use Rattle.image.proofs.Forms.{WellFormed, formed-facts, facts-formed}
+use Rattle.image.proofs.Forms.{formed-facts, facts-formed}
 use Rattle.image.proofs.Written.{four-bytes}
 
 -- so many bytes of a list from a place on
@@ -45,7 +44,7 @@ module _ (s : List ℕ) (byte : (i : ℕ) → getD s i 0 < 256) where
   one : (at : ℕ) → getD s at 0 ≡ numberAt at 1 s
   one at = omega arith
 
-  own-header : Rules s → header (ownLayout s) (ownTray s) (ownState s) (ownVolume s) ≡ window 0 headerLength s
+  own-header : Rules s → ownHeader s ≡ window 0 headerLength s
   unfolding header ownLayout
   own-header r = λ i.
       entry 2 0 headerLength (sym (r .length-is)) i
@@ -94,11 +93,10 @@ formed-rules : (s : List ℕ) → wellFormed s ≡ true → Rules s
 formed-rules s h =
     let w = formed-facts s h in
     let a = w .adm in
-    let own = header (ownLayout s) (ownTray s) (ownState s) (ownVolume s) in
     let n = header-length (ownLayout s) (ownTray s) (ownState s) (ownVolume s) in
     let q : layerLimit < 2 ^ 32 = lit< tt in
-    let f = subst (λ t. Fixed t (layers (ownLayout s))) (sym (begins-split s own (omega (arith, n, w .long)) (w .front)))
-    (fixed (ownLayout s) (ownTray s) (ownState s) (ownVolume s) (drop (length own) s) (omega arith)) in
+    let f = subst (λ t. Fixed t (layers (ownLayout s))) (sym (begins-split s (ownHeader s) (omega (arith, n, w .long)) (w .front)))
+    (fixed (ownLayout s) (ownTray s) (ownState s) (ownVolume s) (drop (length (ownHeader s)) s) (omega arith)) in
     record {
       long = w .long;
       length-is = f .length-is;

@@ -3,6 +3,7 @@ pub mod Ranges
 pub mod WriteGrounds
 pub mod Copies
 pub mod Forms
+pub mod SameLayout
 pub mod ReadGrounds
 pub mod Written
 pub mod RoundTrip

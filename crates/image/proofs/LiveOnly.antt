@@ -2,7 +2,7 @@
 -- of bytes, every layout and every volume.
 -- Assumes nothing.
 use mathlib.Core.Path.{_≡_, refl, sym, ap, _∙_}
-use mathlib.Core.Bool.{Bool, true, false, cond}
+use mathlib.Core.Bool.{Bool, true, false}
 use mathlib.Core.List.{List, [], _++_}
 use Prim.Native.Nat.{ℕ, _^_, _<_}
 use native.Mathlib.Omega.{arith}
@@ -27,7 +27,7 @@ live-only l volume s d =
 pub demonstration-named : (l : Layout) (volume : ℕ) (s : List ℕ) → admissible l ≡ true → wellFormed s ≡ true → getD s 3 0 ≡ 2 → readRefusal l volume s ≡ 10
 demonstration-named l volume s a f e = sym (read-10 l volume s true (sym a) refl true (sym f) refl (getD s 3 0) refl (λ h. omega (arith, e, h)))
 
--- what was written as demonstration is never accepted, whatever layout and volume are volume
+-- what was written as demonstration is never accepted, whatever layout and volume are expected
 module _ (own : Layout) (tray other : ℕ) (symbols old : List ℕ) (v : other < 2 ^ 32)
     (done : writeRefusal own tray demonstration other (length symbols) (length old) ≡ 0) where
   abbrev image : List ℕ

@@ -1,52 +1,21 @@
 -- The grounds of a read one by one, from the tests as the code makes them, and what is handed out.
 -- Assumes nothing.
 use mathlib.Core.Path.{_≡_, sym, ap, _∙_}
-use mathlib.Core.Bool.{Bool, true, false, cond, not, _&&_, false≢true}
+use mathlib.Core.Bool.{Bool, true, false, cond, not, false≢true}
 use mathlib.Core.List.{List, []}
-use Prim.Native.Nat.{ℕ, _+_, _-_, _≤_, _<_}
+use Prim.Native.Nat.{ℕ, _-_, _≤_, _<_}
 use native.Mathlib.Omega.{arith}
 use lib.Dec.{eqb, lit<}
-use lib.ListN.{length, getD, take, drop, length-drop}
+use lib.ListN.{length, take, drop, length-drop}
 use lib.Seq.{take-all}
 use borrow.Author.Tests.{eq-eqb, ne-eqb, eqb-true}
-use Rattle.lists.proofs.Bools.{passed, both, not-true-false, told-false, told-true}
+use Rattle.lists.proofs.Bools.{passed, both, told-false, told-true}
 use Rattle.layout.specs.declared.Layout.{Layout}
 use Rattle.layout.specs.Layout.{admissible, Admissible}
 use Rattle.layout.proofs.Facts.{admissible-facts, facts-admissible}
 use Rattle.image.specs.Image.{headerLength, live, ownLayout, ownState, ownTray, ownVolume, wellFormed, sameLayout, expected, readRefusal, readTray, readPart}
+use Rattle.image.proofs.SameLayout.{same-facts}
 use Rattle.image.proofs.Forms.{WellFormed, formed-facts, malformed}
-
--- layouts with the same four numbers
-module _ (l m : Layout) where
-  pub same-facts : sameLayout l m ≡ true → l ≡ m
-  unfolding sameLayout
-  same-facts h =
-      let h3 = both _ (eqb (l .helpers) (m .helpers)) h in
-      let h2 = both _ (eqb (l .dimension) (m .dimension)) (h3 .0) in
-      let h1 = both (eqb (l .racks) (m .racks)) (eqb (l .size) (m .size)) (h2 .0) in
-      λ i. record {
-        racks = eqb-true (l .racks) (m .racks) (h1 .0) i;
-        size = eqb-true (l .size) (m .size) (h1 .1) i;
-        dimension = eqb-true (l .dimension) (m .dimension) (h2 .1) i;
-        helpers = eqb-true (l .helpers) (m .helpers) (h3 .1) i;
-      }
-
-  pub same-self : l ≡ m → sameLayout l m ≡ true
-  unfolding sameLayout
-  same-self e =
-      simp (
-        eq-eqb _ _ (ap (λ (x : Layout). x .racks) e),
-        eq-eqb _ _ (ap (λ (x : Layout). x .size) e),
-        eq-eqb _ _ (ap (λ (x : Layout). x .dimension) e),
-        eq-eqb _ _ (ap (λ (x : Layout). x .helpers) e),
-      )
-
-  pub differ : (l ≡ m → ⊥) → false ≡ sameLayout l m
-  differ d = not-true-false (sameLayout l m) (λ e. d (same-facts e))
-
-  pub same-last : l .racks ≡ m .racks → l .size ≡ m .size → l .dimension ≡ m .dimension → eqb (l .helpers) (m .helpers) ≡ sameLayout l m
-  unfolding sameLayout
-  same-last e f g = simp (eq-eqb _ _ e, eq-eqb _ _ f, eq-eqb _ _ g)
 
 module _ (l : Layout) (volume : ℕ) (s : List ℕ) where
   pub read-1 : (a : Bool) → a ≡ admissible l → not a ≡ true → 1 ≡ readRefusal l volume s

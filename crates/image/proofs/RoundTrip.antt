@@ -1,7 +1,7 @@
 -- What was written live is read back: no refusal, that tray and those symbols, whatever the lent bytes held.
 -- Assumes nothing.
 use mathlib.Core.Path.{_≡_, refl, sym, ap, _∙_}
-use mathlib.Core.Bool.{true, false}
+use mathlib.Core.Bool.{true}
 use mathlib.Core.List.{List, _++_}
 use Prim.Native.Nat.{ℕ, _^_, _<_}
 use lib.ListN.{length}
@@ -10,7 +10,8 @@ use Rattle.layout.proofs.Facts.{facts-admissible}
 use Rattle.image.specs.Image.{live, header, writeRefusal, writeBuffer, ownLayout, readRefusal, readTray, readPart}
 use Rattle.image.proofs.WriteGrounds.{Writable, writable, written}
 use Rattle.image.proofs.Forms.{facts-formed}
-use Rattle.image.proofs.ReadGrounds.{same-self, read-0, given-symbols, given-tray}
+use Rattle.image.proofs.SameLayout.{same-self}
+use Rattle.image.proofs.ReadGrounds.{read-0, given-symbols, given-tray}
 use Rattle.image.proofs.Written.{its-layout, its-state, its-tray, its-volume, its-symbols, well-formed}
 
 module _ (l : Layout) (tray volume : ℕ) (symbols old : List ℕ) (v : volume < 2 ^ 32)

@@ -1,11 +1,9 @@
 -- The bench book's image by computation: live tray 1 of (2, 1, 1, 1), volume 7, symbol A7. Written, read, and read as what it is not.
 -- Assumes nothing.
 use mathlib.Core.Path.{_≡_, refl}
-use mathlib.Core.Bool.{true, false, cond, _&&_, _||_}
-use mathlib.Core.List.{List, [], _∷_, _++_}
+use mathlib.Core.List.{List, [], _∷_}
 use Prim.Native.Nat.{ℕ}
-use lib.Dec.{leb, ltb, eqb}
-use lib.ListN.{length, drop, replicate, set}
+use lib.ListN.{drop, replicate, set}
 use Rattle.lists.specs.Lists.{all}
 use Rattle.layout.specs.declared.Layout.{Layout}
 use Rattle.layout.specs.Layout.{admissible, sizeAllowed}

@@ -1,7 +1,7 @@
 -- What a written image says of itself is what it was written with, and it is well formed.
 -- Assumes nothing.
 use mathlib.Core.Path.{_≡_, sym, ap, subst, _∙_}
-use mathlib.Core.Bool.{true, _||_}
+use mathlib.Core.Bool.{true}
 use mathlib.Core.List.{List, _++_}
 use mathlib.Core.Logic.{⊎-elim}
 use Prim.Native.Nat.{ℕ, _+_, _*_, _/_, _%_, _^_, _<_}
@@ -17,7 +17,6 @@ use Rattle.layout.specs.Layout.{trays, layers, Admissible}
 use Rattle.layout.proofs.Facts.{bounds}
 use Rattle.image.specs.Image.{headerLength, live, demonstration, little, header, stateAllowed, volumeAllowed, ownLayout, ownState, ownTray, ownVolume, begins}
 use Rattle.image.proofs.Bytes.{header-length, begins-append}
-use Rattle.image.proofs.Ranges.{InRange}
 use Rattle.image.proofs.WriteGrounds.{Writable}
 use Rattle.image.proofs.Forms.{WellFormed}
 

@@ -1,6 +1,6 @@
 -- Tray images: a header of 24 bytes by document 01's table, then the symbols; and what writing and reading give.
 -- Assumes nothing.
-use mathlib.Core.Bool.{Bool, true, false, cond, _&&_, _||_}
+use mathlib.Core.Bool.{Bool, true, cond, _&&_, _||_}
 use mathlib.Core.List.{List, [], _∷_, _++_}
 use Prim.Native.Nat.{ℕ, zero, suc, _+_, _*_, _/_, _%_}
 use lib.Dec.{leb, ltb, eqb}
@@ -91,19 +91,23 @@ ownTray s = getD s 8 0
 abbrev pub ownVolume : List ℕ → ℕ
 ownVolume s = numberAt 12 4 s
 
+-- the header of all this
+abbrev pub ownHeader : List ℕ → List ℕ
+ownHeader s = header (ownLayout s) (ownTray s) (ownState s) (ownVolume s)
+
 -- whether a list begins with another
 unfoldable pub begins : List ℕ → List ℕ → Bool
 begins s front = all (λ i. eqb (getD s i 0) (getD front i 0)) (length front)
 
 -- an image that is not malformed, all by what it says of itself: a whole header, an admissible layout, the length 24 + L, a tray below n, a state and
--- volume allowed, and no other header than the one of all this
+-- volume allowed, and no other header than the one of what it says
 unfoldable pub wellFormed : List ℕ → Bool
 wellFormed s =
     leb headerLength (length s)
     && admissible (ownLayout s)
     && eqb (length s) (headerLength + layers (ownLayout s))
     && inRange (ownLayout s) (ownTray s) (ownState s) (ownVolume s)
-    && begins s (header (ownLayout s) (ownTray s) (ownState s) (ownVolume s))
+    && begins s (ownHeader s)
 
 -- the same four numbers
 unfoldable pub sameLayout : Layout → Layout → Bool

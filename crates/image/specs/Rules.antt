@@ -4,7 +4,7 @@ use mathlib.Core.Path.{_≡_}
 use mathlib.Core.Bool.{true}
 use mathlib.Core.List.{List}
 use Prim.Native.Nat.{ℕ, _+_, _≤_, _<_}
-use lib.ListN.{length, getD}
+use lib.ListN.{length}
 use Rattle.layout.specs.Layout.{trays, layers, admissible}
 use Rattle.image.specs.Image.{headerLength, edition, numberAt, stateAllowed, volumeAllowed, ownLayout, ownState, ownTray, ownVolume}
 

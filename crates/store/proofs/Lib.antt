@@ -1,4 +1,3 @@
 pub mod Trays
 pub mod Answers
 pub mod Settled
-pub mod Examples

@@ -1,6 +1,6 @@
 use mathlib.Core.Path.{ap}
 use Rattle.layout.specs.declared.Layout.{Layout}
-use Rattle.image.proofs.ReadGrounds.{differ, same-last}
+use Rattle.image.proofs.SameLayout.{differ, same-last}
 use Rattle.image.proofs.same_layout.Statement.{statement}
 use Rattle.image.proofs.same_layout.Tie as tie
 

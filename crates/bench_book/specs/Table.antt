@@ -1,0 +1,71 @@
+-- The starred lines of document 01's bench book as one table, and what it claims of each.
+-- Assumes nothing.
+use mathlib.Core.Path.{_≡_}
+use mathlib.Core.List.{List, [], _∷_, _++_}
+use Prim.Native.Nat.{ℕ}
+use lib.IntN.{ℤ, pos, negsuc}
+use lib.ListN.{replicate}
+use Rattle.symbol.specs.Elem.{gf256}
+use Rattle.layout.specs.declared.Layout.{Layout}
+use Rattle.layout.specs.Layout.{Numbers, numbersOf, measured}
+use Rattle.store.specs.Store.{Stores}
+use Rattle.share.specs.Share.{shareOf}
+use Rattle.margin.specs.Margin.{marginRefusal, marginOf}
+
+-- a line of the bench book
+pub data Line : Type 0 where
+  -- a layout, and what the layout call answers: the refusal, L, r and the symbols that cross
+  measures : Layout → ℕ → ℕ → ℕ → ℕ → Line
+  -- data, and the codeword they are stored as
+  stores : Layout → List ℕ → List ℕ → Line
+  -- a host rack, a helper's rack, and its share
+  shares : Layout → ℕ → List ℕ → List ℕ → Line
+  -- the states of the trays, and the margin
+  margins : Layout → List ℕ → ℤ → Line
+
+abbrev pub Holds : Line → Type 0
+Holds (measures l refusal total r cost) = numbersOf (measured l) ≡ record { refusal = refusal; layers = total; checks = r; traffic = cost }
+Holds (stores l given c) = Stores gf256 l given c
+Holds (shares l host rack share) = shareOf gf256 l host rack ≡ share
+Holds (margins l states margin) = (marginRefusal l states ≡ 0) × (marginOf l states ≡ margin)
+
+abbrev pub AllHold : List Line → Type 0
+AllHold [] = Unit
+AllHold (line ∷ lines) = Holds line × AllHold lines
+
+abbrev pub cabinet : ℕ → ℕ → ℕ → ℕ → Layout
+cabinet b u k d = record { racks = b; size = u; dimension = k; helpers = d }
+
+-- (3, 1, 1, 2): tray after tray
+abbrev pub tray0 : List ℕ
+tray0 = 0x14 ∷ 0x14 ∷ 0x18 ∷ 0x18 ∷ 0x24 ∷ 0x24 ∷ 0x28 ∷ 0x28 ∷ []
+
+abbrev pub tray1 : List ℕ
+tray1 = 0x11 ∷ 0x12 ∷ 0x11 ∷ 0x12 ∷ 0x21 ∷ 0x22 ∷ 0x21 ∷ 0x22 ∷ []
+
+abbrev pub tray2 : List ℕ
+tray2 = 0x05 ∷ 0x06 ∷ 0x09 ∷ 0x0A ∷ 0x05 ∷ 0x06 ∷ 0x09 ∷ 0x0A ∷ []
+
+abbrev pub present : ℕ → ℕ → List ℕ
+present live absent = replicate live 1 ++ replicate absent 0
+
+abbrev pub benchBook : List Line
+benchBook =
+    measures (cabinet 4 3 8 3) 0 16 4 24
+    ∷ measures (cabinet 4 4 8 3) 1 0 0 0
+    ∷ measures (cabinet 4 3 2 3) 1 0 0 0
+    ∷ measures (cabinet 4 3 10 3) 1 0 0 0
+    ∷ measures (cabinet 4 3 8 4) 1 0 0 0
+    ∷ measures (cabinet 4 3 8 1) 1 0 0 0
+    ∷ measures (cabinet 10 3 24 9) 0 1024 6 4608
+    ∷ measures (cabinet 11 3 27 10) 1 0 0 0
+    ∷ stores (cabinet 2 1 1 1) (0xA7 ∷ []) (0xA7 ∷ 0xA7 ∷ [])
+    ∷ stores (cabinet 3 1 1 2) tray0 (tray0 ++ tray1 ++ tray2)
+    ∷ shares (cabinet 3 1 1 2) 0 tray1 (0x03 ∷ 0x03 ∷ 0x03 ∷ 0x03 ∷ [])
+    ∷ shares (cabinet 3 1 1 2) 0 tray2 (0x03 ∷ 0x03 ∷ 0x03 ∷ 0x03 ∷ [])
+    -- 8 symbols cross
+    ∷ measures (cabinet 3 1 1 2) 0 8 2 8
+    ∷ shares (cabinet 3 1 1 2) 1 tray0 (0x0C ∷ 0x0C ∷ 0x0C ∷ 0x0C ∷ [])
+    ∷ margins (cabinet 4 3 8 3) (present 7 5) (negsuc 0)
+    ∷ margins (cabinet 4 3 8 3) (present 12 0) (pos 4)
+    ∷ []
