@@ -1,6 +1,6 @@
 -- What the boundary shows of a call is the call's contract.
 -- Assumes nothing.
-use mathlib.Core.Path.{_≡_, sym, ap, ap₂, _∙_}
+use mathlib.Core.Path.{_≡_, sym, ap, _∙_, subst}
 use mathlib.Core.Bool.{cond}
 use mathlib.Core.List.{List, []}
 use Prim.Native.Nat.{ℕ}
@@ -11,7 +11,12 @@ use lib.ListN.{length, take, drop}
 use lib.Seq.{take-all}
 use Rattle.layout.specs.declared.Layout.{Layout}
 use Rattle.image.specs.Image.{headerLength, readRefusal, readTray, readPart}
-use Rattle.gesarumbo.specs.Boundary.{ReadShown}
+use Rattle.layout.specs.declared.Tray.{Tray}
+use Rattle.repair.specs.declared.Repaired.{Repaired}
+use Rattle.repair.specs.Repair.{RepairAnswer}
+use Rattle.symbol.specs.Elem.{gf256}
+use Rattle.gesarumbo.specs.declared.RepairNumbers.{RepairNumbers}
+use Rattle.gesarumbo.specs.Boundary.{repairNumbers, ReadShown, RepairShown}
 
 module _ (l : Layout) (volume : ℕ) (image : List ℕ) where
   pub read-refused : (n : ℕ) → n ≡ readRefusal l volume image → (n ≡ 0 → ⊥) →
@@ -34,3 +39,15 @@ module _ (l : Layout) (volume : ℕ) (image : List ℕ) where
         length-is = ap length p;
         part-is = ap (λ k. take k (drop headerLength image)) (ap length q) ∙ take-all _ (drop headerLength image) (le-refl _) ∙ simp r;
       }
+
+-- a tray's number is all there is of it
+tray-is : (t : Tray) (n : ℕ) → t .0 ≡ n → t ≡ record { 0 = n }
+tray-is t n e = λ i. record { 0 = e i }
+
+pub repair-shown : (l : Layout) (lost : ℕ) (helpers shares host : List ℕ) (first budget : ℕ) (old new : List ℕ) (t : Tray) (a : Repaired) (r : RepairNumbers) → t .0 ≡ lost →
+    RepairAnswer gf256 l t helpers shares host first budget old new a → r ≡ repairNumbers a → RepairShown l lost helpers shares host first budget old new r
+repair-shown l lost helpers shares host first budget old new t a r e right shown = record {
+  answer = a;
+  right = subst (λ t. RepairAnswer gf256 l t helpers shares host first budget old new a) (tray-is t lost e) right;
+  shown = shown;
+}

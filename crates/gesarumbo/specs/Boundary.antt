@@ -18,6 +18,9 @@ use Rattle.margin.specs.declared.LossMargin.{LossMargin}
 use Rattle.margin.specs.Margin.{refusalOf, valueOf}
 use Rattle.gesarumbo.specs.declared.MarginNumbers.{MarginNumbers}
 use Rattle.gesarumbo.specs.declared.MeasureNumbers.{MeasureNumbers}
+use Rattle.repair.specs.declared.Repaired.{Repaired}
+use Rattle.repair.specs.Repair.{report, RepairAnswer}
+use Rattle.gesarumbo.specs.declared.RepairNumbers.{RepairNumbers}
 use Rattle.gesarumbo.specs.declared.TestNumbers.{TestNumbers}
 
 abbrev pub measureNumbers : Measured → MeasureNumbers
@@ -29,6 +32,10 @@ testNumbers a = record { refusal = tested a .refusal; verdict = tested a .verdic
 
 abbrev pub marginNumbers : LossMargin → MarginNumbers
 marginNumbers a = record { refusal = refusalOf a; margin = valueOf a }
+
+abbrev pub repairNumbers : Repaired → RepairNumbers
+repairNumbers a =
+    record { refusal = report a .refusal; groups = report a .groupsDone; crossed = report a .crossed; remaining = report a .remaining }
 
 -- the numbers are those of an answer that the test's contract allows
 pub record TestShown (l : Layout) (c : List ℕ) (r : TestNumbers) : Type 0 where
@@ -43,3 +50,9 @@ pub record ReadShown (l : Layout) (volume : ℕ) (image : List ℕ) (r : ImageNu
   pub offset-is : r .offset ≡ cond (eqb (readRefusal l volume image) 0) headerLength 0
   pub length-is : r .length ≡ length (readPart l volume image)
   pub part-is : take (r .length) (drop (r .offset) image) ≡ readPart l volume image
+
+-- the numbers are those of an answer that the repair's contract allows
+pub record RepairShown (l : Layout) (lost : ℕ) (helpers shares host : List ℕ) (first budget : ℕ) (old new : List ℕ) (r : RepairNumbers) : Type 0 where
+  pub answer : Repaired
+  pub right : RepairAnswer gf256 l (record { 0 = lost }) helpers shares host first budget old new answer
+  pub shown : r ≡ repairNumbers answer

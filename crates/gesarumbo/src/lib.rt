@@ -6,6 +6,7 @@ use layout::Measured;
 use layout::Rack;
 use layout::Tray;
 use margin::LossMargin;
+use repair::Repaired;
 ghost use mathlib.Core.Path.{_≡_};
 ghost use lib.ListN.{length};
 ghost use Rattle.symbol.specs.Elem.{gf256};
@@ -15,7 +16,7 @@ ghost use Rattle.store.specs.Store.{StoreAnswer};
 ghost use Rattle.margin.specs.Margin.{marginRefusal, marginValue};
 ghost use Rattle.share.specs.Share.{shareRefusal, shareBuffer};
 ghost use Rattle.image.specs.Image.{writeRefusal, writeBuffer};
-ghost use Rattle.gesarumbo.specs.Boundary.{measureNumbers, testNumbers, marginNumbers, TestShown, ReadShown};
+ghost use Rattle.gesarumbo.specs.Boundary.{measureNumbers, testNumbers, marginNumbers, repairNumbers, TestShown, ReadShown, RepairShown};
 
 #[repr(C)]
 pub struct MeasureNumbers {
@@ -31,6 +32,14 @@ pub struct TestNumbers {
     pub verdict: u32,
     pub layer: u32,
     pub check: u32,
+}
+
+#[repr(C)]
+pub struct RepairNumbers {
+    pub refusal: u32,
+    pub groups: u64,
+    pub crossed: u64,
+    pub remaining: u64,
 }
 
 #[repr(C)]
@@ -97,6 +106,30 @@ fn test_numbers(answer: Tested) -> TestNumbers
     }
 }
 
+// The numbers of an answer of a repair.
+fn repair_numbers(answer: Repaired) -> RepairNumbers
+    ensures { λ r. ⌜ r ≡ repairNumbers answer ⌝ }
+{
+    match answer {
+        Repaired::Done {
+            groups,
+            crossed,
+            remaining,
+        } => RepairNumbers {
+            refusal: 0,
+            groups: groups,
+            crossed: crossed,
+            remaining: remaining,
+        },
+        Repaired::Refused(e) => RepairNumbers {
+            refusal: e as u32,
+            groups: 0,
+            crossed: 0,
+            remaining: 0,
+        },
+    }
+}
+
 // The numbers of an answer of the margin call.
 fn margin_numbers(answer: LossMargin) -> MarginNumbers
     ensures { λ r. ⌜ r ≡ marginNumbers answer ⌝ }
@@ -139,6 +172,31 @@ pub extern "C" fn gesarumbo_share(
     ensures buffer { λ _. ⌜ now (share .exit) ≡ shareBuffer gf256 l host helper (now (rack .entry)) (now (share .entry)) ⌝ }
 {
     share::share(l, Rack::of(host), Rack::of(helper), rack, share) as u32
+}
+
+#[no_mangle]
+pub extern "C" fn gesarumbo_repair(
+    l: Layout,
+    lost: u32,
+    helpers: &[u32],
+    shares: &[u8],
+    host: &[u8],
+    spare: &mut [u8],
+    first: u64,
+    budget: u64,
+) -> RepairNumbers
+    ensures { λ r. ⌜ RepairShown l lost (now (helpers .entry)) (now (shares .entry)) (now (host .entry)) first budget (now (spare .entry)) (now (spare .exit)) r ⌝ }
+{
+    repair_numbers(repair::repair(
+        l,
+        Tray::of(lost),
+        helpers,
+        shares,
+        host,
+        spare,
+        first,
+        budget,
+    ))
 }
 
 #[no_mangle]

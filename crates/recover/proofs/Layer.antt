@@ -29,7 +29,7 @@ use Rattle.layout.specs.Layout.{trays, checks, layers, trayLimit, Admissible}
 use Rattle.codeword.specs.Codeword.{symbolAt, pointAt}
 use Rattle.codeword.proofs.Usable.{usable}
 use Rattle.codeword.proofs.Buffers.{points-distinct}
-use Rattle.recover.specs.Inner.{entryOf, Listed, restoredAt, LayerFits, Says, survivorAt, erasedAt, checkOf, Room, Solved}
+use Rattle.recover.specs.Inner.{entryOf, Listed, restoredAt, LayerFits, Says, survivorAt, erasedAt, checkOf, checkBoth, RestMeets, Room, Solved}
 use Rattle.recover.proofs.Restored.{low-checks}
 
 -- ---- what a test says
@@ -123,7 +123,7 @@ module _ (l : Layout) (es c : List ℕ) (j : ℕ) where
     module _ (h : j < layers l) (ps word qs v : List ℕ) (ps-long : length ps ≡ trays l) (qs-long : length qs ≡ length es) (v-long : length v ≡ length es)
         (s : Solved l es c j ps word qs v) where
       -- a check of the layer restored: that of the survivors and that of the symbols solved
-      layer-check : (t : ℕ) → check ops (pointAt gf256 l j) (trays l) (λ x. restoredAt gf256 l es c x j) t ≡ ops .add (checkOf ps word t) (checkOf qs v t)
+      layer-check : (t : ℕ) → check ops (pointAt gf256 l j) (trays l) (λ x. restoredAt gf256 l es c x j) t ≡ checkBoth ps word qs v t
       unfolding restored recover pointAt erasedAt survivorAt checkOf
       layer-check t =
           check-fill ops laws (pointAt gf256 l j) (trays l) (entryOf es) (erasedAt l es c j) (λ y. symbolAt gf256 l c y j) (length es) t (listed .places)
@@ -131,10 +131,7 @@ module _ (l : Layout) (es c : List ℕ) (j : ℕ) where
           (ap (λ n. check ops (symbolsOf ps) n (symbolsOf word) t) ps-long ∙ check-same (trays l) _ _ _ _ t (s .points-are) (s .word-is))
           (ap (λ n. check ops (symbolsOf qs) n (symbolsOf v) t) qs-long ∙ check-same (length es) _ _ _ _ t (s .listed-are) (s .solved)))
 
-      abbrev Rest : Type 0
-      Rest = (t : ℕ) → length v ≤ t → t < checks l → ops .add (checkOf ps word t) (checkOf qs v t) ≡ ops .zero
-
-      rest-fits : Rest → LayerFits gf256 l es c j
+      rest-fits : RestMeets ps word qs v (checks l) → LayerFits gf256 l es c j
       rest-fits w t b = go (decLt t (length es))
         where
           go : Dec (t < length es) → check ops (pointAt gf256 l j) (trays l) (λ x. restoredAt gf256 l es c x j) t ≡ ops .zero
@@ -142,8 +139,7 @@ module _ (l : Layout) (es c : List ℕ) (j : ℕ) where
           go (no q) = layer-check t ∙ w t (omega arith) b
 
       -- the checks that were not used for solving decide
-      pub layer-says : (b : Bool) (r : ℕ) → r ≡ checks l → Says b ((t : ℕ) → length v ≤ t → t < r → ops .add (checkOf ps word t) (checkOf qs v t) ≡ ops .zero) →
-          Says b (LayerFits gf256 l es c j)
+      pub layer-says : (b : Bool) (r : ℕ) → r ≡ checks l → Says b (RestMeets ps word qs v r) → Says b (LayerFits gf256 l es c j)
       layer-says b r e w = says-same b (λ p. rest-fits (λ t i k. p t i (omega arith))) (λ p t i k. sym (layer-check t) ∙ p t (omega arith)) w
 
 -- ---- what the loops go by

@@ -27,7 +27,8 @@ module _ {A : Type 0} (f : Field A) (l : Layout) (es : List ℕ) where
   both c c′ d d′ n n′ p p′ s e e′ = let w = p .done e in p′ .none e′ d (w .codeword) (through c c′ d s (w .survivors))
 
   -- two recoveries whose buffers are alike outside the trays erased answer the same and, where done, leave the same bytes
-  pub never-looks : (c c′ d d′ : List ℕ) (n n′ : ℕ) → RecoverAnswer f l es c d n → RecoverAnswer f l es c′ d′ n′ → Survivors l es c c′ → (n ≡ n′) × (n ≡ 0 → d ≡ d′)
+  pub never-looks : (c c′ d d′ : List ℕ) (n n′ : ℕ) → RecoverAnswer f l es c d n → RecoverAnswer f l es c′ d′ n′ → Survivors l es c c′ →
+      (n ≡ n′) × (n ≡ 0 → d ≡ d′)
   never-looks c c′ d d′ n n′ p p′ s = (
     number,
     λ e. let w = p .done e in p′ .done (sym number ∙ e) .only d (w .codeword) (through c c′ d s (w .survivors)),

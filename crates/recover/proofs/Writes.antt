@@ -20,28 +20,32 @@ use Rattle.codeword.specs.Codeword.{symbolAt, pointAt}
 use Rattle.recover.specs.Inner.{entryOf, restoredAt, erasedAt, Erasing, Solved, Cells, PutTo, LayerRestored, RestoredTo}
 
 module _ (total : ℕ) (es v c : List ℕ) (j : ℕ) where
+  -- layer j as it was
+  abbrev old : ℕ → Elem
+  old y = elem (getD c (y * total + j) 0)
+
   pub put-none : PutTo total es v c j 0 c
-  put-none = record { long = refl; here = λ x. sym (fill-zero (entryOf es) (symbolsOf v) (λ y. elem (getD c (y * total + j) 0)) x); others = λ x i h n. refl }
+  put-none = record { long = refl; here = λ x. sym (fill-zero (entryOf es) (symbolsOf v) old x); others = λ x i h n. refl }
 
   pub put-more : Cells total es c j → (k at : ℕ) (d : List ℕ) → k < length es → at ≡ getD es k 0 * total + j → PutTo total es v c j k d →
       PutTo total es v c j (k + 1) (set d at (getD v k 0))
   unfolding symbolsOf
   put-more cells k at d h e w = record {
     long = length-set d at (getD v k 0) ∙ w .long;
-    here = λ x. subst (λ m. elem (getD (set d at (getD v k 0)) (x * total + j) 0) ≡ fill (entryOf es) (symbolsOf v) m (λ y. elem (getD c (y * total + j) 0)) x) (sym (add-one k)) (go x (ℕ-discrete x (getD es k 0)));
+    here = λ x. subst (λ m. elem (getD (set d at (getD v k 0)) (x * total + j) 0) ≡ fill (entryOf es) (symbolsOf v) m old x) (sym (add-one k)) (go x (ℕ-discrete x (getD es k 0)));
     others = λ x i hi n. getD-set-other d at (x * total + i) (getD v k 0) 0 (λ q. n (cell-same total x (getD es k 0) i j hi (cells .layer-in) (q ∙ e) .1)) ∙ w .others x i hi n;
   }
     where
       inside : at < length d
       inside = subst (λ n. at < n) (sym (w .long)) (subst (λ y. y < length c) (sym e) (cells .cells-in k h))
 
-      go : (x : ℕ) → Dec (x ≡ getD es k 0) → elem (getD (set d at (getD v k 0)) (x * total + j) 0) ≡ fill (entryOf es) (symbolsOf v) (suc k) (λ y. elem (getD c (y * total + j) 0)) x
+      go : (x : ℕ) → Dec (x ≡ getD es k 0) → elem (getD (set d at (getD v k 0)) (x * total + j) 0) ≡ fill (entryOf es) (symbolsOf v) (suc k) old x
       go x (yes q) =
           ap elem (subst (λ y. getD (set d at (getD v k 0)) y 0 ≡ getD v k 0) (e ∙ ap (λ y. y * total + j) (sym q)) (getD-set-same d at (getD v k 0) 0 inside))
-          ∙ sym (fill-here (entryOf es) (symbolsOf v) (λ y. elem (getD c (y * total + j) 0)) k x q)
+          ∙ sym (fill-here (entryOf es) (symbolsOf v) old k x q)
       go x (no q) =
           ap elem (getD-set-other d at (x * total + j) (getD v k 0) 0 (λ z. q (cell-same total x (getD es k 0) j j (cells .layer-in) (cells .layer-in) (z ∙ e) .0)))
-          ∙ w .here x ∙ sym (fill-there (entryOf es) (symbolsOf v) (λ y. elem (getD c (y * total + j) 0)) k x q)
+          ∙ w .here x ∙ sym (fill-there (entryOf es) (symbolsOf v) old k x q)
 
 -- the cells of a layer
 pub layer-cells : (l : Layout) (total : ℕ) (es c : List ℕ) (j : ℕ) → Erasing l total es c → j < layers l → Cells total es c j

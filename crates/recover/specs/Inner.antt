@@ -57,6 +57,14 @@ erasedAt l es c j = erased ops (pointAt gf256 l j) (trays l) (entryOf es) (lengt
 unfoldable pub checkOf : List ℕ → List ℕ → ℕ → Elem
 checkOf points word = check ops (symbolsOf points) (length points) (symbolsOf word)
 
+-- the check t of a word and of symbols at other points together
+abbrev pub checkBoth : List ℕ → List ℕ → List ℕ → List ℕ → ℕ → Elem
+checkBoth points word listed v t = ops .add (checkOf points word t) (checkOf listed v t)
+
+-- the checks from as many as there are symbols v up to r are zero
+abbrev pub RestMeets : List ℕ → List ℕ → List ℕ → List ℕ → ℕ → Type 0
+RestMeets points word listed v r = (t : ℕ) → length v ≤ t → t < r → checkBoth points word listed v t ≡ ops .zero
+
 -- the lengths of the buffers in which a layer is solved
 pub record Room (l : Layout) (es points word sums listed scratch v : List ℕ) : Type 0 where
   pub points-long : length points ≡ trays l

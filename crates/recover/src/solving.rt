@@ -10,7 +10,7 @@ ghost use Rattle.symbol.specs.Elem.{elem, ops, gf256};
 ghost use Rattle.lagrange.specs.Solve.{symbolsOf};
 ghost use Rattle.layout.specs.Layout.{trays, checks, layers, trayLimit, Admissible};
 ghost use Rattle.codeword.specs.Codeword.{pointAt};
-ghost use Rattle.recover.specs.Inner.{Erasing, LayerFits, Says, survivorAt, checkOf, Room, Solved};
+ghost use Rattle.recover.specs.Inner.{Erasing, LayerFits, Says, survivorAt, checkOf, RestMeets, Room, Solved};
 
 // The most trays of a cabinet, for the buffers in which a layer is solved.
 const TRAYS: usize = layout::TRAYS as usize;
@@ -85,11 +85,11 @@ fn check_sums(points: &[u8], word: &[u8], sums: &mut [u8])
     requires { ⌜ (length (now word) ≡ length (now points)) × (length (now sums) ≤ trayLimit) ⌝ }
     ensures { λ _. ⌜ ((t : ℕ) → t < length (now (sums .entry)) → symbolsOf (now (sums .exit)) t ≡ checkOf (now (points .entry)) (now (word .entry)) t) ⌝ }
 {
-    let mut t = 0usize;
-    while t < sums.len() {
-        let sum = check_sum(points, word, t as u32);
-        sums[t] = sum.0;
-        t += 1;
+    let mut i = 0usize;
+    while i < sums.len() {
+        let sum = check_sum(points, word, i as u32);
+        sums[i] = sum.0;
+        i += 1;
     }
 }
 
@@ -120,7 +120,7 @@ pub fn solve_layer(
 // Whether the symbols v at the points listed meet the checks from the first that was not used for solving.
 fn rest_meets(points: &[u8], word: &[u8], listed: &[u8], v: &[u8], r: u32) -> bool
     requires { ⌜ (length (now word) ≡ length (now points)) × (length (now v) ≡ length (now listed)) × (length (now v) ≤ r) × (r ≤ trayLimit) ⌝ }
-    ensures { λ b. ⌜ Says b ((t : ℕ) → length (now (v .entry)) ≤ t → t < r → ops .add (checkOf (now (points .entry)) (now (word .entry)) t) (checkOf (now (listed .entry)) (now (v .entry)) t) ≡ ops .zero) ⌝ }
+    ensures { λ b. ⌜ Says b (RestMeets (now (points .entry)) (now (word .entry)) (now (listed .entry)) (now (v .entry)) r) ⌝ }
 {
     let mut t = v.len() as u32;
     while t < r {

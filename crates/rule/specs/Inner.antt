@@ -1,17 +1,25 @@
--- The formula of what the rule fixes. Nothing here has to be believed.
+-- What inner functions are told, and the formula of what the rule fixes. Nothing here has to be believed.
 -- Assumes nothing.
+use mathlib.Core.Path.{_≡_}
 use mathlib.Core.List.{List}
-use Prim.Native.Nat.{ℕ, _/_}
-use lib.ListN.{getD}
+use Prim.Native.Nat.{ℕ, _*_, _/_, _<_}
+use lib.ListN.{length, getD}
 use Rattle.algebra.specs.Field.{Ops}
 use Rattle.algebra.specs.Coding.{Coding}
 use Rattle.algebra.specs.Shape.{Field}
 use Rattle.algebra.specs.Layers.{digit, layerOf}
 use Rattle.algebra.specs.Repair.{hostSum}
 use Rattle.layout.specs.declared.Layout.{Layout}
-use Rattle.layout.specs.Layout.{digits, parityRacks}
+use Rattle.layout.specs.Layout.{digits, layers, parityRacks, Admissible}
 use Rattle.codeword.specs.Codeword.{shapeOf}
 use Rattle.rule.specs.Rule.{groupAt, sharedSymbol, soundSum}
+
+-- a layer of a rack that lies in trays of so many layers
+pub record InRack (l : Layout) (total : ℕ) (rack : List ℕ) (j : ℕ) : Type 0 where
+  pub adm : Admissible l
+  pub total-is : total ≡ layers l
+  pub long : length rack ≡ l .size * layers l
+  pub layer-in : j < layers l
 
 module _ {A : Type 0} (f : Field A) (l : Layout) (x : ℕ) (helpers shares : List ℕ) where
   -- the host's rack sum in the layer of group p with digit a

@@ -7,13 +7,6 @@ use lib.ListN.{length}
 use Rattle.layout.specs.declared.Layout.{Layout}
 use Rattle.layout.specs.Layout.{layers, groups, Admissible}
 
--- what `rack_sum` is told
-pub record InRack (l : Layout) (total : ℕ) (rack : List ℕ) (j : ℕ) : Type 0 where
-  pub adm : Admissible l
-  pub total-is : total ≡ layers l
-  pub long : length rack ≡ l .size * layers l
-  pub layer-in : j < layers l
-
 -- what `share_symbol` is told
 pub record Summing (l : Layout) (total h : ℕ) (rack : List ℕ) (p : ℕ) : Type 0 where
   pub adm : Admissible l

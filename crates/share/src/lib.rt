@@ -7,8 +7,9 @@ ghost use mathlib.Core.Path.{_≡_};
 ghost use lib.ListN.{length};
 ghost use Rattle.symbol.specs.Elem.{elem, gf256};
 ghost use Rattle.rule.specs.Rule.{weightedSum, shareSymbol};
+ghost use Rattle.rule.specs.Inner.{InRack};
 ghost use Rattle.share.specs.Share.{shareOf, shareRefusal, shareBuffer};
-ghost use Rattle.share.specs.Inner.{InRack, Summing, Sending};
+ghost use Rattle.share.specs.Inner.{Summing, Sending};
 
 // The sum of a rack's symbols in layer j.
 fn rack_sum(l: Layout, total: u32, rack: &[u8], j: u32) -> Symbol

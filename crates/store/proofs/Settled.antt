@@ -11,7 +11,8 @@ use Rattle.store.specs.Store.{storeRefusal, StoreAnswer}
 
 module _ {A : Type 0} (f : Field A) (l : Layout) (given : List ℕ) where
   -- two calls over the same data, with buffers of the same length, answer the same and, where done, leave the same bytes
-  pub old-bytes-unread : (c c′ d d′ : List ℕ) (n n′ : ℕ) → StoreAnswer f l given c d n → StoreAnswer f l given c′ d′ n′ → length c ≡ length c′ → (n ≡ n′) × (n ≡ 0 → d ≡ d′)
+  pub old-bytes-unread : (c c′ d d′ : List ℕ) (n n′ : ℕ) → StoreAnswer f l given c d n → StoreAnswer f l given c′ d′ n′ → length c ≡ length c′ →
+      (n ≡ n′) × (n ≡ 0 → d ≡ d′)
   old-bytes-unread c c′ d d′ n n′ p p′ e = (same, λ z. let w = p .done z in p′ .done (sym same ∙ z) .only d (w .codeword) (w .begins))
     where
       same : n ≡ n′

@@ -61,8 +61,8 @@ fn parity_in(l: Layout, out: &mut [u8], list: &mut [u32])
     requires { ⌜ Writable l (now out) × (length (now list) ≡ checks l) ⌝ }
     ensures { λ _. ⌜ RestoredTo l (parityTrays l) (now (out .entry)) (layers l) (now (out .exit)) ⌝ }
 {
-    let k = l.dimension;
-    count_from(k, list);
+    let first = l.dimension;
+    count_from(first, list);
     recover::restore(l, layout::layer_count(l), out, list);
 }
 

@@ -116,6 +116,33 @@ fn shares() {
     share(1, 0, &[0x14, 0x14, 0x18, 0x18, 0x24, 0x24, 0x28, 0x28]);
 }
 
+// (2, 3, 3, 1): the lost tray is the exclusive or of the other five.
+fn repairing() {
+    let host = [0x00, 0x10, 0x20];
+    let helper = [0x01, 0x02, 0x04];
+    let mut given = [0u8; 1];
+    share::share(
+        cabinet(2, 3, 3, 1),
+        Rack::of(0),
+        Rack::of(1),
+        &helper,
+        &mut given,
+    );
+    let mut spare = [0u8; 1];
+    repair::repair(
+        cabinet(2, 3, 3, 1),
+        Tray::of(0),
+        &[1],
+        &given,
+        &host,
+        &mut spare,
+        0,
+        1,
+    );
+    say(b"lost");
+    say_bytes(&spare);
+}
+
 // The margin in (4, 3, 8, 3), by the words for the number that is expected.
 fn margin(states: &[u8], expected: i32, words: &[u8]) {
     say(b"margin");
@@ -149,6 +176,7 @@ fn main() {
     layouts();
     storing();
     shares();
+    repairing();
     margins();
     image();
 }

@@ -32,7 +32,8 @@ put-layer-spec =
     let a = c .before .before .before .before .before .before .before .before .args in
     let o = c .before .before .before .before .loop in (
       omega arith,
-      put-more (a .total) (a .es .now) (a .v .now) (a .c .now) (a .j) (c .before .before .before .before .before .before .before .before .pre .0) (o .k) (c .before .cell .result) (o .c) (omega arith) (c .before .cell .ensures) (o .inv .1),
+      put-more (a .total) (a .es .now) (a .v .now) (a .c .now) (a .j) (c .before .before .before .before .before .before .before .before .pre .0) (o .k) (c .before .cell .result) (o .c) (omega arith)
+          (c .before .cell .ensures) (o .inv .1),
     ))
     (λ c. c .before .loop .inv .1 .long)
     (λ c.

@@ -11,7 +11,7 @@ use Rattle.recover.proofs.Answers.{answer-refused, answer-none, answer-
 use Rattle.recover.proofs.recover.Statement.{statement}
 use Rattle.recover.proofs.recover.Tie as tie
 
-none : (c : tie.Else1) → recoverRefusal (c .before .before .before .before .args .l) (c .before .before .before .before .args .erased .now) (length (c .before .before .before .before .args .c .now)) ≡ 0
+none : (c : tie.Else1) → let a = c .before .before .before .before .args in recoverRefusal (a .l) (a .erased .now) (length (a .c .now)) ≡ 0
 none c = sym (c .before .refusal .ensures) ∙ c .if1 .left
 
 pub recover-spec : {M : Type 1} → statement M
@@ -23,14 +23,23 @@ recover-spec =
     (λ c κs. let a = c .before .before .before .before .before .before .args in told (a .l) (a .erased .now) (a .c .now) (none (c .before .before)) _ (c .before .layer-count .ensures))
     (λ c. search needs)
     (λ c.
-    let a = c .before .before .before .before .before .before .before .before .args in
-    answer-none (a .l) (a .erased .now) (a .c .now) (none (c .before .before .before .before))
-    (says-false (c .before .all-fit .result) (not-true (c .before .all-fit .result) (c .if2 .taken)) (c .before .all-fit .ensures)))
-    (λ c κs. let a = c .before .before .before .before .before .before .before .before .before .args in told (a .l) (a .erased .now) (a .c .now) (none (c .before .before .before .before .before)) _ (c .before .before .before .before .layer-count .ensures))
+    let tested = c .before in
+    let passed = tested .before .before .before in
+    let a = passed .before .before .before .before .args in
+    answer-none (a .l) (a .erased .now) (a .c .now) (none passed)
+    (says-false (tested .all-fit .result) (not-true (tested .all-fit .result) (c .if2 .taken)) (tested .all-fit .ensures)))
+    (λ c κs.
+    let counted = c .before .before .before .before in
+    let passed = counted .before in
+    let a = passed .before .before .before .before .args in
+    told (a .l) (a .erased .now) (a .c .now) (none passed) _ (counted .layer-count .ensures))
     (λ c. search needs)
     (λ c.
-    let a = c .before .before .before .before .before .before .before .before .before .before .before .before .args in
-    answer-done (a .l) (a .erased .now) (a .c .now) (none (c .before .before .before .before .before .before .before .before)) _
-    (record { at = λ i h. omega (arith, c .before .before .before .before .before .before .before .before .before .before .before .slice-known .given i) })
+    let fit = c .before .before .before .before in
+    let tested = fit .before in
+    let passed = tested .before .before .before in
+    let entered = passed .before .before .before in
+    let a = entered .before .args in
+    answer-done (a .l) (a .erased .now) (a .c .now) (none passed) _ (record { at = λ i h. omega (arith, entered .slice-known .given i) })
     (record { at = λ i h. omega (arith, c .slice-known2 .given i) })
-    (says-true (c .before .before .before .before .before .all-fit .result) (not-false (c .before .before .before .before .before .all-fit .result) (c .before .before .before .before .if2 .left)) (c .before .before .before .before .before .all-fit .ensures)) (c .before .before .restore .ensures)))
+    (says-true (tested .all-fit .result) (not-false (tested .all-fit .result) (fit .if2 .left)) (tested .all-fit .ensures)) (c .before .before .restore .ensures)))

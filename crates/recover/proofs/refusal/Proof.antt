@@ -18,16 +18,16 @@ adm c = sym (c .before .admitted .ensures) ∙ not-false _ (c .if1 .left)
 facts : (c : tie.Else1) → Admissible (c .before .before .before .args .l)
 facts c = admissible-facts _ (adm c)
 
-size : (c : tie.After-tray-count) → c .tray-count .result * c .before .layer-count .result ≡ trays (c .before .before .before .before .before .args .l) * layers (c .before .before .before .before .before .args .l)
+size : (c : tie.After-tray-count) → let l = c .before .before .before .before .before .args .l in c .tray-count .result * c .before .layer-count .result ≡ trays l * layers l
 size c = ap₂ _*_ (c .tray-count .ensures) (c .before .layer-count .ensures)
 
-long : (c : tie.Else2) → c .before .before .before .before .before .before .args .given ≡ trays (c .before .before .before .before .before .before .args .l) * layers (c .before .before .before .before .before .before .args .l)
+long : (c : tie.Else2) → let a = c .before .before .before .before .before .before .args in a .given ≡ trays (a .l) * layers (a .l)
 long c = c .if2 .left ∙ size (c .before)
 
-inside : (c : tie.After-all-below) → c .all-below .result ≡ allBelow (c .before .before .before .before .before .before .before .args .es .now) (trays (c .before .before .before .before .before .before .before .args .l))
+inside : (c : tie.After-all-below) → let a = c .before .before .before .before .before .before .before .args in c .all-below .result ≡ allBelow (a .es .now) (trays (a .l))
 inside c = c .all-below .ensures ∙ ap (allBelow (c .before .before .before .before .before .before .before .args .es .now)) (c .before .before .tray-count .ensures)
 
-below : (c : tie.Else3) → allBelow (c .before .before .before .before .before .before .before .before .args .es .now) (trays (c .before .before .before .before .before .before .before .before .args .l)) ≡ true
+below : (c : tie.Else3) → let a = c .before .before .before .before .before .before .before .before .args in allBelow (a .es .now) (trays (a .l)) ≡ true
 below c = sym (inside (c .before)) ∙ not-false _ (c .if3 .left)
 
 up : (c : tie.Else4) → strictlyRising (c .before .before .before .before .before .before .before .before .before .before .args .es .now) ≡ true
@@ -50,5 +50,13 @@ refusal-spec =
     (λ c. ground-4 _ _ _ (adm (c .before .before .before .before .before .before .before)) (long (c .before .before .before .before)) (below (c .before .before)) (sym (c .before .strictly-rising .ensures) ∙ not-true _ (c .if4 .taken)))
     (λ c κs. facts (c .before .before .before .before .before .before .before))
     (λ c. search needs)
-    (λ c. ground-5 _ _ _ (adm (c .before .before .before .before .before .before .before .before .before)) (long (c .before .before .before .before .before .before)) (below (c .before .before .before .before)) (up (c .before .before)) (omega arith))
-    (λ c. ground-0 _ _ _ (adm (c .before .before .before .before .before .before .before .before .before)) (long (c .before .before .before .before .before .before)) (below (c .before .before .before .before)) (up (c .before .before)) (omega arith)))
+    (λ c.
+    let risen = c .before .before in
+    let listed = risen .before .before in
+    let sized = listed .before .before in
+    ground-5 _ _ _ (adm (sized .before .before .before)) (long sized) (below listed) (up risen) (omega arith))
+    (λ c.
+    let risen = c .before .before in
+    let listed = risen .before .before in
+    let sized = listed .before .before in
+    ground-0 _ _ _ (adm (sized .before .before .before)) (long sized) (below listed) (up risen) (omega arith)))

@@ -23,9 +23,12 @@ restore-spec =
     (λ c. let a = c .before .before .before .before .before .before .before .before .pre .adm in omega arith)
     (λ c. let p = c .before .before .before .before .before .before .before .before .pre in omega arith)
     (λ c.
-    let a = c .before .before .before .before .before .before .before .before .args in
-    let p = c .before .before .before .before .before .before .before .before .pre in
-    (omega arith, restored-more (a .l) (a .es .now) (a .c .now) (p .listed .places) (c .before .before .before .before .before .loop .j) _ _ (omega arith) (c .before .before .before .before .before .loop .inv .1) (c .before .before .restore-layer .ensures)))
+    let o = c .before .before .before .before .before .loop in
+    let s = c .before .before .before .before .before .before .before .before in
+    let p = s .pre in (
+      omega arith,
+      restored-more (s .args .l) (s .args .es .now) (s .args .c .now) (p .listed .places) (o .j) _ _ (omega arith) (o .inv .1) (c .before .before .restore-layer .ensures),
+    ))
     (λ c. c .before .loop .inv .1 .long)
     (λ c.
     let a = c .before .before .before .before .args in

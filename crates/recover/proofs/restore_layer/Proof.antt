@@ -31,6 +31,9 @@ restore-layer-spec =
     (λ c. sym (zeros-long _ (few (c .before .before .before .before .before .before .before .before .before))))
     (λ c. search needs)
     (λ c. sym (zeros-long _ (few (c .before .before .before .before .before .before .before .before .before .before))))
-    (λ c κs. (c .before .before .before .before .before .before .before .before .before .before .pre .0, c .before .before .before .before .before .before .before .before .before .before .pre .1, room (c .before .before .before .before .before .before .before .before .before .before .args .l) (c .before .before .before .before .before .before .before .before .before .before .args .es .now) (c .before .before .before .before .before .before .before .tray-count .result) (c .before .before .before .before .before .before .before .tray-count .ensures) (count (c .before .before .before .before .before .before .before)) (few (c .before .before .before .before .before .before .before .before .before .before))))
+    (λ c κs.
+    let n = c .before .before .before .before .before .before .before in
+    let s = n .before .before .before in
+    (s .pre .0, s .pre .1, room (s .args .l) (s .args .es .now) (n .tray-count .result) (n .tray-count .ensures) (count n) (few s)))
     (λ c. search needs)
     (λ c. search needs))

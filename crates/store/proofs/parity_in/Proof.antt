@@ -27,4 +27,5 @@ parity-in-spec =
     (λ c. search needs)
     (λ c.
     let s = c .before .before .before .before .before .before .before .before .before .before .before .before in
-    subst (λ es. RestoredTo (s .args .l) es (s .args .out .now) (layers (s .args .l)) (c .before .before .restore .last .1 .1 .0)) (listed (c .before .before .before .before .before .before .before .before)) (c .before .before .restore .ensures)))
+    subst (λ es. RestoredTo (s .args .l) es (s .args .out .now) (layers (s .args .l)) (c .before .before .restore .last .1 .1 .0)) (listed (c .before .before .before .before .before .before .before .before))
+    (c .before .before .restore .ensures)))

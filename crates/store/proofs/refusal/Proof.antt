@@ -17,10 +17,10 @@ adm c = sym (c .before .admitted .ensures) ∙ not-false _ (c .if1 .left)
 facts : (c : tie.Else1) → Admissible (c .before .before .args .l)
 facts c = admissible-facts _ (adm c)
 
-width : (c : tie.After-layer-count) → c .before .before .before .args .l .dimension * c .layer-count .result ≡ c .before .before .before .args .l .dimension * layers (c .before .before .before .args .l)
+width : (c : tie.After-layer-count) → let l = c .before .before .before .args .l in l .dimension * c .layer-count .result ≡ l .dimension * layers l
 width c = ap (λ (n : ℕ). c .before .before .before .args .l .dimension * n) (c .layer-count .ensures)
 
-size : (c : tie.After-tray-count) → c .tray-count .result * c .before .before .layer-count .result ≡ trays (c .before .before .before .before .before .args .l) * layers (c .before .before .before .before .before .args .l)
+size : (c : tie.After-tray-count) → let l = c .before .before .before .before .before .args .l in c .tray-count .result * c .before .before .layer-count .result ≡ trays l * layers l
 size c = ap₂ _*_ (c .tray-count .ensures) (c .before .before .layer-count .ensures)
 
 pub refusal-spec : {M : Type 1} → statement M

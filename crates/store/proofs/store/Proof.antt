@@ -9,10 +9,10 @@ use Rattle.store.proofs.Answers.{Storable, storable, answer-refused, an
 use Rattle.store.proofs.store.Statement.{statement}
 use Rattle.store.proofs.store.Tie as tie
 
-none : (c : tie.Else1) → storeRefusal (c .before .before .before .before .args .l) (length (c .before .before .before .before .args .given .now)) (length (c .before .before .before .before .args .out .now)) ≡ 0
+none : (c : tie.Else1) → let a = c .before .before .before .before .args in storeRefusal (a .l) (length (a .given .now)) (length (a .out .now)) ≡ 0
 none c = sym (c .before .refusal .ensures) ∙ c .if1 .left
 
-ok : (c : tie.Else1) → Storable (c .before .before .before .before .args .l) (length (c .before .before .before .before .args .given .now)) (length (c .before .before .before .before .args .out .now))
+ok : (c : tie.Else1) → let a = c .before .before .before .before .args in Storable (a .l) (length (a .given .now)) (length (a .out .now))
 ok c = storable _ _ _ (none c)
 
 -- the copy is as long as the buffer was
@@ -28,8 +28,10 @@ store-spec =
     (λ c κs. record { adm = ok (c .before .before .before .before .before) .adm; long = same (c .before .before .before) ∙ ok (c .before .before .before .before .before) .room-long })
     (λ c. search needs)
     (λ c.
-    let a = c .before .before .before .before .before .before .before .before .before .before .before .before .args in
-    let p = ok (c .before .before .before .before .before .before .before .before) in
-    answer-done (a .l) (a .given .now) (a .out .now) _ (none (c .before .before .before .before .before .before .before .before))
-    (stores (a .l) (p .adm) (a .given .now) (p .given-long) _ _ (same (c .before .before .before .before .before .before) ∙ p .room-long) (c .before .before .before .before .before .before .copy .ensures)
+    let copied = c .before .before .before .before .before .before in
+    let passed = copied .before .before in
+    let a = passed .before .before .before .before .args in
+    let p = ok passed in
+    answer-done (a .l) (a .given .now) (a .out .now) _ (none passed)
+    (stores (a .l) (p .adm) (a .given .now) (p .given-long) _ _ (same copied ∙ p .room-long) (copied .copy .ensures)
     (record { at = λ i h. omega (arith, c .before .before .before .before .slice-known2 .given i) }) (record { at = λ i h. omega (arith, c .slice-known3 .given i) }) (c .before .before .parity .ensures))))

@@ -10,10 +10,10 @@ use Rattle.recover.proofs.solving.check_sums.Statement.{statement}
 use Rattle.recover.proofs.solving.check_sums.Tie as tie
 
 abbrev Inv-loop : tie.InvT-loop
-Inv-loop points word sums₀ t₀ sums t = (t ≤ length sums₀) × (length sums ≡ length sums₀) × ((i : ℕ) → i < t → symbolsOf sums i ≡ checkOf points word i)
+Inv-loop points word sums₀ i₀ sums i = (i ≤ length sums₀) × (length sums ≡ length sums₀) × ((t : ℕ) → t < i → symbolsOf sums t ≡ checkOf points word t)
 
 abbrev μ-loop : tie.MeasureT-loop
-μ-loop points word sums₀ t₀ sums t = length sums₀ - t
+μ-loop points word sums₀ i₀ sums i = length sums₀ - i
 
 pub check-sums-spec : {M : Type 1} → statement M
 check-sums-spec =
@@ -28,8 +28,8 @@ check-sums-spec =
     let a = c .before .before .before .before .before .before .args in
     let o = c .before .before .loop in (
       omega arith,
-      length-set (o .sums) (o .t) (c .check-sum .result .0) ∙ o .inv .1,
-      symbols-more (checkOf (a .points .now) (a .word .now)) (o .sums) (o .t) (c .check-sum .result .0) (omega arith) (o .inv .2) (c .check-sum .ensures),
+      length-set (o .sums) (o .i) (c .check-sum .result .0) ∙ o .inv .1,
+      symbols-more (checkOf (a .points .now) (a .word .now)) (o .sums) (o .i) (c .check-sum .result .0) (omega arith) (o .inv .2) (c .check-sum .ensures),
     ))
     (λ c. c .before .loop .inv .1)
     (λ c t h. c .before .loop .inv .2 t (omega arith)))

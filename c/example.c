@@ -1,0 +1,281 @@
+/*
+ * A cabinet's life in one program: data are stored, a reset tray is refused, a lost tray is
+ * repaired in pieces, two erased trays are recovered.
+ *
+ * Every buffer is lent from one pool with guard bytes between, which must be untouched at the end.
+ */
+#include <stdio.h>
+#include <stdlib.h>
+#include <string.h>
+
+#include "gesarumbo.h"
+
+/* The cabinet: four racks of three trays, eight trays' worth of data, three helpers. */
+enum { RACKS = 4, SIZE = 3, TRAYS = RACKS * SIZE, DATA = 8, HELPERS = 3 };
+/* What follows from it. */
+enum { LAYERS = 16, GROUPS = 8, IMAGE = 24 + LAYERS };
+/* The lengths of its buffers. */
+enum { DATA_LENGTH = DATA * LAYERS, CODEWORD_LENGTH = TRAYS * LAYERS };
+enum { RACK_LENGTH = SIZE * LAYERS, SHARES_LENGTH = HELPERS * GROUPS };
+
+enum { ABSENT = 0, LIVE = 1, DEMONSTRATION = 2, VOLUME = 7 };
+
+static const gesarumbo_layout layout = { RACKS, SIZE, DATA, HELPERS };
+
+/* Ends the program if something is not as the library promises. */
+static void must(int holds, const char *what)
+{
+    if (!holds) {
+        printf("not as promised: %s\n", what);
+        exit(1);
+    }
+}
+
+/* The pool: parts that are lent, and a guard before, between and after them. */
+enum { ROOM = 4096, PARTS = 16, GUARD = 32, GUARD_BYTE = 0xA5 };
+static _Alignas(8) uint8_t pool[ROOM];
+static struct { size_t begin, end; } parts[PARTS];
+static size_t part_count, pool_used;
+
+/* Lends the next part of the pool; what it holds at first is the guard byte. */
+static void *lend(size_t length)
+{
+    size_t begin = pool_used + GUARD;
+    pool_used = begin + (length + 7) / 8 * 8;
+    must(part_count < PARTS && pool_used + GUARD <= ROOM, "the pool is large enough");
+    parts[part_count].begin = begin;
+    parts[part_count].end = begin + length;
+    part_count++;
+    return pool + begin;
+}
+
+/* Whether every byte of the pool that was not lent is a guard byte still. */
+static int guards_untouched(void)
+{
+    size_t at = 0;
+    for (size_t i = 0; i <= part_count; i++) {
+        size_t end = i < part_count ? parts[i].begin : ROOM;
+        for (; at < end; at++)
+            if (pool[at] != GUARD_BYTE)
+                return 0;
+        if (i < part_count)
+            at = parts[i].end;
+    }
+    return 1;
+}
+
+/* What the cabinet works with, all of it lent from the pool. */
+static uint8_t *data, *codeword, *images, *shares, *spare, *states;
+static uint32_t *helpers, *erased;
+
+static void lend_all(void)
+{
+    memset(pool, GUARD_BYTE, ROOM);
+    data = lend(DATA_LENGTH);
+    codeword = lend(CODEWORD_LENGTH);
+    images = lend(TRAYS * IMAGE);
+    shares = lend(SHARES_LENGTH);
+    spare = lend(LAYERS);
+    states = lend(TRAYS);
+    helpers = lend(HELPERS * sizeof *helpers);
+    erased = lend(2 * sizeof *erased);
+}
+
+static uint8_t *tray_at(size_t tray)
+{
+    return codeword + tray * LAYERS;
+}
+
+static uint8_t *rack_at(size_t rack)
+{
+    return codeword + rack * RACK_LENGTH;
+}
+
+static uint8_t *image_at(size_t tray)
+{
+    return images + tray * IMAGE;
+}
+
+static void print_bytes(const char *name, const uint8_t *bytes, size_t count)
+{
+    printf("%s", name);
+    for (size_t i = 0; i < count; i++)
+        printf(" %02X", bytes[i]);
+    printf("\n");
+}
+
+static void measure(void)
+{
+    gesarumbo_measured m = gesarumbo_measure(layout);
+    must(m.refusal == 0 && m.layers == LAYERS, "the layout is admissible");
+    printf("layers %u, checks %u, traffic of a repair %u\n", m.layers, m.checks, m.traffic);
+
+    gesarumbo_layout even = { 4, 4, 8, 3 };
+    printf("racks of four trays: refused %u\n", gesarumbo_measure(even).refusal);
+}
+
+static void store(void)
+{
+    for (size_t i = 0; i < DATA_LENGTH; i++)
+        data[i] = (uint8_t)(7 * i + 3);
+    must(gesarumbo_store(layout, data, DATA_LENGTH, codeword, CODEWORD_LENGTH) == 0,
+         "data are stored");
+    must(memcmp(codeword, data, DATA_LENGTH) == 0, "the first trays are the data");
+    print_bytes("tray 8:", tray_at(8), LAYERS);
+    print_bytes("tray 11:", tray_at(11), LAYERS);
+}
+
+static void write_image(uint32_t tray, uint32_t state, uint32_t volume, const uint8_t *symbols)
+{
+    must(gesarumbo_write_image(layout, tray, state, volume, symbols, LAYERS,
+                               image_at(tray), IMAGE) == 0,
+         "an image is written");
+}
+
+static void write_images(void)
+{
+    for (uint32_t x = 0; x < TRAYS; x++)
+        write_image(x, LIVE, VOLUME, tray_at(x));
+    print_bytes("header of tray 5:", image_at(5), IMAGE - LAYERS);
+}
+
+/* Tray 5 has been changed for one that was reset: it must not be taken for a live one. */
+static void refuse_demonstration(void)
+{
+    memset(spare, 0, LAYERS);
+    write_image(5, DEMONSTRATION, VOLUME + 1, spare);
+    for (uint32_t x = 0; x < TRAYS; x++) {
+        gesarumbo_image read = gesarumbo_read_image(layout, VOLUME, image_at(x), IMAGE);
+        if (read.refusal != 0) {
+            printf("tray %u: refused %u, %zu symbols handed out\n", x, read.refusal, read.length);
+            continue;
+        }
+        must(read.tray == x && read.length == LAYERS, "an image is its tray's");
+        must(memcmp(image_at(x) + read.offset, tray_at(x), LAYERS) == 0,
+             "an image holds its tray's symbols");
+    }
+}
+
+/* Racks 0, 2 and 3 each send a share for rack 1, which has lost tray 5. */
+static void collect_shares(void)
+{
+    static const uint32_t others[HELPERS] = { 0, 2, 3 };
+    memcpy(helpers, others, sizeof others);
+    for (size_t i = 0; i < HELPERS; i++)
+        must(gesarumbo_share(layout, 1, helpers[i], rack_at(helpers[i]), RACK_LENGTH,
+                             shares + i * GROUPS, GROUPS) == 0,
+             "a share is worked out");
+    print_bytes("share of rack 0:", shares, GROUPS);
+}
+
+static gesarumbo_repaired repair_piece(size_t helpers_count, uint64_t first, uint64_t budget)
+{
+    return gesarumbo_repair(layout, 5, helpers_count == 0 ? NULL : helpers, helpers_count,
+                            shares, SHARES_LENGTH, rack_at(1), RACK_LENGTH, spare, LAYERS,
+                            first, budget);
+}
+
+static void repair_in_pieces(void)
+{
+    uint8_t kept[LAYERS];
+    memcpy(kept, tray_at(5), LAYERS);
+    memset(tray_at(5), 0xFF, LAYERS);
+    memset(spare, 0xEE, LAYERS);
+    uint64_t done = 0, crossed = 0;
+    while (done < GROUPS) {
+        gesarumbo_repaired piece = repair_piece(HELPERS, done, 3);
+        must(piece.refusal == 0 && piece.groups > 0, "a piece is done");
+        done += piece.groups;
+        crossed += piece.crossed;
+        printf("groups %u of %u, crossed %u, still to come %u\n", (unsigned)done, GROUPS,
+               (unsigned)crossed, (unsigned)piece.remaining);
+        print_bytes("spare:", spare, LAYERS);
+    }
+    printf("from group %u: refused %u\n", GROUPS + 1, repair_piece(HELPERS, GROUPS + 1, 0).refusal);
+    printf("tray 5 is %s\n", memcmp(spare, kept, LAYERS) == 0 ? "as it was" : "wrong");
+    memcpy(tray_at(5), spare, LAYERS);
+}
+
+static void print_test(void)
+{
+    gesarumbo_tested t = gesarumbo_test(layout, codeword, CODEWORD_LENGTH);
+    must(t.refusal == 0, "a codeword is tested");
+    if (t.verdict == 1)
+        printf("test: sound\n");
+    else
+        printf("test: layer %u, check %u\n", t.layer, t.check);
+}
+
+static void test(void)
+{
+    print_test();
+    tray_at(2)[6] ^= 1;
+    tray_at(9)[11] ^= 1;
+    print_test();
+    tray_at(2)[6] ^= 1;
+    tray_at(9)[11] ^= 1;
+}
+
+static void recover(void)
+{
+    uint8_t kept[CODEWORD_LENGTH], damaged[CODEWORD_LENGTH];
+    memcpy(kept, codeword, CODEWORD_LENGTH);
+    erased[0] = 1;
+    erased[1] = 10;
+    memset(tray_at(1), 0, LAYERS);
+    memset(tray_at(10), 0, LAYERS);
+    tray_at(4)[15] ^= 1;
+    memcpy(damaged, codeword, CODEWORD_LENGTH);
+    printf("two erased, one damaged: refused %u\n",
+           gesarumbo_recover(layout, codeword, CODEWORD_LENGTH, erased, 2));
+    must(memcmp(codeword, damaged, CODEWORD_LENGTH) == 0, "a refusal changes nothing");
+    tray_at(4)[15] ^= 1;
+    must(gesarumbo_recover(layout, codeword, CODEWORD_LENGTH, erased, 2) == 0,
+         "two trays are recovered");
+    printf("two erased: all trays %s\n",
+           memcmp(codeword, kept, CODEWORD_LENGTH) == 0 ? "as they were" : "wrong");
+}
+
+static void margin(void)
+{
+    memset(states, LIVE, TRAYS);
+    gesarumbo_margin_result all = gesarumbo_margin(layout, states, TRAYS);
+    memset(states, ABSENT, 5);
+    gesarumbo_margin_result seven = gesarumbo_margin(layout, states, TRAYS);
+    must(all.refusal == 0 && seven.refusal == 0, "a margin below zero is an answer");
+    printf("margin with 12 trays %d, with 7 trays %d\n", all.margin, seven.margin);
+}
+
+/* A buffer of length 0 may be NULL: an empty list, or a length that is refused. */
+static void lend_nothing(void)
+{
+    printf("nothing lent: test %u", gesarumbo_test(layout, NULL, 0).refusal);
+    printf(", store %u", gesarumbo_store(layout, NULL, 0, NULL, 0));
+    printf(", recover %u", gesarumbo_recover(layout, NULL, 0, NULL, 0));
+    printf(", share %u", gesarumbo_share(layout, 1, 0, NULL, 0, NULL, 0));
+    printf(", repair %u",
+           gesarumbo_repair(layout, 5, NULL, 0, NULL, 0, NULL, 0, NULL, 0, 0, 1).refusal);
+    printf(", write %u", gesarumbo_write_image(layout, 5, LIVE, VOLUME, NULL, 0, NULL, 0));
+    printf(", read %u", gesarumbo_read_image(layout, VOLUME, NULL, 0).refusal);
+    printf(", margin %u\n", gesarumbo_margin(layout, NULL, 0).refusal);
+    printf("no tray erased: %u, no helpers: %u\n",
+           gesarumbo_recover(layout, codeword, CODEWORD_LENGTH, NULL, 0),
+           repair_piece(0, 0, 1).refusal);
+}
+
+int main(void)
+{
+    lend_all();
+    measure();
+    store();
+    write_images();
+    refuse_demonstration();
+    collect_shares();
+    repair_in_pieces();
+    test();
+    recover();
+    margin();
+    lend_nothing();
+    must(guards_untouched(), "no byte beside a buffer is written");
+    return 0;
+}

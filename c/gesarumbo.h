@@ -1,0 +1,201 @@
+/*
+ * gesarumbo: rack-aware erasure coding for packaged record stores, every call proved.
+ *
+ * The cabinet. It has B racks of u trays, n = B*u trays in all; tray x stands in rack x/u, at place
+ * x mod u. k trays' worth of data are stored, and d racks help in the repair of one tray. Write
+ * K = k/u (whole), r = n - k, s = d - K + 1 and L = s^B. A tray has L symbols of one byte, in
+ * layers 0 to L-1. A codeword lies tray after tray, symbol j of tray x at x*L + j, so that the
+ * trays of a rack lie side by side.
+ *
+ * A layout is admissible exactly when all of these hold: B >= 2; u is 1, 3, 5, 15 or 17; n <= 48;
+ * u <= k; u <= n - k; K <= d; d <= B - 1; L <= 1024.
+ *
+ * The code. Symbols are elements of the field of 256 with polynomial 11D (hex) and root 2. Layer j
+ * has a digit in base s for each rack, that of rack 0 the lowest. The point of rack i, digit a and
+ * place g is 2 to the power i*s + a + g*(255/u). Check t of a layer, t from 0 to r-1, says that the
+ * sum of all trays' symbols, each times the t-th power of its tray's point, is zero. For a host
+ * rack h the layers fall into L/s groups: layer j is in group (j mod s^h) + s^h * (j / s^(h+1)).
+ *
+ * Refusals. Any numbers, lists and buffers may be given: no caller has to look first, and every
+ * call ends with an answer. A call is refused exactly when one of the grounds named above it
+ * applies, on the first that does:
+ *
+ *    0   done
+ *    1   layout not admissible
+ *    2   a lent buffer is not exactly the length its rule gives (symbols, shares, spare, states, an
+ *        image being written; not lists, not an image being read)
+ *    3   a tray or rack number outside the layout, or a state outside its values
+ *    4   a list is not strictly rising
+ *    5   more than r trays erased, or not exactly d helpers
+ *    6   the host rack is a helper
+ *    7   first group above L/s
+ *    8   no codeword has these survivors
+ *    9   image malformed: under 24 bytes, a header rule broken, its own layout not admissible, its
+ *        tray not below n, or its length not 24 + L
+ *   10   image marked demonstration
+ *   11   image of another layout or volume
+ *
+ * A refused call has changed no byte of any buffer, and every other number it answers is 0.
+ *
+ * Buffers. Each is a pointer and then its length in elements; one of length 0 may be NULL. Buffers
+ * of one call must not overlap. A call keeps no pointer, allocates nothing and remembers nothing,
+ * so calls may run side by side.
+ */
+#ifndef GESARUMBO_H
+#define GESARUMBO_H
+
+#include <stddef.h>
+#include <stdint.h>
+
+#ifdef __cplusplus
+extern "C" {
+#endif
+
+/* B, u, k and d: any values, each call says whether they are admissible. */
+typedef struct {
+    uint32_t racks, size, dimension, helpers;
+} gesarumbo_layout;
+
+typedef struct {
+    uint32_t refusal;
+    uint32_t layers;  /* L, the symbols of a tray */
+    uint32_t checks;  /* r, as many trays as may be erased */
+    uint32_t traffic; /* d*L/s, the symbols that cross in the repair of one tray */
+} gesarumbo_measured;
+
+typedef struct {
+    uint32_t refusal;
+    uint32_t verdict; /* 1 sound, 2 bad */
+    uint32_t layer;   /* the first bad layer; 0 where it is sound */
+    uint32_t check;   /* the least check broken there; 0 where it is sound */
+} gesarumbo_tested;
+
+typedef struct {
+    uint32_t refusal;
+    uint64_t groups;    /* groups done */
+    uint64_t crossed;   /* symbols crossed: d for each group done */
+    uint64_t remaining; /* symbols still to come: d for each group after the last one done */
+} gesarumbo_repaired;
+
+typedef struct {
+    uint32_t refusal;
+    uint32_t tray;
+    size_t offset, length; /* where its symbols lie in the image */
+} gesarumbo_image;
+
+typedef struct {
+    uint32_t refusal;
+    int32_t margin; /* from -k to n - k */
+} gesarumbo_margin_result;
+
+/*
+ * Measures a layout.
+ * Grounds: 1.
+ */
+gesarumbo_measured gesarumbo_measure(gesarumbo_layout layout);
+
+/*
+ * Tests whether n*L bytes are a codeword. A bad one is an answer and no refusal.
+ * Grounds: 1, 2.
+ * Done: sound exactly when every check of every layer holds; else the first bad layer and the least
+ * check broken there. Nothing is written.
+ */
+gesarumbo_tested gesarumbo_test(gesarumbo_layout layout,
+                                const uint8_t *codeword, size_t codeword_length);
+
+/*
+ * Stores k*L bytes of data as a codeword of n*L bytes.
+ * Grounds: 1; 2, either buffer.
+ * Done: every byte of codeword is written, whatever it held. Trays 0 to k-1 are the data, and the
+ * others are the only ones that make a codeword of them.
+ */
+uint32_t gesarumbo_store(gesarumbo_layout layout,
+                         const uint8_t *data, size_t data_length,
+                         uint8_t *codeword, size_t codeword_length);
+
+/*
+ * Fills the erased trays of a codeword of n*L bytes from all the others.
+ * Grounds: 1; 2, the codeword; 3, a tray listed; 4; 5; 8, exactly when no codeword has the trays
+ * that are not listed.
+ * Done: codeword is a codeword, the only one with these survivors. Erased trays alone are written,
+ * and their old bytes are not looked at. With none erased nothing is written, and the call is a
+ * test: 0 or 8.
+ */
+uint32_t gesarumbo_recover(gesarumbo_layout layout,
+                           uint8_t *codeword, size_t codeword_length,
+                           const uint32_t *erased, size_t erased_count);
+
+/*
+ * Works out a helper rack's share of L/s bytes for a host rack, from the helper's u*L bytes.
+ * Grounds: 1; 2, either buffer; 3, either rack; 6, both racks are the same.
+ * Done: every byte of share is written, whatever it held. Symbol p is the exclusive or of all the
+ * helper's symbols in the s layers of group p.
+ */
+uint32_t gesarumbo_share(gesarumbo_layout layout, uint32_t host, uint32_t helper,
+                         const uint8_t *rack, size_t rack_length,
+                         uint8_t *share, size_t share_length);
+
+/*
+ * Repairs a lost tray, or a piece of it. helpers are d racks, rising; shares are theirs in this
+ * order, d*L/s bytes; host is the u*L bytes of the lost tray's rack, of which those of the lost
+ * tray are not looked at; spare has L bytes.
+ * Grounds: 1; 2, shares, host or spare; 3, the tray or a helper; 4; 5; 6; 7.
+ * Done: the groups from first on, the smaller of budget and the groups left. Their layers of spare
+ * are written, and no other byte. From the shares and sound trays of a codeword these are its lost
+ * symbols; from any others they are fixed all the same, by the checks t = 0, u, 2u and on summed
+ * over each group. A budget of 0, or a first group of L/s, does nothing.
+ * A repair may be cut into any pieces, each from the group where the last done one ended, with
+ * refused calls between them: spare is then as one uncut repair writes it.
+ */
+gesarumbo_repaired gesarumbo_repair(gesarumbo_layout layout, uint32_t lost,
+                                    const uint32_t *helpers, size_t helpers_count,
+                                    const uint8_t *shares, size_t shares_length,
+                                    const uint8_t *host, size_t host_length,
+                                    uint8_t *spare, size_t spare_length,
+                                    uint64_t first, uint64_t budget);
+
+/*
+ * Writes the image of a tray, with state 1 live or 2 demonstration: the header, then L symbols.
+ *
+ *    at 0      2 bytes   header length, 24
+ *    at 2      1 byte    edition, 1
+ *    at 3      1 byte    state
+ *    at 4..7   1 each    B, u, k, d
+ *    at 8      1 byte    tray number
+ *    at 9      3 bytes   zero
+ *    at 12     4 bytes   volume number
+ *    at 16     4 bytes   offset of the symbols, 24
+ *    at 20     4 bytes   count of the symbols, L
+ *
+ * Numbers are little endian.
+ * Grounds: 1; 2, symbols L or image 24 + L; 3, the tray or the state.
+ * Done: every byte of image is written, whatever it held.
+ */
+uint32_t gesarumbo_write_image(gesarumbo_layout layout,
+                               uint32_t tray, uint32_t state, uint32_t volume,
+                               const uint8_t *symbols, size_t symbols_length,
+                               uint8_t *image, size_t image_length);
+
+/*
+ * Reads an image that should be a live one of this layout and volume.
+ * Grounds: 1, the layout expected; 9; 10; 11.
+ * Done: its tray, and where its L symbols lie in it. A demonstration image is never handed out.
+ * Nothing is written.
+ */
+gesarumbo_image gesarumbo_read_image(gesarumbo_layout layout, uint32_t volume,
+                                     const uint8_t *image, size_t image_length);
+
+/*
+ * Says how many more trays may be lost: the trays not absent, less k. states has one byte a tray:
+ * 0 absent, 1 live, 2 demonstration. A margin below 0 is an answer and no refusal.
+ * Grounds: 1; 2; 3, a state above 2.
+ * Done: nothing is written.
+ */
+gesarumbo_margin_result gesarumbo_margin(gesarumbo_layout layout,
+                                         const uint8_t *states, size_t states_length);
+
+#ifdef __cplusplus
+}
+#endif
+
+#endif

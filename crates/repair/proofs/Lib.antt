@@ -1,0 +1,5 @@
+pub mod Refusals
+pub mod Pieces
+pub mod Cutting
+pub mod Exact
+pub mod Instances

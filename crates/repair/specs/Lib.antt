@@ -1,0 +1,4 @@
+pub mod Repair
+pub mod Calls
+pub mod Exact
+pub mod Inner

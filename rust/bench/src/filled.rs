@@ -1,0 +1,82 @@
+//! A filled cabinet: what the calls are given.
+
+use gesarumbo::{measure, share, store, test, Layout, Rack, Tested, Tray};
+
+/// The inputs of every call for one layout.
+pub struct Filled {
+    pub layout: Layout,
+    pub layers: usize,
+    pub checks: usize,
+    /// The symbols of a share.
+    pub groups: usize,
+    pub data: Vec<u8>,
+    pub codeword: Vec<u8>,
+    pub lost: Tray,
+    pub host: Rack,
+    /// The d helpers, and their shares in this order.
+    pub helpers: Vec<Rack>,
+    pub shares: Vec<u8>,
+}
+
+impl Filled {
+    /// A cabinet with data that only look random.
+    pub fn new(layout: Layout) -> Filled {
+        let numbers = measure(layout).expect("the layout is admissible");
+        let (layers, helpers) = (numbers.layers as usize, layout.helpers as usize);
+        let groups = numbers.traffic as usize / helpers;
+        let data = bytes(layout.dimension as usize * layers);
+        let mut codeword = vec![0; (layout.racks * layout.size) as usize * layers];
+        store(layout, &data, &mut codeword).expect("the lengths are right");
+        assert_eq!(test(layout, &codeword), Ok(Tested::Sound));
+        let host = Rack::new(layout.racks / 2);
+        let mut filled = Filled {
+            layout,
+            layers,
+            checks: numbers.checks as usize,
+            groups,
+            data,
+            codeword,
+            lost: Tray::new(layout.racks / 2 * layout.size + layout.size / 2),
+            host,
+            helpers: (0..layout.racks)
+                .map(Rack::new)
+                .filter(|&rack| rack != host)
+                .take(helpers)
+                .collect(),
+            shares: vec![0; helpers * groups],
+        };
+        filled.collect_shares();
+        filled
+    }
+
+    fn collect_shares(&mut self) {
+        let mut shares = std::mem::take(&mut self.shares);
+        for (&helper, part) in self.helpers.iter().zip(shares.chunks_mut(self.groups)) {
+            share(self.layout, self.host, helper, self.rack(helper), part).expect("it is a helper");
+        }
+        self.shares = shares;
+    }
+
+    /// The symbols of a rack's trays.
+    pub fn rack(&self, rack: Rack) -> &[u8] {
+        let length = self.layout.size as usize * self.layers;
+        &self.codeword[rack.number() as usize * length..][..length]
+    }
+
+    /// The symbols of a tray.
+    pub fn tray(&self, tray: Tray) -> &[u8] {
+        &self.codeword[tray.number() as usize * self.layers..][..self.layers]
+    }
+}
+
+/// The same bytes in every run, by a xorshift.
+fn bytes(count: usize) -> Vec<u8> {
+    let mut state = 0x2545_F491_4F6C_DD1D_u64;
+    let mut next = || {
+        state ^= state << 13;
+        state ^= state >> 7;
+        state ^= state << 17;
+        (state >> 32) as u8
+    };
+    (0..count).map(|_| next()).collect()
+}

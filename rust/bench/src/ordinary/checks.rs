@@ -1,0 +1,114 @@
+//! Checks over columns: those of all layers at once, or those of all groups.
+
+use super::multiply::Multiply;
+use super::system::inverse;
+use std::ops::Range;
+
+/// What stands in every column: a tray in the layers, or a rack in the groups.
+pub struct Item {
+    /// Which row of digits its point goes by.
+    row: usize,
+    /// The powers of its point, by check and then by digit.
+    powers: Vec<u8>,
+}
+
+/// In each column check t says that the items' symbols, each times the t-th power of the item's
+/// point there, have the sum zero. Symbols of an item and sums of a check lie column after column.
+pub struct Checks<'a, M> {
+    multiply: &'a M,
+    base: usize,
+    count: usize,
+    columns: usize,
+    /// Row i has digit i of every column.
+    rows: Vec<Vec<u8>>,
+}
+
+impl<'a, M: Multiply> Checks<'a, M> {
+    pub fn new(multiply: &'a M, base: usize, count: usize, rows: usize) -> Checks<'a, M> {
+        let columns = base.pow(rows as u32);
+        let digits = |i| {
+            let mut row = vec![0; columns];
+            for (k, run) in row.chunks_mut(base.pow(i)).enumerate() {
+                run.fill((k % base) as u8);
+            }
+            row
+        };
+        Checks {
+            multiply,
+            base,
+            count,
+            columns,
+            rows: (0..rows as u32).map(digits).collect(),
+        }
+    }
+
+    /// The item whose point goes by a row of digits: the root to this power of the digit.
+    pub fn item(&self, row: usize, exponent: impl Fn(usize) -> usize) -> Item {
+        let powers = (0..self.count)
+            .flat_map(|t| (0..self.base).map(move |digit| (t, digit)))
+            .map(|(t, digit)| self.multiply.root_power(exponent(digit) * t));
+        Item {
+            row,
+            powers: powers.collect(),
+        }
+    }
+
+    /// The t-th powers of an item's point, by its digit.
+    fn powers<'b>(&self, item: &'b Item, t: usize) -> &'b [u8] {
+        &item.powers[t * self.base..][..self.base]
+    }
+
+    /// Adds an item's part to the sums of some checks.
+    pub fn add(&self, item: &Item, symbols: &[u8], checks: Range<usize>, sums: &mut [u8]) {
+        let digits = &self.rows[item.row];
+        for (t, sums) in checks.zip(sums.chunks_mut(self.columns)) {
+            let powers = self.powers(item, t);
+            for ((sum, &symbol), &digit) in sums.iter_mut().zip(symbols).zip(digits) {
+                *sum ^= self.multiply.product(powers[digit as usize], symbol);
+            }
+        }
+    }
+
+    /// For each column the number of the pattern that some rows of digits have there.
+    fn patterns(&self, rows: &[usize]) -> Vec<usize> {
+        let mut patterns = vec![0; self.columns];
+        for &row in rows {
+            for (pattern, &digit) in patterns.iter_mut().zip(&self.rows[row]) {
+                *pattern = *pattern * self.base + digit as usize;
+            }
+        }
+        patterns
+    }
+
+    /// The inverse of the system of some items in a column.
+    fn inverse(&self, items: &[&Item], column: usize) -> Vec<u8> {
+        inverse(self.multiply, items.len(), |t, c| {
+            let digit = self.rows[items[c].row][column];
+            self.powers(items[c], t)[digit as usize]
+        })
+    }
+
+    /// The symbols of the first `wanted` of the unknown items, one item after another, by the first
+    /// checks. A system is inverted once for each pattern of the digits it hangs on.
+    pub fn solve(&self, unknown: &[&Item], wanted: usize, sums: &[u8]) -> Vec<u8> {
+        let mut rows: Vec<usize> = unknown.iter().map(|item| item.row).collect();
+        rows.dedup();
+        let patterns = self.patterns(&rows);
+        let mut inverses = vec![Vec::new(); self.base.pow(rows.len() as u32)];
+        for (column, &pattern) in patterns.iter().enumerate() {
+            if inverses[pattern].is_empty() {
+                inverses[pattern] = self.inverse(unknown, column);
+            }
+        }
+        let mut found = vec![0; wanted * self.columns];
+        for (c, symbols) in found.chunks_mut(self.columns).enumerate() {
+            for (t, sums) in sums.chunks(self.columns).take(unknown.len()).enumerate() {
+                let entry = c * unknown.len() + t;
+                for ((symbol, &sum), &pattern) in symbols.iter_mut().zip(sums).zip(&patterns) {
+                    *symbol ^= self.multiply.product(inverses[pattern][entry], sum);
+                }
+            }
+        }
+        found
+    }
+}

@@ -1,0 +1,93 @@
+//! Testing, storing and recovering, a tray at a time.
+
+use super::checks::{Checks, Item};
+use super::multiply::Multiply;
+use super::numbers::Numbers;
+use gesarumbo::{Layer, Layout, Tested};
+
+/// The checks of a layout's layers, and its trays.
+struct Layers<'a, M> {
+    numbers: Numbers,
+    checks: Checks<'a, M>,
+    trays: Vec<Item>,
+}
+
+impl<'a, M: Multiply> Layers<'a, M> {
+    fn new(multiply: &'a M, layout: Layout) -> Layers<'a, M> {
+        let numbers = Numbers::of(layout);
+        let Numbers { size, base, .. } = numbers;
+        let checks = Checks::new(multiply, base, numbers.checks, numbers.racks);
+        let tray = |x| {
+            let (rack, place) = (x / size, x % size);
+            checks.item(rack, |digit| rack * base + digit + place * (255 / size))
+        };
+        Layers {
+            trays: (0..numbers.trays).map(tray).collect(),
+            checks,
+            numbers,
+        }
+    }
+
+    /// The sums of all checks over some trays of a codeword.
+    fn sums(&self, trays: impl Iterator<Item = usize>, codeword: &[u8]) -> Vec<u8> {
+        let Numbers { checks, layers, .. } = self.numbers;
+        let mut sums = vec![0; checks * layers];
+        for x in trays {
+            let symbols = &codeword[x * layers..][..layers];
+            self.checks
+                .add(&self.trays[x], symbols, 0..checks, &mut sums);
+        }
+        sums
+    }
+
+    /// Fills the erased trays; false, and nothing written, if no codeword has the survivors.
+    fn fill(&self, codeword: &mut [u8], erased: &[usize]) -> bool {
+        let Numbers { checks, layers, .. } = self.numbers;
+        let known = (0..self.trays.len()).filter(|x| !erased.contains(x));
+        let mut sums = self.sums(known, codeword);
+        let unknown: Vec<&Item> = erased.iter().map(|&x| &self.trays[x]).collect();
+        let found = self.checks.solve(&unknown, unknown.len(), &sums);
+        let left = &mut sums[erased.len() * layers..];
+        for (item, symbols) in unknown.iter().zip(found.chunks(layers)) {
+            self.checks.add(item, symbols, erased.len()..checks, left);
+        }
+        if left.iter().any(|&sum| sum != 0) {
+            return false;
+        }
+        for (&x, symbols) in erased.iter().zip(found.chunks(layers)) {
+            codeword[x * layers..][..layers].copy_from_slice(symbols);
+        }
+        true
+    }
+}
+
+pub fn test(multiply: &impl Multiply, layout: Layout, codeword: &[u8]) -> Tested {
+    let call = Layers::new(multiply, layout);
+    let Numbers { checks, layers, .. } = call.numbers;
+    let sums = call.sums(0..call.trays.len(), codeword);
+    for layer in 0..layers {
+        if let Some(t) = (0..checks).find(|t| sums[t * layers + layer] != 0) {
+            return Tested::Bad {
+                layer: Layer::new(layer as u32),
+                check: t as u32,
+            };
+        }
+    }
+    Tested::Sound
+}
+
+pub fn store(multiply: &impl Multiply, layout: Layout, data: &[u8], codeword: &mut [u8]) {
+    let call = Layers::new(multiply, layout);
+    let parity = Vec::from_iter(layout.dimension as usize..call.trays.len());
+    codeword[..data.len()].copy_from_slice(data);
+    call.fill(codeword, &parity);
+}
+
+pub fn recover(
+    multiply: &impl Multiply,
+    layout: Layout,
+    codeword: &mut [u8],
+    erased: &[usize],
+) -> bool {
+    Layers::new(multiply, layout).fill(codeword, erased)
+}

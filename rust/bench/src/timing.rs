@@ -1,0 +1,61 @@
+//! Rounds of one call, the versions taking turns.
+
+use crate::calls::Call;
+use crate::filled::Filled;
+use crate::version::Version;
+use std::time::{Duration, Instant};
+
+/// A version is run so often in a round that the fastest takes at least this long.
+const LEAST: Duration = Duration::from_micros(50);
+
+/// The times of one version in microseconds a call.
+pub struct Times {
+    pub least: f64,
+    pub median: f64,
+}
+
+/// Times a call by each version. The buffer is cleared before each turn, outside of the time.
+pub fn time(
+    call: &Call,
+    versions: &[Box<dyn Version>],
+    filled: &Filled,
+    rounds: usize,
+) -> Vec<Times> {
+    let before = (call.before)(filled);
+    let mut buffer = before.clone();
+    let mut turn = |version: &dyn Version, repeats: u32| {
+        buffer.copy_from_slice(&before);
+        let start = Instant::now();
+        for _ in 0..repeats {
+            (call.run)(version, filled, std::hint::black_box(&mut buffer));
+        }
+        start.elapsed()
+    };
+    let fastest = versions
+        .iter()
+        .map(|version| turn(version.as_ref(), 1))
+        .min();
+    let repeats = repeats(fastest.unwrap_or(LEAST));
+    let mut all = vec![Vec::with_capacity(rounds); versions.len()];
+    for round in 0..rounds {
+        for step in 0..versions.len() {
+            let place = (round + step) % versions.len();
+            let taken = turn(versions[place].as_ref(), repeats);
+            all[place].push(taken.as_secs_f64() * 1e6 / f64::from(repeats));
+        }
+    }
+    all.into_iter().map(summary).collect()
+}
+
+fn repeats(once: Duration) -> u32 {
+    let once = once.as_nanos().max(1);
+    LEAST.as_nanos().div_ceil(once) as u32
+}
+
+fn summary(mut times: Vec<f64>) -> Times {
+    times.sort_by(f64::total_cmp);
+    Times {
+        least: times[0],
+        median: times[times.len() / 2],
+    }
+}

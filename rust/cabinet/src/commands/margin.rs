@@ -1,0 +1,63 @@
+//! `cabinet margin`: how many trays more may be lost.
+
+use super::Command;
+use crate::arguments::Arguments;
+use crate::failure::Failure;
+use crate::folder::Folder;
+use crate::map;
+use crate::plate;
+use crate::screen::{Paint, Screen};
+use gesarumbo::{ABSENT, DEMONSTRATION, LIVE};
+
+pub const COMMAND: Command = Command {
+    name: "margin",
+    summary: "say how many more trays may be lost",
+    help: HELP,
+    settings: &[plate::LAYOUT, plate::VOLUME],
+    run,
+};
+
+const HELP: &str = "\
+cabinet margin DIR
+
+Draws the cabinet and says its loss margin. A tray counts as live if its image
+is handed out, as demonstration if it is refused for that, and else as absent.
+A margin below zero is an answer too (0): the records cannot be recovered.
+";
+
+fn run(arguments: &Arguments, screen: &mut Screen) -> Result<(), Failure> {
+    let [folder] = arguments.words(["DIR"])?;
+    let folder = Folder::open(folder, arguments)?;
+    let states = folder.states();
+    let margin = gesarumbo::margin(folder.plate.layout, &states);
+    let margin = i64::from(margin.map_err(Failure::refused("margin"))?);
+    folder.introduce(screen);
+    map::print(&folder, screen);
+    let count = |state| states.iter().filter(|found| **found == state).count();
+    let (live, needed) = (count(LIVE), folder.numbers.dimension);
+    let (reset, absent) = (count(DEMONSTRATION), count(ABSENT));
+    screen.line(format!(
+        "  {live} live, {reset} demonstration, {absent} absent; {needed} are needed"
+    ));
+    say(margin, live as i64 - needed as i64, screen);
+    Ok(())
+}
+
+/// The margin, and what it means: trays may be lost as long as live ones, which alone hold
+/// records, are left over.
+fn say(margin: i64, left_over: i64, screen: &mut Screen) {
+    let meaning = match left_over {
+        ..=-1 => screen.paint(Paint::Bad, &format!("too few live trays by {}", -left_over)),
+        0 => screen.paint(Paint::Warning, "no tray more may be lost"),
+        1 => screen.paint(Paint::Good, "one tray more may be lost"),
+        _ => screen.paint(
+            Paint::Good,
+            &format!("any {left_over} trays more may be lost"),
+        ),
+    };
+    let but = match margin == left_over {
+        true => String::new(),
+        false => format!(", by live trays alone {left_over}"),
+    };
+    screen.line(format!("  margin {margin}{but}: {meaning}"));
+}

@@ -1,0 +1,87 @@
+//! The table of commands: one entry each, one file each.
+
+use crate::arguments::{Arguments, Setting};
+use crate::failure::Failure;
+use crate::help;
+use crate::screen::Screen;
+use std::ffi::{OsStr, OsString};
+
+mod demo;
+mod inspect;
+mod margin;
+mod plan;
+mod recover;
+mod repair;
+mod share;
+mod store;
+mod test;
+
+/// A command: what it is called, what it says of itself, the settings it knows and what it does.
+pub struct Command {
+    pub name: &'static str,
+    /// What it does, in a few words.
+    pub summary: &'static str,
+    /// The whole help text.
+    pub help: &'static str,
+    pub settings: &'static [Setting],
+    pub run: fn(&Arguments, &mut Screen) -> Result<(), Failure>,
+}
+
+/// All commands, in the order in which help lists them.
+pub const COMMANDS: &[Command] = &[
+    demo::COMMAND,
+    plan::COMMAND,
+    store::COMMAND,
+    test::COMMAND,
+    recover::COMMAND,
+    share::COMMAND,
+    repair::COMMAND,
+    margin::COMMAND,
+    inspect::COMMAND,
+];
+
+/// Does what a command line asks for.
+pub fn run(line: &[OsString], screen: &mut Screen) -> Result<(), Failure> {
+    let Some((name, rest)) = line.split_first() else {
+        help::print_all(screen);
+        return Err(Failure::Usage("name a command".to_string()));
+    };
+    match (name.to_str(), rest) {
+        (Some("--version" | "version"), _) => screen.line(help::VERSION),
+        (Some("--help" | "-h"), _) | (Some("help"), []) => help::print_all(screen),
+        (Some("help"), [command, ..]) => help::print(find(command)?, screen),
+        _ => return run_one(find(name)?, rest, screen),
+    }
+    Ok(())
+}
+
+fn run_one(command: &Command, rest: &[OsString], screen: &mut Screen) -> Result<(), Failure> {
+    let mut settings = rest.iter().take_while(|word| *word != "--");
+    if settings.any(|word| word == "--help" || word == "-h") {
+        help::print(command, screen);
+        return Ok(());
+    }
+    let see = |failure| match failure {
+        Failure::Usage(words) => Failure::Usage(format!(
+            "{0}: {words} (see: cabinet help {0})",
+            command.name
+        )),
+        other => other,
+    };
+    Arguments::parse(rest, command.settings)
+        .and_then(|arguments| (command.run)(&arguments, screen))
+        .map_err(see)
+}
+
+fn find(name: &OsStr) -> Result<&'static Command, Failure> {
+    let unknown = || {
+        Failure::Usage(format!(
+            "no command '{}' (see: cabinet help)",
+            name.to_string_lossy()
+        ))
+    };
+    COMMANDS
+        .iter()
+        .find(|command| name == command.name)
+        .ok_or_else(unknown)
+}

@@ -1,0 +1,129 @@
+//! `cabinet plan`: a layout's numbers, what it survives and what a repair costs.
+
+use super::Command;
+use crate::arguments::{self, Arguments, Setting};
+use crate::conditions::{conditions, Verdict};
+use crate::failure::Failure;
+use crate::files;
+use crate::numbers::Numbers;
+use crate::picture;
+use crate::screen::{Paint, Screen};
+use crate::traffic::{self, percent};
+use crate::words::{count, grouped};
+use gesarumbo::Layout;
+use std::path::Path;
+
+const SVG: Setting = Setting::with("--svg", "FILE", "draw racks, trays, shares and traffic");
+
+pub const COMMAND: Command = Command {
+    name: "plan",
+    summary: "show a layout's numbers, what it survives and what a repair costs",
+    help: HELP,
+    settings: &[SVG],
+    run,
+};
+
+const HELP: &str = "\
+cabinet plan B u k d [--svg FILE]
+
+Shows the numbers of the layout of B racks of u trays, with k trays' worth of
+data and d helper racks in a repair; which losses it survives; and how many
+symbols cross in the repair of one tray, against a plain recovery from k trays.
+For a layout that is not admissible (1) it says which conditions fail.
+";
+
+fn run(arguments: &Arguments, screen: &mut Screen) -> Result<(), Failure> {
+    let [b, u, k, d] = arguments.words(["B", "u", "k", "d"])?;
+    let layout = arguments::layout([b, u, k, d])?;
+    let numbers = Numbers::of(layout).inspect_err(|_| print_conditions(layout, screen))?;
+    print_numbers(&numbers, screen);
+    print_survival(&numbers, screen);
+    print_traffic(&numbers, screen);
+    if let Some(path) = arguments.value(SVG) {
+        let path = Path::new(path);
+        files::write_one(path, picture::draw(&numbers).into_bytes())?;
+        screen.gap();
+        screen.line(format!("Drawn in {}", path.display()));
+    }
+    Ok(())
+}
+
+/// Each condition, and whether this layout meets it.
+fn print_conditions(layout: Layout, screen: &mut Screen) {
+    screen.heading(format!("Layout {layout} is not admissible"));
+    for condition in conditions(layout) {
+        let verdict = match condition.verdict {
+            Verdict::Holds => screen.paint(Paint::Good, "holds"),
+            Verdict::Fails => screen.paint(Paint::Bad, "fails"),
+            Verdict::Unknown => "  -  ".to_string(),
+        };
+        screen.line(format!(
+            "  {verdict}  {:<24}{}",
+            condition.rule, condition.here
+        ));
+    }
+}
+
+fn print_numbers(numbers: &Numbers, screen: &mut Screen) {
+    let rows = [
+        ("B", "racks", "", numbers.racks),
+        ("u", "trays in a rack", "", numbers.size),
+        ("n", "trays", "B*u", numbers.trays),
+        ("k", "trays' worth of data", "", numbers.dimension),
+        (
+            "r",
+            "trays of parity, checks a layer",
+            "n - k",
+            numbers.checks,
+        ),
+        ("K", "whole racks in k", "k/u", numbers.whole),
+        ("v", "trays of k beyond them", "k mod u", numbers.over),
+        ("R", "checks on rack sums", "B - K", numbers.rack_checks),
+        ("d", "helper racks in a repair", "", numbers.helpers),
+        ("s", "layers in a group", "d - K + 1", numbers.base),
+        ("L", "symbols in a tray, layers", "s^B", numbers.layers),
+        ("", "groups in a repair", "L/s", numbers.groups()),
+        ("", "symbols in a share", "L/s", numbers.groups()),
+    ];
+    screen.heading(format!("Layout {}", numbers.layout));
+    for (name, words, formula, value) in rows {
+        screen.line(format!(
+            "  {name:<2} {words:<36} {formula:<10} {:>7}",
+            grouped(value)
+        ));
+    }
+    let (data, codeword) = (numbers.data(), numbers.codeword());
+    screen.line(format!(
+        "  {} bytes of data in {} ({:.1} %)",
+        grouped(data),
+        grouped(codeword),
+        percent(data, codeword)
+    ));
+    screen.gap();
+}
+
+fn print_survival(numbers: &Numbers, screen: &mut Screen) {
+    let Numbers { checks, trays, .. } = *numbers;
+    let lost = count(checks, "lost tray");
+    screen.heading("What it survives");
+    screen.line(format!(
+        "  any {lost} of {trays}; {} are too many",
+        checks + 1
+    ));
+    screen.line(format!("  {}", numbers.lost_racks()));
+    screen.gap();
+}
+
+fn print_traffic(numbers: &Numbers, screen: &mut Screen) {
+    screen.heading("Traffic when one tray is lost");
+    traffic::print(numbers, screen);
+    let crossing = numbers.plain_crossing();
+    if crossing < numbers.data() {
+        let part = percent(numbers.traffic(), crossing);
+        screen.line(format!(
+            "  {} of the {} would come from other racks; shares are {part:.1} % of these",
+            grouped(crossing),
+            grouped(numbers.data())
+        ));
+    }
+}

@@ -1,0 +1,156 @@
+//! `cabinet repair`: a lost tray from shares, in pieces.
+
+use super::Command;
+use crate::arguments::{needed, Arguments, Setting};
+use crate::failure::Failure;
+use crate::files;
+use crate::folder::Folder;
+use crate::mending;
+use crate::numbers::Numbers;
+use crate::plate;
+use crate::screen::Screen;
+use crate::spare::Spare;
+use crate::task::{judge, Task};
+use gesarumbo::{Rack, Refusal, Tray};
+use std::ffi::OsStr;
+use std::path::{Path, PathBuf};
+
+const LOST: Setting = Setting::with(
+    "--lost",
+    "X",
+    "the tray to bring back; its own image is not looked at",
+);
+const HELPERS: Setting = Setting::with("--helpers", "a,b,..", "d other racks, rising");
+const SHARE: Setting = Setting::with(
+    "--share",
+    "FILE",
+    "a helper's share, from cabinet share: once for each helper, in their order; without it \
+     shares are worked out from DIR",
+)
+.repeated();
+const FIRST: Setting = Setting::with(
+    "--first",
+    "G",
+    "begin with group G, at most the groups done; without it, go on where the work file ends",
+);
+const BUDGET: Setting = Setting::with("--budget", "N", "do at most N groups now");
+const SPARE: Setting = Setting::with(
+    "--spare",
+    "FILE",
+    "the work file, DIR/tray-XX.spare if not given",
+);
+
+pub const COMMAND: Command = Command {
+    name: "repair",
+    summary: "bring back one lost tray from the shares of d racks, in pieces",
+    help: HELP,
+    settings: &[
+        LOST,
+        HELPERS,
+        SHARE,
+        FIRST,
+        BUDGET,
+        SPARE,
+        plate::LAYOUT,
+        plate::VOLUME,
+    ],
+    run,
+};
+
+const HELP: &str = "\
+cabinet repair DIR --lost X --helpers a,b,.. [--share FILE]..
+               [--first G] [--budget N] [--spare FILE]
+
+Brings back tray X from the shares of d helper racks and the other trays of its
+own rack, some groups at a time. After each piece the spare is kept in a work
+file that names the repair and the groups done, so a repair that is broken off
+goes on where it ended. When all groups are done, the tray is tested with the
+others, if all are there, its live image is written and the work file removed.
+If they do not fit together no image is written (65).
+";
+
+/// What the command line asks for.
+struct Asked {
+    lost: Tray,
+    helpers: Vec<Rack>,
+    first: Option<u64>,
+    budget: u64,
+}
+
+impl Asked {
+    fn read(arguments: &Arguments) -> Result<Asked, Failure> {
+        let helpers = needed(HELPERS, arguments.list(HELPERS)?)?;
+        Ok(Asked {
+            lost: Tray::new(needed(LOST, arguments.number(LOST)?)?),
+            helpers: helpers.into_iter().map(Rack::new).collect(),
+            first: arguments.number(FIRST)?,
+            budget: arguments.number(BUDGET)?.unwrap_or(u64::MAX),
+        })
+    }
+}
+
+fn run(arguments: &Arguments, screen: &mut Screen) -> Result<(), Failure> {
+    let [folder] = arguments.words(["DIR"])?;
+    let asked = Asked::read(arguments)?;
+    let folder = Folder::open(folder, arguments)?;
+    let lost = asked.lost;
+    judge(
+        &folder.numbers,
+        lost,
+        &asked.helpers,
+        asked.first.unwrap_or(0),
+    )?;
+    let files = arguments.values(SHARE);
+    let shares = match files.is_empty() {
+        true => mending::shares(&folder, lost, &asked.helpers)?,
+        false => read_shares(&folder.numbers, &files, asked.helpers.len())?,
+    };
+    let task = Task::new(&folder, lost, asked.helpers, shares)?;
+    let path = arguments.value(SPARE).map(PathBuf::from);
+    let path = path.unwrap_or_else(|| mending::spare_path(&folder, lost));
+    let mut spare = Spare::open(&path, &task)?;
+    let first = start(asked.first, &spare)?;
+    folder.introduce(screen);
+    mending::work(&task, &mut spare, first, asked.budget, screen)?;
+    if spare.done < task.groups() {
+        let place = path.display();
+        screen.line(format!(
+            "  the spare is kept in {place}; repair goes on with it"
+        ));
+        return Ok(());
+    }
+    mending::finish(&folder, lost, spare, screen)
+}
+
+/// All helpers' shares, from files; each must have a share's length.
+fn read_shares(numbers: &Numbers, files: &[&OsStr], helpers: usize) -> Result<Vec<u8>, Failure> {
+    if files.len() != helpers {
+        let words = format!("{} shares are given for {helpers} helpers", files.len());
+        return Err(Failure::Usage(words));
+    }
+    let mut shares = Vec::new();
+    for path in files.iter().map(Path::new) {
+        let share = files::read_existing(path)?;
+        if share.len() != numbers.groups() {
+            let (found, wanted) = (files::length(&share), numbers.groups());
+            let about = format!("{}: {found}, a share has {wanted}", path.display());
+            return Err(Failure::refused(about)(Refusal::Length));
+        }
+        shares.extend(share);
+    }
+    Ok(shares)
+}
+
+/// The group to begin with: no group may be left out.
+fn start(asked: Option<u64>, spare: &Spare) -> Result<u64, Failure> {
+    match asked {
+        Some(first) if first > spare.done => Err(Failure::Contents(format!(
+            "{}: only {} groups are done, {} {first} would leave some out",
+            spare.path().display(),
+            spare.done,
+            FIRST.name
+        ))),
+        Some(first) => Ok(first),
+        None => Ok(spare.done),
+    }
+}

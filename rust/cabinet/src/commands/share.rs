@@ -1,0 +1,45 @@
+//! `cabinet share`: what a helper rack sends.
+
+use super::Command;
+use crate::arguments::{needed, Arguments, Setting};
+use crate::failure::Failure;
+use crate::files;
+use crate::folder::Folder;
+use crate::plate;
+use crate::screen::Screen;
+use gesarumbo::Rack;
+use std::path::Path;
+
+const HOST: Setting = Setting::with("--host", "H", "the rack with the lost tray");
+const HELPER: Setting = Setting::with("--helper", "I", "the rack that sends");
+
+pub const COMMAND: Command = Command {
+    name: "share",
+    summary: "work out what a helper rack sends for a repair",
+    help: HELP,
+    settings: &[HOST, HELPER, plate::LAYOUT, plate::VOLUME],
+    run,
+};
+
+const HELP: &str = "\
+cabinet share DIR --host H --helper I OUT
+
+Works out the share of rack I for a repair in rack H, from the trays of rack I
+alone, and writes its L/s symbols to OUT, one byte each and nothing else. The
+file does not say whose share it is: let its name say so.
+";
+
+fn run(arguments: &Arguments, screen: &mut Screen) -> Result<(), Failure> {
+    let [folder, out] = arguments.words(["DIR", "OUT"])?;
+    let host = Rack::new(needed(HOST, arguments.number(HOST)?)?);
+    let helper = Rack::new(needed(HELPER, arguments.number(HELPER)?)?);
+    let folder = Folder::open(folder, arguments)?;
+    let share = folder.share(host, helper)?;
+    screen.heading(folder.plate.words());
+    screen.line(format!(
+        "  rack {helper} sends {} symbols to rack {host}, {} bytes are in its trays",
+        share.len(),
+        folder.numbers.size * folder.numbers.layers
+    ));
+    files::write_one(Path::new(out), share)
+}

@@ -1,0 +1,67 @@
+//! A tray image's header put into words, for people. Whether the image is handed out only the
+//! library decides.
+
+use crate::folder::HEADER;
+use crate::plate::Plate;
+use gesarumbo::{Layout, DEMONSTRATION, LIVE};
+
+/// The header's numbers, whatever they are.
+pub struct Header([u8; HEADER]);
+
+impl Header {
+    /// The first bytes of an image, if there are enough of them.
+    pub fn of(image: &[u8]) -> Option<Header> {
+        let bytes = image.get(..HEADER)?;
+        bytes.try_into().ok().map(Header)
+    }
+
+    /// The layout and volume that the image claims.
+    pub fn plate(&self) -> Plate {
+        let [b, u, k, d] = [4, 5, 6, 7].map(|at| u32::from(self.0[at]));
+        Plate {
+            layout: Layout::new(b, u, k, d),
+            volume: self.long(12),
+        }
+    }
+
+    /// One line a number.
+    pub fn words(&self) -> Vec<String> {
+        let Plate { layout, volume } = self.plate();
+        let short = u16::from_le_bytes([self.0[0], self.0[1]]);
+        let unused = &self.0[9..12];
+        vec![
+            format!("header    {short} bytes, edition {}", self.0[2]),
+            format!("state     {}", self.state()),
+            format!(
+                "layout    {layout}: {} racks of {} trays",
+                layout.racks, layout.size
+            ),
+            format!("tray      {}{}", self.0[8], self.place(layout)),
+            format!("volume    {volume}"),
+            format!("symbols   {} from byte {}", self.long(20), self.long(16)),
+            format!("unused    {unused:?}"),
+        ]
+    }
+
+    fn state(&self) -> String {
+        match self.0[3] {
+            LIVE => "1, live".to_string(),
+            DEMONSTRATION => "2, demonstration: holds no records".to_string(),
+            other => format!("{other}, which is no state of an image"),
+        }
+    }
+
+    fn place(&self, layout: Layout) -> String {
+        let tray = u32::from(self.0[8]);
+        match (tray.checked_div(layout.size), tray.checked_rem(layout.size)) {
+            (Some(rack), Some(place)) if rack < layout.racks => {
+                format!(", rack {rack}, place {place}")
+            }
+            _ => ", outside its layout".to_string(),
+        }
+    }
+
+    fn long(&self, at: usize) -> u32 {
+        u32::from_le_bytes([self.0[at], self.0[at + 1], self.0[at + 2], self.0[at + 3]])
+    }
+}

@@ -1,0 +1,47 @@
+//! `cabinet`: the service command over the proved library.
+//!
+//! It reads and writes tray image files. The library decides what may be done with them, and a
+//! refusal's number is the exit status.
+
+#![forbid(unsafe_code)]
+
+mod arguments;
+mod commands;
+mod conditions;
+mod failure;
+mod files;
+mod folder;
+mod header;
+mod help;
+mod map;
+mod mending;
+mod numbers;
+mod picture;
+mod plate;
+mod progress;
+mod screen;
+mod spare;
+mod svg;
+mod task;
+mod traffic;
+mod words;
+
+use screen::Screen;
+use std::env;
+use std::ffi::OsString;
+use std::io::{self, Write};
+use std::process::ExitCode;
+
+fn main() -> ExitCode {
+    let line: Vec<OsString> = env::args_os().skip(1).collect();
+    let mut screen = Screen::open();
+    let ended = commands::run(&line, &mut screen);
+    match ended.and(screen.close()) {
+        Ok(()) => ExitCode::SUCCESS,
+        Err(failure) => {
+            // Nobody may be reading; the status says it all the same.
+            let _ = writeln!(io::stderr(), "cabinet: {failure}");
+            ExitCode::from(failure.status())
+        }
+    }
+}

@@ -1,0 +1,133 @@
+//! The repair of one lost tray, done in pieces over a spare.
+
+use crate::failure::Failure;
+use crate::folder::Folder;
+use crate::numbers::Numbers;
+use crate::plate::Plate;
+use gesarumbo::{Rack, Tray};
+
+/// A repair is cut into this many pieces, or fewer.
+const PIECES: u64 = 8;
+
+/// What stays fixed over all pieces of a repair.
+pub struct Task {
+    plate: Plate,
+    numbers: Numbers,
+    lost: Tray,
+    helpers: Vec<Rack>,
+    shares: Vec<u8>,
+    /// The host rack's trays, with zeros for the lost one.
+    host: Vec<u8>,
+}
+
+/// What one piece did, and how far the whole repair is.
+pub struct Piece {
+    pub first: u64,
+    /// The group after the last one done.
+    pub end: u64,
+    /// Groups of the whole repair.
+    pub groups: u64,
+    /// Symbols crossed since group 0.
+    pub crossed: u64,
+    /// Symbols still to come.
+    pub remaining: u64,
+}
+
+/// Lets the library judge the numbers of a repair before any share is needed: a repair of no group
+/// over zeros.
+pub fn judge(numbers: &Numbers, lost: Tray, helpers: &[Rack], first: u64) -> Result<(), Failure> {
+    let shares = vec![0; numbers.traffic()];
+    let host = vec![0; numbers.size * numbers.layers];
+    let mut spare = vec![0; numbers.layers];
+    gesarumbo::repair(
+        numbers.layout,
+        lost,
+        helpers,
+        &shares,
+        &host,
+        &mut spare,
+        first,
+        0,
+    )
+    .map(|_| ())
+    .map_err(Failure::refused(format!("repair of tray {lost}")))
+}
+
+impl Task {
+    /// The repair of a tray of this folder by these helpers' shares, of numbers already judged.
+    pub fn new(
+        folder: &Folder,
+        lost: Tray,
+        helpers: Vec<Rack>,
+        shares: Vec<u8>,
+    ) -> Result<Task, Failure> {
+        let numbers = folder.numbers;
+        let rack = numbers.trays_of(numbers.rack_of(lost));
+        Ok(Task {
+            plate: folder.plate,
+            numbers,
+            lost,
+            helpers,
+            shares,
+            host: folder.joined(rack, Some(lost))?,
+        })
+    }
+
+    /// Groups of the whole repair.
+    pub fn groups(&self) -> u64 {
+        self.numbers.groups() as u64
+    }
+
+    /// Symbols in the spare.
+    pub fn layers(&self) -> usize {
+        self.numbers.layers
+    }
+
+    /// Groups of one piece.
+    pub fn piece_size(&self) -> u64 {
+        self.groups().div_ceil(PIECES)
+    }
+
+    /// Does one piece.
+    pub fn piece(&self, spare: &mut [u8], first: u64, budget: u64) -> Result<Piece, Failure> {
+        let Task {
+            lost,
+            helpers,
+            shares,
+            host,
+            ..
+        } = self;
+        let layout = self.plate.layout;
+        let done = gesarumbo::repair(layout, *lost, helpers, shares, host, spare, first, budget)
+            .map_err(Failure::refused(format!("repair of tray {lost}")))?;
+        Ok(Piece {
+            first,
+            end: first + done.groups,
+            groups: self.groups(),
+            crossed: first * self.numbers.helpers as u64 + done.crossed,
+            remaining: done.remaining,
+        })
+    }
+
+    /// What makes this repair this one: everything that its pieces must have in common, in a line.
+    pub fn name(&self) -> String {
+        let helpers: Vec<String> = self.helpers.iter().map(Rack::to_string).collect();
+        format!(
+            "repair of tray {} of {} volume {} by racks {} over {:016x}",
+            self.lost,
+            self.plate.layout,
+            self.plate.volume,
+            helpers.join(" "),
+            self.fingerprint()
+        )
+    }
+
+    /// A number that changes when shares or sound trays do (FNV-1a, 64 bits).
+    fn fingerprint(&self) -> u64 {
+        let mix = |hash: u64, byte: &u8| (hash ^ u64::from(*byte)).wrapping_mul(0x100_0000_01b3);
+        self.shares
+            .iter()
+            .chain(&self.host)
+            .fold(0xcbf2_9ce4_8422_2325, mix)
+    }
+}

@@ -1,0 +1,72 @@
+//! Numbers and words as people read them.
+
+/// Columns of a terminal.
+const WIDTH: usize = 80;
+
+/// A number of things, in words.
+pub fn count(number: usize, thing: &str) -> String {
+    match number {
+        1 => format!("1 {thing}"),
+        _ => format!("{} {thing}s", grouped(number)),
+    }
+}
+
+/// A number as people read it, 24576 as 24,576.
+pub fn grouped(number: usize) -> String {
+    let digits = number.to_string();
+    let mut text = String::new();
+    for (place, digit) in digits.chars().enumerate() {
+        if place > 0 && (digits.len() - place).is_multiple_of(3) {
+            text.push(',');
+        }
+        text.push(digit);
+    }
+    text
+}
+
+/// Words after a head, in lines that a terminal shows whole; further lines begin under the first
+/// word.
+pub fn hanging(head: &str, words: &str) -> String {
+    let indent = head.chars().count();
+    let mut text = head.to_string();
+    let mut column = indent;
+    for (place, word) in words.split(' ').enumerate() {
+        let width = word.chars().count();
+        if place > 0 && column + 1 + width > WIDTH {
+            text.push('\n');
+            text.push_str(&" ".repeat(indent));
+            column = indent;
+        } else if place > 0 {
+            text.push(' ');
+            column += 1;
+        }
+        text.push_str(word);
+        column += width;
+    }
+    text
+}
+
+#[cfg(test)]
+mod tests {
+    use super::{count, grouped, hanging};
+
+    #[test]
+    fn long_words_hang() {
+        assert_eq!(hanging("  a  ", "b c"), "  a  b c");
+        let long = "word ".repeat(20);
+        let text = hanging("head ", long.trim_end());
+        let lines: Vec<&str> = text.lines().collect();
+        assert_eq!(lines[0], format!("head {}", "word ".repeat(15).trim_end()));
+        assert_eq!(lines[1], format!("     {}", "word ".repeat(5).trim_end()));
+    }
+
+    #[test]
+    fn numbers_in_words() {
+        assert_eq!(grouped(0), "0");
+        assert_eq!(grouped(999), "999");
+        assert_eq!(grouped(24_576), "24,576");
+        assert_eq!(grouped(1_048_576), "1,048,576");
+        assert_eq!(count(1, "rack"), "1 rack");
+        assert_eq!(count(1_024, "symbol"), "1,024 symbols");
+    }
+}

@@ -1,0 +1,151 @@
+//! What the tests of the command share: a temporary folder in which it is run.
+
+use std::fs;
+use std::path::{Path, PathBuf};
+use std::process::Command;
+use std::sync::atomic::{AtomicUsize, Ordering};
+
+/// What a run printed and how it ended.
+pub struct Ended {
+    pub status: i32,
+    pub out: String,
+    pub err: String,
+}
+
+/// A temporary folder, removed when the test is over.
+pub struct Bench {
+    place: PathBuf,
+}
+
+impl Bench {
+    pub fn new() -> Bench {
+        static COUNT: AtomicUsize = AtomicUsize::new(0);
+        let number = COUNT.fetch_add(1, Ordering::Relaxed);
+        let name = format!("cabinet-test-{}-{number}", std::process::id());
+        let place = std::env::temp_dir().join(name);
+        fs::create_dir(&place).expect("a temporary folder can be made");
+        Bench { place }
+    }
+
+    /// A cabinet (4, 3, 8, 3), volume 7, in the folder `c`, with data that fill it.
+    pub fn with_cabinet() -> Bench {
+        let bench = Bench::new();
+        bench.write("data", &data(128));
+        bench.done("store 4 3 8 3 --volume 7 data c");
+        bench
+    }
+
+    /// A file in the folder.
+    pub fn path(&self, name: &str) -> PathBuf {
+        self.place.join(name)
+    }
+
+    pub fn read(&self, name: &str) -> Vec<u8> {
+        fs::read(self.path(name)).unwrap_or_else(|error| panic!("{name}: {error}"))
+    }
+
+    pub fn write(&self, name: &str, bytes: &[u8]) {
+        fs::write(self.path(name), bytes).unwrap_or_else(|error| panic!("{name}: {error}"));
+    }
+
+    pub fn remove(&self, name: &str) {
+        fs::remove_file(self.path(name)).unwrap_or_else(|error| panic!("{name}: {error}"));
+    }
+
+    pub fn exists(&self, name: &str) -> bool {
+        self.path(name).exists()
+    }
+
+    /// Writes one byte over another.
+    pub fn poke(&self, name: &str, at: usize, byte: u8) {
+        let mut bytes = self.read(name);
+        bytes[at] = byte;
+        self.write(name, &bytes);
+    }
+
+    /// Every file below a folder, by name, with what it holds.
+    pub fn snapshot(&self, folder: &str) -> Vec<(String, Vec<u8>)> {
+        let mut files: Vec<_> = list(&self.path(folder))
+            .into_iter()
+            .map(|path| {
+                let bytes = fs::read(&path).expect("a file can be read");
+                (path.display().to_string(), bytes)
+            })
+            .collect();
+        files.sort();
+        files
+    }
+
+    /// Runs the command on the words of a line.
+    pub fn run(&self, line: &str) -> Ended {
+        let output = Command::new(env!("CARGO_BIN_EXE_cabinet"))
+            .args(line.split_whitespace())
+            .current_dir(&self.place)
+            .output()
+            .expect("the command can be run");
+        Ended {
+            status: output.status.code().expect("the command ends by itself"),
+            out: String::from_utf8(output.stdout).expect("the output is text"),
+            err: String::from_utf8(output.stderr).expect("the messages are text"),
+        }
+    }
+
+    /// Runs a line that must be done, and gives what it printed.
+    pub fn done(&self, line: &str) -> String {
+        let ended = self.run(line);
+        assert_eq!(ended.status, 0, "{line}: {}{}", ended.out, ended.err);
+        assert_eq!(ended.err, "", "{line}");
+        ended.out
+    }
+
+    /// Runs a line that must end with this status, and gives its message.
+    pub fn fails(&self, status: i32, line: &str) -> String {
+        let ended = self.run(line);
+        assert_eq!(ended.status, status, "{line}: {}{}", ended.out, ended.err);
+        assert!(ended.err.starts_with("cabinet: "), "{line}: {}", ended.err);
+        ended.err
+    }
+
+    /// As `fails`, for a refusal: the message must name its number, and no file may have changed.
+    pub fn refused(&self, number: i32, line: &str) -> String {
+        let before = self.snapshot(".");
+        let message = self.fails(number, line);
+        let words = format!("refused ({number}): ");
+        assert!(message.contains(&words), "{line}: {message}");
+        assert!(before == self.snapshot("."), "{line}: a file has changed");
+        message
+    }
+}
+
+impl Drop for Bench {
+    fn drop(&mut self) {
+        let _ = fs::remove_dir_all(&self.place);
+    }
+}
+
+/// Files below a folder.
+fn list(folder: &Path) -> Vec<PathBuf> {
+    let entries = fs::read_dir(folder).expect("a folder can be read");
+    entries
+        .map(|entry| entry.expect("an entry can be read").path())
+        .flat_map(|path| match path.is_dir() {
+            true => list(&path),
+            false => vec![path],
+        })
+        .collect()
+}
+
+/// Bytes that repeat only after a long while.
+pub fn data(length: usize) -> Vec<u8> {
+    (0..length)
+        .map(|place| (place * 167 + place * place / 7) as u8)
+        .collect()
+}
+
+/// No line is wider than a terminal, and there are no colour codes.
+pub fn assert_readable(text: &str) {
+    for line in text.lines() {
+        assert!(line.chars().count() <= 80, "wide line: {line}");
+        assert!(!line.contains('\x1b'), "colour: {line}");
+    }
+}

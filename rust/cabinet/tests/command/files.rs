@@ -1,0 +1,269 @@
+//! Files in, files out: storing, testing, recovering, margins and tray images.
+
+use crate::bench::{assert_readable, data, Bench};
+
+/// Turns a tray's image into a demonstration image.
+fn make_demonstration(bench: &Bench, name: &str) {
+    bench.poke(name, 3, 2);
+}
+
+#[test]
+fn images_are_those_of_document_01() {
+    let bench = Bench::new();
+    bench.write("data", &[0xA7]);
+    bench.done("store 2 1 1 1 --volume 7 data c");
+    let image = [
+        0x18, 0, 1, 1, 2, 1, 1, 1, 1, 0, 0, 0, 7, 0, 0, 0, 0x18, 0, 0, 0, 1, 0, 0, 0, 0xA7,
+    ];
+    assert_eq!(bench.read("c/tray-01.img"), image);
+    assert_eq!(bench.read("c/cabinet.txt"), b"layout 2 1 1 1\nvolume 7\n");
+}
+
+#[test]
+fn symbols_are_those_of_document_01() {
+    let bench = Bench::new();
+    bench.write("data", &[0x14, 0x14, 0x18, 0x18, 0x24, 0x24, 0x28, 0x28]);
+    bench.done("store 3 1 1 2 --volume 1 data c");
+    let trays = [
+        (
+            "c/tray-00.img",
+            [0x14, 0x14, 0x18, 0x18, 0x24, 0x24, 0x28, 0x28],
+        ),
+        (
+            "c/tray-01.img",
+            [0x11, 0x12, 0x11, 0x12, 0x21, 0x22, 0x21, 0x22],
+        ),
+        (
+            "c/tray-02.img",
+            [0x05, 0x06, 0x09, 0x0A, 0x05, 0x06, 0x09, 0x0A],
+        ),
+    ];
+    for (name, symbols) in trays {
+        assert_eq!(bench.read(name)[24..], symbols, "{name}");
+    }
+    for (helper, symbols) in [(1, [3; 4]), (2, [3; 4])] {
+        bench.done(&format!("share c --host 0 --helper {helper} share"));
+        assert_eq!(bench.read("share"), symbols);
+    }
+    bench.done("share c --host 1 --helper 0 share");
+    assert_eq!(bench.read("share"), [0x0C; 4]);
+}
+
+#[test]
+fn a_short_file_is_filled_up_with_zeros() {
+    let bench = Bench::new();
+    bench.write("data", &data(100));
+    let out = bench.done("store 4 3 8 3 --volume 7 data c");
+    assert!(
+        out.contains("100 bytes stored, 128 fit: 28 zeros added"),
+        "{out}"
+    );
+    bench.done("recover c --data whole");
+    let mut filled = data(100);
+    filled.resize(128, 0);
+    assert_eq!(bench.read("whole"), filled);
+    bench.done("recover c --data part --length 100");
+    assert_eq!(bench.read("part"), data(100));
+    bench.write("empty", b"");
+    bench.done("store 4 3 8 3 --volume 7 empty e");
+    bench.done("test e");
+}
+
+#[test]
+fn a_cabinet_is_replaced_only_on_demand() {
+    let bench = Bench::with_cabinet();
+    let before = bench.snapshot("c");
+    bench.write("other", &data(5));
+    let message = bench.fails(74, "store 4 3 8 3 --volume 8 other c");
+    assert!(message.contains("--replace"), "{message}");
+    assert!(before == bench.snapshot("c"));
+    bench.done("store 4 3 8 3 --volume 8 --replace other c");
+    assert!(bench.done("test c").contains("volume 8"));
+}
+
+#[test]
+fn a_sound_and_a_bad_cabinet() {
+    let bench = Bench::with_cabinet();
+    assert!(bench
+        .done("test c")
+        .contains("sound: each of 16 layers meets all 4 checks"));
+    let byte = bench.read("c/tray-06.img")[24 + 11];
+    bench.poke("c/tray-06.img", 24 + 11, byte ^ 0x40);
+    let message = bench.fails(65, "test c");
+    assert!(message.contains("layer 11"), "{message}");
+    assert!(message.contains("check 0"), "{message}");
+}
+
+#[test]
+fn testing_needs_every_tray() {
+    let bench = Bench::with_cabinet();
+    bench.remove("c/tray-03.img");
+    assert!(bench.fails(74, "test c").contains("tray-03.img: absent"));
+    make_demonstration(&bench, "c/tray-02.img");
+    bench.refused(10, "test c");
+}
+
+#[test]
+fn trays_come_back_whatever_became_of_them() {
+    let bench = Bench::with_cabinet();
+    let before = bench.snapshot("c");
+    bench.remove("c/tray-00.img");
+    bench.write("c/tray-04.img", b"rust");
+    make_demonstration(&bench, "c/tray-07.img");
+    bench.write("c/tray-11.img", &bench.read("c/tray-10.img"));
+    let out = bench.done("recover c");
+    for why in [
+        "tray  0 is not used: absent",
+        "tray  4 is not used: refused (9)",
+        "tray  7 is not used: refused (10)",
+        "tray 11 is not used: the file holds tray 10",
+        "brought back: tray 0, 4, 7, 11",
+    ] {
+        assert!(out.contains(why), "{why} is missing in\n{out}");
+    }
+    assert!(
+        before == bench.snapshot("c"),
+        "the cabinet is as it was stored"
+    );
+    assert!(bench.done("recover c").contains("no tray to bring back"));
+}
+
+#[test]
+fn a_tray_of_another_cabinet_is_not_used() {
+    let bench = Bench::with_cabinet();
+    bench.done("store 4 3 8 3 --volume 8 data other");
+    let before = bench.snapshot("c");
+    bench.write("c/tray-05.img", &bench.read("other/tray-05.img"));
+    assert!(bench
+        .done("recover c")
+        .contains("tray  5 is not used: refused (11)"));
+    assert!(before == bench.snapshot("c"));
+}
+
+#[test]
+fn a_suspected_tray_can_be_erased() {
+    let bench = Bench::with_cabinet();
+    let before = bench.snapshot("c");
+    bench.poke("c/tray-06.img", 30, !bench.read("c/tray-06.img")[30]);
+    bench.refused(8, "recover c");
+    bench.done("recover c --erase 6");
+    assert!(before == bench.snapshot("c"));
+}
+
+#[test]
+fn every_r_trays_can_be_lost() {
+    let bench = Bench::with_cabinet();
+    let before = bench.snapshot("c");
+    for first in 0..12 {
+        for step in [1, 2, 5] {
+            for place in 0..4 {
+                let name = format!("c/tray-{:02}.img", (first + place * step) % 12);
+                bench.remove(&name);
+            }
+            bench.done("recover c");
+            assert!(before == bench.snapshot("c"), "first {first}, step {step}");
+        }
+    }
+}
+
+#[test]
+fn the_margin_counts_what_is_there() {
+    let bench = Bench::with_cabinet();
+    assert!(bench
+        .done("margin c")
+        .contains("margin 4: any 4 trays more may be lost"));
+    make_demonstration(&bench, "c/tray-03.img");
+    let out = bench.done("margin c");
+    assert!(
+        out.contains("11 live, 1 demonstration, 0 absent; 8 are needed"),
+        "{out}"
+    );
+    assert!(out.contains("rack  1  (3)   4   5"), "{out}");
+    assert!(out.contains("3: any 3 trays more may be lost"), "{out}");
+    assert_readable(&out);
+    bench.remove("c/tray-03.img");
+    for tray in ["00", "01", "02", "09"] {
+        bench.remove(&format!("c/tray-{tray}.img"));
+    }
+    let out = bench.done("margin c");
+    assert!(out.contains("7 live, 0 demonstration, 5 absent"), "{out}");
+    assert!(out.contains("margin -1: too few live trays by 1"), "{out}");
+}
+
+#[test]
+fn expected_numbers_can_be_given() {
+    let bench = Bench::with_cabinet();
+    bench.remove("c/cabinet.txt");
+    assert!(bench.fails(64, "test c").contains("--layout B,u,k,d"));
+    bench.fails(64, "test c --volume 7");
+    bench.done("test c --layout 4,3,8,3 --volume 7");
+    bench.refused(11, "test c --layout 4,3,8,3 --volume 8");
+    bench.write("c/cabinet.txt", b"layout 4 3 8 3\nvolume 8\n");
+    bench.refused(11, "test c");
+    bench.done("test c --volume 7");
+    for plate in [
+        "",
+        "layout 4 3 8\nvolume 7\n",
+        "layout 4 3 8 3\nvolume 7\nmore\n",
+        "volume 7\n",
+    ] {
+        bench.write("c/cabinet.txt", plate.as_bytes());
+        bench.fails(65, "test c");
+    }
+}
+
+#[test]
+fn images_in_words() {
+    let bench = Bench::with_cabinet();
+    let out = bench.done("inspect c/tray-07.img");
+    for words in [
+        "24 bytes, edition 1",
+        "1, live",
+        "(4, 3, 8, 3): 4 racks of 3 trays",
+        "7, rack 2, place 1",
+        "volume    7",
+        "16 from byte 24",
+        "handed out as live tray 7",
+    ] {
+        assert!(out.contains(words), "{words} is missing in\n{out}");
+    }
+    make_demonstration(&bench, "c/tray-07.img");
+    let ended = bench.run("inspect c/tray-06.img c/tray-07.img c/none c/cabinet.txt");
+    assert_eq!(ended.status, 10, "the first that is refused");
+    for words in [
+        "handed out as live tray 6",
+        "refused (10)",
+        "no such file",
+        "refused (9)",
+    ] {
+        assert!(
+            ended.out.contains(words),
+            "{words} is missing in\n{}",
+            ended.out
+        );
+    }
+}
+
+/// Without a name plate an image is held against its own claims, and a broken one still gets 9.
+#[test]
+fn images_without_a_cabinet() {
+    let bench = Bench::with_cabinet();
+    let image = bench.read("c/tray-07.img");
+    bench.write("alone", &image);
+    bench.done("inspect alone");
+    bench.refused(11, "inspect alone --volume 8");
+    bench.refused(11, "inspect alone --layout 2,1,1,1");
+    bench.refused(1, "inspect alone --layout 2,2,2,1");
+    for at in [0, 1, 2, 4, 5, 8, 9, 10, 11, 16, 20] {
+        bench.write("broken", &image);
+        bench.poke("broken", at, 0xEE);
+        bench.refused(9, "inspect broken");
+    }
+    for length in [0, 1, 23, 24, 39, 41, 2 << 20] {
+        let mut bytes = image.clone();
+        bytes.resize(length, 0);
+        bench.write("broken", &bytes);
+        bench.refused(9, "inspect broken");
+    }
+    bench.fails(74, "inspect c");
+}

@@ -1,0 +1,118 @@
+//! Help, version and command lines that make no sense.
+
+use crate::bench::{assert_readable, Bench};
+
+const COMMANDS: [&str; 9] = [
+    "demo", "plan", "store", "test", "recover", "share", "repair", "margin", "inspect",
+];
+
+#[test]
+fn general_help_lists_commands_and_statuses() {
+    let bench = Bench::new();
+    let help = bench.done("--help");
+    assert_readable(&help);
+    assert_eq!(help, bench.done("help"));
+    assert_eq!(help, bench.done("-h"));
+    for command in COMMANDS {
+        assert!(
+            help.contains(&format!("\n  {command} ")),
+            "{command} is missing"
+        );
+    }
+    for status in [
+        "   0  ", "   1  ", "  11  ", "  64  ", "  65  ", "  70  ", "  74  ",
+    ] {
+        assert!(
+            help.contains(&format!("\n{status}")),
+            "status {status} is missing"
+        );
+    }
+}
+
+#[test]
+fn every_command_has_help() {
+    let bench = Bench::new();
+    for command in COMMANDS {
+        let help = bench.done(&format!("help {command}"));
+        assert_readable(&help);
+        assert!(help.contains(&format!("\ncabinet {command}")), "{help}");
+        assert!(help.contains("Exit status"), "{help}");
+        assert_eq!(help, bench.done(&format!("{command} --help")));
+        assert_eq!(help, bench.done(&format!("{command} some words -h")));
+    }
+}
+
+#[test]
+fn version() {
+    let bench = Bench::new();
+    let version = format!("cabinet {}\n", env!("CARGO_PKG_VERSION"));
+    assert_eq!(bench.done("--version"), version);
+}
+
+#[test]
+fn senseless_lines_are_usage_errors() {
+    let bench = Bench::with_cabinet();
+    let lines = [
+        "",
+        "wash",
+        "help wash",
+        "plan",
+        "plan 4 3 8",
+        "plan 4 3 8 3 9",
+        "plan 4 3 8 x",
+        "plan 4 3 8 -3",
+        "plan 4 3 8 4294967296",
+        "plan 4 3 8 3 --svg",
+        "plan 4 3 8 3 --png p",
+        "demo c",
+        "demo --keep a --keep b",
+        "store 4 3 8 3 data d",
+        "store 4 3 8 3 --volume many data d",
+        "store 4 3 8 3 --volume 7 --exact=yes data d",
+        "test",
+        "test c --layout 4,3,8",
+        "share c --host 1 out",
+        "repair c --lost 4",
+        "repair c --lost 4 --helpers 0,two,3",
+        "repair c --lost 4 --helpers 0,2,3 --share c/tray-00.img",
+        "recover c --length 5",
+        "recover c --data out --length 129",
+        "inspect",
+    ];
+    for line in lines {
+        let message = bench.fails(64, line);
+        assert!(
+            line.is_empty() || message.contains("see: cabinet help"),
+            "{message}"
+        );
+    }
+}
+
+#[test]
+fn words_after_two_dashes_are_no_settings() {
+    let bench = Bench::new();
+    for word in ["--layout", "--help"] {
+        let message = bench.fails(74, &format!("inspect -- {word}"));
+        assert!(
+            message.contains(&format!("{word}: no such file")),
+            "{message}"
+        );
+    }
+}
+
+#[cfg(unix)]
+#[test]
+fn words_that_are_no_text_do_no_harm() {
+    use std::ffi::OsStr;
+    use std::os::unix::ffi::OsStrExt;
+    let odd = OsStr::from_bytes(b"\xff\xfe");
+    let run = |words: &[&OsStr]| {
+        let command = std::process::Command::new(env!("CARGO_BIN_EXE_cabinet"))
+            .args(words)
+            .output();
+        command.expect("the command can be run").status.code()
+    };
+    assert_eq!(run(&[odd]), Some(64));
+    assert_eq!(run(&[OsStr::new("plan"), odd, odd, odd, odd]), Some(64));
+    assert_eq!(run(&[OsStr::new("inspect"), odd]), Some(74));
+}

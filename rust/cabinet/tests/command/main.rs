@@ -1,0 +1,10 @@
+//! The command run as people run it: words in, files in, files out, and an exit status.
+
+mod bench;
+mod demo;
+mod files;
+mod help;
+mod plan;
+mod refusals;
+mod repair;
+mod xml;

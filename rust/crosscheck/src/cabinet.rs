@@ -1,0 +1,63 @@
+//! An admissible layout with its numbers, and parts of its codewords.
+
+use crate::random::Random;
+use reference::{Layout, Numbers};
+use std::ops::Range;
+
+#[derive(Clone, Copy, Debug)]
+pub struct Cabinet {
+    /// B, u, k, d.
+    pub layout: [u32; 4],
+    pub numbers: Numbers,
+}
+
+impl Cabinet {
+    /// The cabinet of a layout, none where it is not admissible.
+    pub fn new(layout: [u32; 4]) -> Option<Cabinet> {
+        let numbers = Layout::from(layout).numbers().ok()?;
+        Some(Cabinet { layout, numbers })
+    }
+
+    /// The length of a codeword.
+    pub fn symbols(&self) -> usize {
+        self.numbers.trays * self.numbers.layers
+    }
+
+    pub fn tray_numbers(&self) -> Vec<u32> {
+        (0..self.numbers.trays as u32).collect()
+    }
+
+    /// The racks but one.
+    pub fn other_racks(&self, host: u32) -> Vec<u32> {
+        (0..self.numbers.racks as u32)
+            .filter(|&rack| rack != host)
+            .collect()
+    }
+
+    pub fn rack_of(&self, tray: u32) -> u32 {
+        tray / self.layout[1]
+    }
+
+    /// The codeword of random data, by the second program.
+    pub fn codeword(&self, random: &mut Random) -> Vec<u8> {
+        let data = random.bytes(self.numbers.dimension * self.numbers.layers);
+        let stored = reference::store(self.layout.into(), &data, &vec![0; self.symbols()]);
+        stored.expect("the lengths are right")
+    }
+
+    /// A tray's place in a codeword.
+    pub fn tray(&self, tray: u32) -> Range<usize> {
+        self.run_of_trays(tray, 1)
+    }
+
+    /// A rack's place in a codeword.
+    pub fn rack(&self, rack: u32) -> Range<usize> {
+        let size = self.layout[1];
+        self.run_of_trays(rack * size, size)
+    }
+
+    fn run_of_trays(&self, first: u32, count: u32) -> Range<usize> {
+        let layers = self.numbers.layers;
+        first as usize * layers..(first + count) as usize * layers
+    }
+}

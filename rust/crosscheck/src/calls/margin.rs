@@ -1,0 +1,38 @@
+//! The loss margin.
+
+use super::{library_layout, reference_layout, Call};
+use crate::answer::Answer;
+use crate::cabinet::Cabinet;
+use crate::inputs::{Inputs, Kind, Value};
+use crate::lent::Lent;
+use crate::source::Source;
+
+pub const CALL: Call = Call {
+    name: "margin",
+    shape: &[Kind::Layout, Kind::Bytes],
+    grounds: &[1, 2, 3],
+    example,
+    library,
+    reference,
+};
+
+/// States of all kinds, or of two kinds, or of one.
+fn example(source: &mut Source, cabinet: &Cabinet) -> Inputs {
+    let random = &mut source.random;
+    let kinds: [u8; 3] = [(); 3].map(|()| random.below(3) as u8);
+    let states = (0..cabinet.numbers.trays)
+        .map(|_| random.pick(&kinds))
+        .collect();
+    Inputs(vec![Value::Layout(cabinet.layout), Value::Bytes(states)])
+}
+
+fn library(inputs: &Inputs) -> Answer {
+    let states = Lent::bytes(inputs.bytes(1));
+    let margin = gesarumbo::margin(library_layout(inputs), states.part());
+    Answer::new(margin.map(|margin| [i128::from(margin)])).read("the states", &states)
+}
+
+fn reference(inputs: &Inputs) -> Answer {
+    let margin = reference::margin(reference_layout(inputs), inputs.bytes(1));
+    Answer::new(margin.map(|margin| [i128::from(margin)]))
+}

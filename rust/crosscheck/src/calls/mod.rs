@@ -1,0 +1,53 @@
+//! The calls, one file and one entry of [`CALLS`] each.
+
+pub mod margin;
+pub mod measure;
+pub mod read_image;
+pub mod recover;
+pub mod repair;
+pub mod share;
+pub mod store;
+pub mod test;
+pub mod write_image;
+
+use crate::answer::Answer;
+use crate::cabinet::Cabinet;
+use crate::inputs::{Inputs, Kind};
+use crate::source::Source;
+
+pub struct Call {
+    /// Its name in the vector format.
+    pub name: &'static str,
+    /// The kinds of its inputs.
+    pub shape: &'static [Kind],
+    /// The grounds that can apply to it, in the order they are tried.
+    pub grounds: &'static [u32],
+    /// Random inputs over a layout: such as are done, or refused for what the
+    /// buffers hold.
+    pub example: fn(&mut Source, &Cabinet) -> Inputs,
+    /// What the library answers, through the wrapper.
+    pub library: fn(&Inputs) -> Answer,
+    /// What the second program answers.
+    pub reference: fn(&Inputs) -> Answer,
+}
+
+pub const CALLS: [&Call; 9] = [
+    &measure::CALL,
+    &test::CALL,
+    &store::CALL,
+    &recover::CALL,
+    &share::CALL,
+    &repair::CALL,
+    &write_image::CALL,
+    &read_image::CALL,
+    &margin::CALL,
+];
+
+fn library_layout(inputs: &Inputs) -> gesarumbo::Layout {
+    let [racks, size, dimension, helpers] = inputs.layout();
+    gesarumbo::Layout::new(racks, size, dimension, helpers)
+}
+
+fn reference_layout(inputs: &Inputs) -> reference::Layout {
+    inputs.layout().into()
+}

@@ -1,0 +1,18 @@
+//! Random cases, one file and one entry of [`DRAWS`] each.
+
+mod any_call;
+mod cutting;
+mod same_group;
+
+use crate::crosscheck::Crosscheck;
+
+pub struct Draw {
+    pub name: &'static str,
+    /// How many cases the gate runs.
+    pub gate: usize,
+    /// How many the short form runs.
+    pub short: usize,
+    pub case: fn(&mut Crosscheck),
+}
+
+pub const DRAWS: [&Draw; 3] = [&any_call::DRAW, &cutting::DRAW, &same_group::DRAW];

@@ -1,0 +1,28 @@
+//! Cases gone through one after another, one file and one entry of [`SWEEPS`]
+//! each.
+
+mod every_layout;
+mod header_bytes;
+mod least_check;
+mod small_layouts;
+mod whole_repairs;
+
+use crate::crosscheck::Crosscheck;
+use crate::source::Source;
+
+pub struct Sweep {
+    pub name: &'static str,
+    /// How many items it has.
+    pub items: fn(&Source) -> usize,
+    /// The short form takes one item in so many.
+    pub short_step: usize,
+    pub item: fn(&mut Crosscheck, usize),
+}
+
+pub const SWEEPS: [&Sweep; 5] = [
+    &every_layout::SWEEP,
+    &small_layouts::SWEEP,
+    &least_check::SWEEP,
+    &header_bytes::SWEEP,
+    &whole_repairs::SWEEP,
+];

@@ -1,0 +1,220 @@
+//! The library's C functions, and the only unsafe code of this crate.
+//!
+//! What makes each call sound is the same. A slice goes over as its pointer and its length, and the
+//! loan lasts as long as the call: the library is proved to stay inside the lengths it is given and
+//! keeps no pointer. What it writes is lent `&mut`, so no two buffers of a call overlap. Structs
+//! and kinds have the layout of the header `c/gesarumbo.h`.
+
+use crate::{Layout, Rack, Tray};
+
+/// The answer to a measuring; `refusal` is 0 where the call was done, here and below.
+#[repr(C)]
+pub struct Measured {
+    pub refusal: u32,
+    pub layers: u32,
+    pub checks: u32,
+    pub traffic: u32,
+}
+
+/// The answer to a test; `verdict` is 1 for sound and 2 for bad.
+#[repr(C)]
+pub struct Tested {
+    pub refusal: u32,
+    pub verdict: u32,
+    pub layer: u32,
+    pub check: u32,
+}
+
+/// The answer to a piece of a repair.
+#[repr(C)]
+pub struct Repaired {
+    pub refusal: u32,
+    pub groups: u64,
+    pub crossed: u64,
+    pub remaining: u64,
+}
+
+/// The answer to the reading of an image: where its symbols lie in it.
+#[repr(C)]
+pub struct Image {
+    pub refusal: u32,
+    pub tray: Tray,
+    pub offset: usize,
+    pub length: usize,
+}
+
+/// The answer to a question for the margin.
+#[repr(C)]
+pub struct Margin {
+    pub refusal: u32,
+    pub margin: i32,
+}
+
+extern "C" {
+    fn gesarumbo_measure(layout: Layout) -> Measured;
+    fn gesarumbo_test(layout: Layout, codeword: *const u8, length: usize) -> Tested;
+    fn gesarumbo_store(
+        layout: Layout,
+        data: *const u8,
+        data_length: usize,
+        codeword: *mut u8,
+        length: usize,
+    ) -> u32;
+    fn gesarumbo_recover(
+        layout: Layout,
+        codeword: *mut u8,
+        length: usize,
+        erased: *const Tray,
+        count: usize,
+    ) -> u32;
+    fn gesarumbo_share(
+        layout: Layout,
+        host: Rack,
+        helper: Rack,
+        rack: *const u8,
+        rack_length: usize,
+        share: *mut u8,
+        share_length: usize,
+    ) -> u32;
+    fn gesarumbo_repair(
+        layout: Layout,
+        lost: Tray,
+        helpers: *const Rack,
+        count: usize,
+        shares: *const u8,
+        shares_length: usize,
+        host: *const u8,
+        host_length: usize,
+        spare: *mut u8,
+        spare_length: usize,
+        first: u64,
+        budget: u64,
+    ) -> Repaired;
+    fn gesarumbo_write_image(
+        layout: Layout,
+        tray: Tray,
+        state: u32,
+        volume: u32,
+        symbols: *const u8,
+        symbols_length: usize,
+        image: *mut u8,
+        image_length: usize,
+    ) -> u32;
+    fn gesarumbo_read_image(layout: Layout, volume: u32, image: *const u8, length: usize) -> Image;
+    fn gesarumbo_margin(layout: Layout, states: *const u8, length: usize) -> Margin;
+}
+
+pub fn measure(layout: Layout) -> Measured {
+    // SAFETY: numbers only.
+    unsafe { gesarumbo_measure(layout) }
+}
+
+pub fn test(layout: Layout, codeword: &[u8]) -> Tested {
+    // SAFETY: the slice is lent for the call.
+    unsafe { gesarumbo_test(layout, codeword.as_ptr(), codeword.len()) }
+}
+
+pub fn store(layout: Layout, data: &[u8], codeword: &mut [u8]) -> u32 {
+    // SAFETY: both slices are lent for the call, the written one alone.
+    unsafe {
+        gesarumbo_store(
+            layout,
+            data.as_ptr(),
+            data.len(),
+            codeword.as_mut_ptr(),
+            codeword.len(),
+        )
+    }
+}
+
+pub fn recover(layout: Layout, codeword: &mut [u8], erased: &[Tray]) -> u32 {
+    // SAFETY: both slices are lent for the call, the written one alone; a tray is a 32-bit number.
+    unsafe {
+        gesarumbo_recover(
+            layout,
+            codeword.as_mut_ptr(),
+            codeword.len(),
+            erased.as_ptr(),
+            erased.len(),
+        )
+    }
+}
+
+pub fn share(layout: Layout, host: Rack, helper: Rack, rack: &[u8], share: &mut [u8]) -> u32 {
+    // SAFETY: both slices are lent for the call, the written one alone.
+    unsafe {
+        gesarumbo_share(
+            layout,
+            host,
+            helper,
+            rack.as_ptr(),
+            rack.len(),
+            share.as_mut_ptr(),
+            share.len(),
+        )
+    }
+}
+
+#[allow(clippy::too_many_arguments)] // a repair has as many
+pub fn repair(
+    layout: Layout,
+    lost: Tray,
+    helpers: &[Rack],
+    shares: &[u8],
+    host: &[u8],
+    spare: &mut [u8],
+    first: u64,
+    budget: u64,
+) -> Repaired {
+    // SAFETY: all slices are lent for the call, the written one alone; a rack is a 32-bit number.
+    unsafe {
+        gesarumbo_repair(
+            layout,
+            lost,
+            helpers.as_ptr(),
+            helpers.len(),
+            shares.as_ptr(),
+            shares.len(),
+            host.as_ptr(),
+            host.len(),
+            spare.as_mut_ptr(),
+            spare.len(),
+            first,
+            budget,
+        )
+    }
+}
+
+pub fn write_image(
+    layout: Layout,
+    tray: Tray,
+    state: u32,
+    volume: u32,
+    symbols: &[u8],
+    image: &mut [u8],
+) -> u32 {
+    let (from, to) = (symbols.as_ptr(), image.as_mut_ptr());
+    // SAFETY: both slices are lent for the call, the written one alone.
+    unsafe {
+        gesarumbo_write_image(
+            layout,
+            tray,
+            state,
+            volume,
+            from,
+            symbols.len(),
+            to,
+            image.len(),
+        )
+    }
+}
+
+pub fn read_image(layout: Layout, volume: u32, image: &[u8]) -> Image {
+    // SAFETY: the slice is lent for the call.
+    unsafe { gesarumbo_read_image(layout, volume, image.as_ptr(), image.len()) }
+}
+
+pub fn margin(layout: Layout, states: &[u8]) -> Margin {
+    // SAFETY: the slice is lent for the call.
+    unsafe { gesarumbo_margin(layout, states.as_ptr(), states.len()) }
+}

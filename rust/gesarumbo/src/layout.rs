@@ -1,0 +1,47 @@
+//! The four numbers of a cabinet.
+
+use std::fmt;
+
+/// The four numbers of a cabinet, any 32-bit values; each call says whether they are admissible.
+///
+/// ```
+/// use gesarumbo::{measure, Layout, Refusal};
+///
+/// assert_eq!(Layout::new(4, 3, 8, 3).to_string(), "(4, 3, 8, 3)");
+/// assert_eq!(measure(Layout::new(11, 3, 27, 10)), Err(Refusal::Layout));
+/// ```
+#[repr(C)]
+#[derive(Clone, Copy, Debug, PartialEq, Eq, Hash)]
+pub struct Layout {
+    /// B, the number of racks: at least 2.
+    pub racks: u32,
+    /// u, the trays of a rack: 1, 3, 5, 15 or 17, and B·u at most 48.
+    pub size: u32,
+    /// k, the trays' worth of data: from u to B·u − u.
+    pub dimension: u32,
+    /// d, the helper racks of a repair: from k/u (whole) to B − 1.
+    pub helpers: u32,
+}
+
+impl Layout {
+    /// The layout of B racks of u trays with k trays' worth of data and d helper racks, admissible
+    /// or not.
+    pub const fn new(racks: u32, size: u32, dimension: u32, helpers: u32) -> Layout {
+        Layout {
+            racks,
+            size,
+            dimension,
+            helpers,
+        }
+    }
+}
+
+impl fmt::Display for Layout {
+    fn fmt(&self, f: &mut fmt::Formatter<'_>) -> fmt::Result {
+        write!(
+            f,
+            "({}, {}, {}, {})",
+            self.racks, self.size, self.dimension, self.helpers
+        )
+    }
+}

@@ -1,0 +1,73 @@
+//! Rack-aware erasure coding for packaged record stores, every call proved.
+//!
+//! A cabinet has B racks of u trays, n = B·u trays in all, and stores k trays' worth of data. Any
+//! k trays give back the rest. When one tray is lost, d other racks each work out a share of L/s
+//! symbols from their own trays, and the tray comes back from these shares and the sound trays of
+//! its own rack. So d·L/s symbols cross between the racks, the published least.
+//!
+//! Here K = k/u (whole), s = d − K + 1, and L = s to the power B. A tray has L symbols of one byte,
+//! in layers 0 to L − 1, and a layer has r = n − k parity checks. A codeword lies tray after tray,
+//! symbol j of tray x at x·L + j, so that a rack's trays lie side by side.
+//!
+//! ```
+//! use gesarumbo::{repair, share, store, Layout, Rack, Tray};
+//!
+//! // Three racks of one tray, one tray's worth of data, two helpers.
+//! let layout = Layout::new(3, 1, 1, 2);
+//! let data = [0x14, 0x14, 0x18, 0x18, 0x24, 0x24, 0x28, 0x28];
+//! let mut codeword = [0; 24];
+//! store(layout, &data, &mut codeword)?;
+//!
+//! // Tray 0 is lost: racks 1 and 2 send four symbols each.
+//! let (host, lost, helpers) = (Rack::new(0), Tray::new(0), [Rack::new(1), Rack::new(2)]);
+//! let (mut shares, mut spare) = ([0; 8], [0; 8]);
+//! share(layout, host, helpers[0], &codeword[8..16], &mut shares[..4])?;
+//! share(layout, host, helpers[1], &codeword[16..], &mut shares[4..])?;
+//! let done = repair(layout, lost, &helpers, &shares, &codeword[..8], &mut spare, 0, 4)?;
+//! assert_eq!(spare, data);
+//! assert_eq!((done.groups, done.crossed, done.remaining), (4, 8, 0));
+//! # Ok::<(), gesarumbo::Refusal>(())
+//! ```
+//!
+//! # What every call keeps
+//!
+//! Any layout, number, list and buffer may be given; nobody has to look first. Every call ends with
+//! an answer. It is refused exactly when one of the numbered grounds of [`Refusal`] applies, on the
+//! first that does, and a refused call has changed no byte of any buffer. A call that is done has
+//! written what it says and nothing else.
+//!
+//! These are theorems about the library that this crate links, and not tests. The crate adds the
+//! kinds, and nothing of its own happens between a call and the proved function.
+
+#![deny(missing_docs)]
+#![deny(unsafe_code)]
+#![deny(unsafe_op_in_unsafe_fn)]
+
+#[allow(unsafe_code)]
+mod ffi;
+
+mod image;
+mod kinds;
+mod layout;
+mod margin;
+mod measure;
+mod recover;
+mod refusal;
+mod repair;
+mod share;
+mod state;
+mod store;
+mod test;
+
+pub use image::{read_image, write_image, Image};
+pub use kinds::{Layer, Rack, Tray};
+pub use layout::Layout;
+pub use margin::margin;
+pub use measure::{measure, Measured};
+pub use recover::recover;
+pub use refusal::Refusal;
+pub use repair::{repair, Repaired};
+pub use share::share;
+pub use state::{ABSENT, DEMONSTRATION, LIVE};
+pub use store::store;
+pub use test::{test, Tested};

@@ -1,0 +1,125 @@
+//! The grounds on which the library says no.
+
+use std::{error, fmt};
+
+/// Why a call was refused: the first ground that applies to it, in the order 1 to 11.
+///
+/// A refused call has changed no byte of any buffer it was lent.
+///
+/// ```
+/// use gesarumbo::Refusal;
+///
+/// let refusal = Refusal::from_number(10).expect("there is a ground 10");
+/// assert_eq!(refusal, Refusal::Demonstration);
+/// assert_eq!(refusal.number(), 10);
+/// assert_eq!(refusal.to_string(), "the image is marked demonstration");
+/// assert_eq!(Refusal::from_number(0), None);
+/// ```
+#[repr(u32)]
+#[derive(Clone, Copy, Debug, PartialEq, Eq, PartialOrd, Ord, Hash)]
+pub enum Refusal {
+    /// The layout is not admissible.
+    Layout = 1,
+    /// A lent buffer is not exactly the length its rule gives: symbols, shares, spare, states or an
+    /// image being written.
+    Length = 2,
+    /// A tray or rack number is outside the layout, or a state outside its values.
+    Number = 3,
+    /// A list is not strictly rising.
+    Order = 4,
+    /// More trays are erased than there are checks, or there are not exactly d helpers.
+    Count = 5,
+    /// The host rack is a helper.
+    Host = 6,
+    /// The first group is above L/s.
+    FirstGroup = 7,
+    /// No codeword has these survivors.
+    Survivors = 8,
+    /// The image is malformed: under 24 bytes, a header rule broken, its own layout not admissible,
+    /// its tray outside that layout, or its length not 24 + L.
+    Malformed = 9,
+    /// The image is marked demonstration.
+    Demonstration = 10,
+    /// The image is of another layout or volume.
+    Other = 11,
+}
+
+/// Every ground with its words, in the order of their numbers, from 1.
+const GROUNDS: [(Refusal, &str); 11] = [
+    (Refusal::Layout, "the layout is not admissible"),
+    (
+        Refusal::Length,
+        "a buffer is not exactly the length its rule gives",
+    ),
+    (
+        Refusal::Number,
+        "a tray or rack number is outside the layout, or a state outside its values",
+    ),
+    (Refusal::Order, "a list is not strictly rising"),
+    (
+        Refusal::Count,
+        "too many trays are erased, or the helpers are not as many as the layout says",
+    ),
+    (Refusal::Host, "the host rack is a helper"),
+    (
+        Refusal::FirstGroup,
+        "the first group is above the number of groups",
+    ),
+    (Refusal::Survivors, "no codeword has these survivors"),
+    (Refusal::Malformed, "the image is malformed"),
+    (Refusal::Demonstration, "the image is marked demonstration"),
+    (Refusal::Other, "the image is of another layout or volume"),
+];
+
+impl Refusal {
+    /// The number of this ground, 1 to 11.
+    pub const fn number(self) -> u32 {
+        self as u32
+    }
+
+    /// The ground of this number, if there is one.
+    pub fn from_number(number: u32) -> Option<Refusal> {
+        let place = usize::try_from(number).ok()?.checked_sub(1)?;
+        GROUNDS.get(place).map(|&(ground, _)| ground)
+    }
+
+    /// What the library's number means: `done` for 0, else the refusal.
+    ///
+    /// The library is proved to give no other number than 0 and those of the grounds.
+    pub(crate) fn unless_done<T>(number: u32, done: T) -> Result<T, Refusal> {
+        match number {
+            0 => Ok(done),
+            _ => {
+                Err(Refusal::from_number(number).expect("the library refuses on a numbered ground"))
+            }
+        }
+    }
+}
+
+impl fmt::Display for Refusal {
+    fn fmt(&self, f: &mut fmt::Formatter<'_>) -> fmt::Result {
+        f.write_str(GROUNDS[*self as usize - 1].1)
+    }
+}
+
+impl error::Error for Refusal {}
+
+#[cfg(test)]
+mod tests {
+    use super::*;
+
+    #[test]
+    fn every_ground_stands_at_its_number() {
+        for (number, (ground, _)) in (1..).zip(GROUNDS) {
+            assert_eq!(ground.number(), number);
+            assert_eq!(Refusal::from_number(number), Some(ground));
+        }
+    }
+
+    #[test]
+    fn no_other_number_is_a_ground() {
+        for number in [0, 12, 255, 256 + 1, u32::MAX] {
+            assert_eq!(Refusal::from_number(number), None);
+        }
+    }
+}

@@ -1,0 +1,173 @@
+//! The grounds of each call: everything is wrong at first, and is put right one ground at a time.
+//! Each call must name the first ground that is left, and leave the buffer it was lent as it was.
+
+use gesarumbo::*;
+use std::fmt::Debug;
+
+const BAD: Layout = Layout::new(4, 4, 8, 3);
+const GOOD: Layout = Layout::new(4, 3, 8, 3); // 12 trays, 16 layers, 4 checks, 8 groups
+
+/// Asserts that a call is refused on this ground and leaves a buffer of this length.
+fn refused<T, F>(ground: Refusal, length: usize, call: F)
+where
+    T: Debug,
+    F: FnOnce(&mut [u8]) -> Result<T, Refusal>,
+{
+    let before: Vec<u8> = (0..length).map(|i| i as u8 ^ 0x5A).collect();
+    let mut lent = before.clone();
+    let answer = call(&mut lent);
+    assert_eq!(answer.expect_err("it is refused"), ground);
+    assert_eq!(lent, before);
+}
+
+fn trays(numbers: &[u32]) -> Vec<Tray> {
+    numbers.iter().copied().map(Tray::new).collect()
+}
+
+fn racks(numbers: &[u32]) -> Vec<Rack> {
+    numbers.iter().copied().map(Rack::new).collect()
+}
+
+#[test]
+fn storing() {
+    for (ground, layout, data, length) in [
+        (Refusal::Layout, BAD, 127, 191),
+        (Refusal::Length, GOOD, 127, 192),
+        (Refusal::Length, GOOD, 128, 191),
+    ] {
+        refused(ground, length, |out| store(layout, &vec![0; data], out));
+    }
+}
+
+#[test]
+fn testing() {
+    refused(Refusal::Layout, 193, |codeword| test(BAD, codeword));
+    refused(Refusal::Length, 193, |codeword| test(GOOD, codeword));
+}
+
+#[test]
+fn recovering() {
+    for (ground, layout, length, erased) in [
+        (Refusal::Layout, BAD, 191, &[12, 1, 1, 2, 3, 4][..]),
+        (Refusal::Length, GOOD, 191, &[12, 1, 1, 2, 3, 4]),
+        (Refusal::Number, GOOD, 192, &[12, 1, 1, 2, 3, 4]),
+        (Refusal::Order, GOOD, 192, &[0, 1, 1, 2, 3, 4]),
+        (Refusal::Count, GOOD, 192, &[0, 1, 2, 3, 4]),
+        (Refusal::Survivors, GOOD, 192, &[0, 1, 2]),
+        (Refusal::Survivors, GOOD, 192, &[]),
+    ] {
+        refused(ground, length, |c| recover(layout, c, &trays(erased)));
+    }
+}
+
+#[test]
+fn sharing() {
+    for (ground, layout, host, helper, rack, length) in [
+        (Refusal::Layout, BAD, 4, 4, 47, 7),
+        (Refusal::Length, GOOD, 4, 4, 47, 8),
+        (Refusal::Length, GOOD, 4, 4, 48, 7),
+        (Refusal::Number, GOOD, 4, 4, 48, 8),
+        (Refusal::Number, GOOD, 0, 4, 48, 8),
+        (Refusal::Host, GOOD, 3, 3, 48, 8),
+    ] {
+        let (host, helper) = (Rack::new(host), Rack::new(helper));
+        refused(ground, length, |out| {
+            share(layout, host, helper, &vec![0; rack], out)
+        });
+    }
+}
+
+#[test]
+fn repairing() {
+    for (ground, layout, lost, helpers, shares, host, length) in [
+        (Refusal::Layout, BAD, 12, &[1, 0, 4, 3][..], 25, 49, 15),
+        (Refusal::Length, GOOD, 12, &[1, 0, 4, 3], 25, 48, 16),
+        (Refusal::Length, GOOD, 12, &[1, 0, 4, 3], 24, 49, 16),
+        (Refusal::Length, GOOD, 12, &[1, 0, 4, 3], 24, 48, 15),
+        (Refusal::Number, GOOD, 12, &[1, 0, 2, 3], 24, 48, 16),
+        (Refusal::Number, GOOD, 11, &[1, 0, 4, 3], 24, 48, 16),
+        (Refusal::Order, GOOD, 11, &[1, 0, 2, 3], 24, 48, 16),
+        (Refusal::Count, GOOD, 11, &[0, 1, 2, 3], 24, 48, 16),
+        (Refusal::Host, GOOD, 11, &[0, 1, 3], 24, 48, 16),
+        (Refusal::FirstGroup, GOOD, 11, &[0, 1, 2], 24, 48, 16),
+    ] {
+        let (lost, helpers) = (Tray::new(lost), racks(helpers));
+        let (shares, host) = (vec![0; shares], vec![0; host]);
+        refused(ground, length, |spare| {
+            repair(layout, lost, &helpers, &shares, &host, spare, 9, 0)
+        });
+    }
+}
+
+#[test]
+fn writing_an_image() {
+    for (ground, layout, tray, state, symbols, length) in [
+        (Refusal::Layout, BAD, 12, 3, 15, 39),
+        (Refusal::Length, GOOD, 12, 3, 15, 40),
+        (Refusal::Length, GOOD, 12, 3, 16, 41),
+        (Refusal::Number, GOOD, 12, u32::from(LIVE), 16, 40),
+        (Refusal::Number, GOOD, 11, u32::from(ABSENT), 16, 40),
+        (Refusal::Number, GOOD, 11, 256 + u32::from(LIVE), 16, 40),
+    ] {
+        let (tray, symbols) = (Tray::new(tray), vec![0; symbols]);
+        refused(ground, length, |image| {
+            write_image(layout, tray, state, 7, &symbols, image)
+        });
+    }
+}
+
+/// An image of tray 2 with 16 symbols.
+fn image_of(layout: Layout, state: u8, volume: u32) -> Vec<u8> {
+    let mut image = vec![0; 40];
+    let written = write_image(
+        layout,
+        Tray::new(2),
+        state.into(),
+        volume,
+        &[0xC3; 16],
+        &mut image,
+    );
+    assert_eq!(written, Ok(()));
+    image
+}
+
+#[test]
+fn reading_an_image() {
+    let live = image_of(GOOD, LIVE, 7);
+    let demonstration = image_of(GOOD, DEMONSTRATION, 8);
+    let other = image_of(Layout::new(4, 3, 7, 3), LIVE, 7);
+    for (ground, layout, volume, image) in [
+        (Refusal::Layout, BAD, 8, &live[..39]),
+        (Refusal::Malformed, GOOD, 8, &live[..39]),
+        (Refusal::Malformed, GOOD, 7, &demonstration[1..]),
+        (Refusal::Demonstration, GOOD, 7, &demonstration),
+        (Refusal::Other, GOOD, 8, &live),
+        (Refusal::Other, GOOD, 7, &other),
+    ] {
+        assert_eq!(read_image(layout, volume, image), Err(ground));
+    }
+    let read = read_image(GOOD, 7, &live).expect("it is live and as expected");
+    assert_eq!((read.tray, read.symbols), (Tray::new(2), &live[24..]));
+}
+
+#[test]
+fn the_margin() {
+    assert_eq!(margin(BAD, &[3; 11]), Err(Refusal::Layout));
+    assert_eq!(margin(GOOD, &[3; 11]), Err(Refusal::Length));
+    assert_eq!(margin(GOOD, &[3; 12]), Err(Refusal::Number));
+    assert_eq!(margin(GOOD, &[ABSENT; 12]), Ok(-8));
+}
+
+#[test]
+fn nothing_lent_is_a_wrong_length() {
+    let (rack, tray) = (Rack::new(0), Tray::new(0));
+    let length = Refusal::Length;
+    refused(length, 0, |out| store(GOOD, &[], out));
+    refused(length, 0, |codeword| test(GOOD, codeword));
+    refused(length, 0, |codeword| recover(GOOD, codeword, &[]));
+    refused(length, 0, |out| share(GOOD, rack, rack, &[], out));
+    refused(length, 0, |s| repair(GOOD, tray, &[], &[], &[], s, 0, 0));
+    refused(length, 0, |i| write_image(GOOD, tray, 1, 7, &[], i));
+    assert_eq!(read_image(GOOD, 7, &[]), Err(Refusal::Malformed));
+    assert_eq!(margin(GOOD, &[]), Err(length));
+}

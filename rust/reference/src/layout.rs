@@ -1,0 +1,137 @@
+//! Layouts, their numbers, and the digits and groups of layers.
+
+use crate::Refusal;
+
+/// The most trays in a cabinet.
+pub const MOST_TRAYS: u64 = 48;
+/// The most layers in a tray.
+pub const MOST_LAYERS: u64 = 1024;
+/// The rack sizes that can be had.
+pub const RACK_SIZES: [u32; 5] = [1, 3, 5, 15, 17];
+
+#[derive(Clone, Copy, Debug, PartialEq, Eq, PartialOrd, Ord)]
+pub struct Rack(pub u32);
+#[derive(Clone, Copy, Debug, PartialEq, Eq, PartialOrd, Ord)]
+pub struct Tray(pub u32);
+#[derive(Clone, Copy, Debug, PartialEq, Eq, PartialOrd, Ord)]
+pub struct Layer(pub u32);
+
+/// Document 01's B, u, k, d: any values.
+#[derive(Clone, Copy, Debug, PartialEq, Eq)]
+pub struct Layout {
+    pub racks: u32,
+    pub size: u32,
+    pub dimension: u32,
+    pub helpers: u32,
+}
+
+/// What follows from an admissible layout.
+#[derive(Clone, Copy, Debug, PartialEq, Eq)]
+pub struct Numbers {
+    /// B
+    pub racks: usize,
+    /// u
+    pub size: usize,
+    /// k
+    pub dimension: usize,
+    /// d
+    pub helpers: usize,
+    /// n
+    pub trays: usize,
+    /// r
+    pub checks: usize,
+    /// R
+    pub rack_checks: usize,
+    /// s
+    pub base: usize,
+    /// L
+    pub layers: usize,
+    /// L/s
+    pub groups: usize,
+}
+
+/// The answer of the layout call.
+#[derive(Clone, Copy, Debug, PartialEq, Eq)]
+pub struct Measured {
+    pub layers: u32,
+    pub checks: u32,
+    pub traffic: u32,
+}
+
+impl From<[u32; 4]> for Layout {
+    fn from([racks, size, dimension, helpers]: [u32; 4]) -> Layout {
+        Layout {
+            racks,
+            size,
+            dimension,
+            helpers,
+        }
+    }
+}
+
+impl Layout {
+    /// The layout's numbers, refused where it is not admissible.
+    pub fn numbers(self) -> Result<Numbers, Refusal> {
+        self.admitted().ok_or(Refusal::Layout)
+    }
+
+    /// Document 01's conditions. Products and powers are taken in a width in
+    /// which they cannot wrap, each only where the conditions before it hold.
+    fn admitted(self) -> Option<Numbers> {
+        let [racks, size, dimension, helpers] =
+            [self.racks, self.size, self.dimension, self.helpers].map(u64::from);
+        let must = |condition: bool| condition.then_some(());
+        must(racks >= 2 && RACK_SIZES.contains(&self.size))?;
+        let trays = racks * size;
+        must(trays <= MOST_TRAYS && size <= dimension && size + dimension <= trays)?;
+        let whole = dimension / size;
+        must(whole <= helpers && helpers < racks)?;
+        let base = helpers - whole + 1;
+        let layers = base
+            .checked_pow(self.racks)
+            .filter(|&layers| layers <= MOST_LAYERS)?;
+        Some(Numbers {
+            racks: racks as usize,
+            size: size as usize,
+            dimension: dimension as usize,
+            helpers: helpers as usize,
+            trays: trays as usize,
+            checks: (trays - dimension) as usize,
+            rack_checks: (racks - whole) as usize,
+            base: base as usize,
+            layers: layers as usize,
+            groups: (layers / base) as usize,
+        })
+    }
+}
+
+impl Numbers {
+    pub fn has_rack(&self, rack: Rack) -> bool {
+        (rack.0 as usize) < self.racks
+    }
+
+    pub fn has_tray(&self, tray: Tray) -> bool {
+        (tray.0 as usize) < self.trays
+    }
+
+    /// Digit `rack` of a layer in base s, digit 0 the lowest.
+    pub fn digit(&self, layer: usize, rack: usize) -> usize {
+        layer / self.base.pow(rack as u32) % self.base
+    }
+
+    /// The group of a layer for a host rack: its digits but the host's.
+    pub fn group(&self, host: usize, layer: usize) -> usize {
+        let below = self.base.pow(host as u32);
+        layer % below + below * (layer / (below * self.base))
+    }
+}
+
+/// The layout call: L, r and the traffic d·L/s.
+pub fn measure(layout: Layout) -> Result<Measured, Refusal> {
+    let numbers = layout.numbers()?;
+    Ok(Measured {
+        layers: numbers.layers as u32,
+        checks: numbers.checks as u32,
+        traffic: (numbers.helpers * numbers.groups) as u32,
+    })
+}

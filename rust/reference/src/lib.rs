@@ -1,0 +1,39 @@
+//! A second program, written from document 01 alone: every call in the
+//! plainest way, to compare the library with.
+//!
+//! Products are worked out bit by bit and every unknown is found by
+//! elimination over the parity checks themselves; there is no table and no
+//! closed formula. Speed is no aim.
+//!
+//! A call never writes what it is lent: it gives back what a lent buffer must
+//! hold afterwards. A refused call gives back no buffer, so the buffer stays.
+
+#![forbid(unsafe_code)]
+
+pub mod checks;
+pub mod elimination;
+pub mod field;
+pub mod image;
+pub mod layout;
+pub mod margin;
+pub mod recover;
+pub mod refusal;
+pub mod repair;
+pub mod share;
+pub mod store;
+pub mod test;
+
+pub use image::{read_image, write_image, Image};
+pub use layout::{measure, Layer, Layout, Measured, Numbers, Rack, Tray};
+pub use margin::margin;
+pub use recover::recover;
+pub use refusal::Refusal;
+pub use repair::{repair, Given, Repaired};
+pub use share::share;
+pub use store::store;
+pub use test::{test, Tested};
+
+/// The states of a tray.
+pub const ABSENT: u8 = 0;
+pub const LIVE: u8 = 1;
+pub const DEMONSTRATION: u8 = 2;
