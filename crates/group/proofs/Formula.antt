@@ -5,13 +5,12 @@ use mathlib.Core.List.{List}
 use Prim.Native.Nat.{ℕ, _+_, _-_, _*_, _/_, _<_, _≤_}
 use native.Mathlib.Omega.{arith}
 use lib.ListN.{getD}
-use Rattle.algebra.specs.Field.{Ops, Laws}
 use Rattle.algebra.specs.Sum.{pow}
 use Rattle.algebra.specs.Lagrange.{check, solve}
 use Rattle.algebra.specs.Erasure.{fill, zeros, rest, erased}
 use Rattle.algebra.specs.Points.{point}
 use Rattle.algebra.specs.Layers.{digit, layerOf}
-use Rattle.algebra.specs.Cabinet.{Rising, Helping}
+use Rattle.algebra.specs.Cabinet.{Rising}
 use Rattle.algebra.specs.Group.{unskip, free, groupPoint}
 use Rattle.algebra.specs.Repair.{helperPlace, known, hostSum}
 use Rattle.algebra.proofs.Ring.{zero-add, mul-zero, one-mul, mul-inv-left}
@@ -32,6 +31,7 @@ use Rattle.codeword.proofs.Usable.{usable}
 use Rattle.lagrange.specs.Solve.{symbolsOf, solvedAt}
 use Rattle.rule.specs.Rule.{Helpers, sharedSymbol}
 use Rattle.rule.specs.Inner.{ruledSum}
+use Rattle.rule.proofs.Racks.{no-weight}
 use Rattle.rule.proofs.Rule.{helping}
 use Rattle.group.specs.Inner.{helperAt, placePoint, unknownPoint, sideTerm, rightSide, Holding}
 use Rattle.group.proofs.Steps.{rack-point}
@@ -87,7 +87,7 @@ module _ (l : Layout) (adm : Admissible l) (x : ℕ) (helpers : List ℕ) (help 
       ∙ ap (λ i. pow ops (point (shapeOf gf256 l) i (digit (digits l) (layerOf (digits l) h p 0) i) 0) (l .size)) (skip-unskip h (getD helpers k 0) (help .other k q)))
       ∙ sym (pow-mul ops laws _ (l .size) t)
       ∙ ap (λ y. pow ops y (l .size * t)) (sym (rack-point l adm (getD helpers k 0) (layerOf (digits l) h p 0))))
-      (ap (λ y. ops .mul y (sharedSymbol gf256 l shares p k)) (pow-zero ops _) ∙ one-mul ops laws _)
+      (no-weight ops laws _ _)
 
   side : (t : ℕ) → rest ops Q n (free K (l .helpers)) (parityRacks l) (zeros ops) W t ≡ rightSide l h p helpers shares t
   unfolding rest W check rightSide

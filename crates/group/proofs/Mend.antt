@@ -7,7 +7,6 @@ use native.Mathlib.Omega.{arith}
 use native.Mathlib.Decide.{ℕ-discrete}
 use lib.ListN.{length, getD, set, length-set}
 use lib.Seq.{getD-set-same, getD-set-other}
-use Rattle.algebra.specs.Field.{Ops}
 use Rattle.algebra.specs.Layers.{digit, layerOf}
 use Rattle.algebra.proofs.Layers.{digit-below, layer-digit, layer-group, layer-back}
 use Rattle.symbol.specs.Arithmetic.{_⊕_}

@@ -9,7 +9,6 @@ use native.Mathlib.Omega.{arith}
 use lib.Dec.{eqb}
 use lib.ListN.{getD}
 use Rattle.lists.proofs.Numbers.{cell-in}
-use Rattle.algebra.specs.Field.{Ops}
 use Rattle.algebra.specs.Sum.{sum, pow}
 use Rattle.algebra.specs.Erasure.{choose}
 use Rattle.algebra.specs.Points.{point, trayPoint}

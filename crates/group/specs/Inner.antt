@@ -4,7 +4,6 @@ use mathlib.Core.Path.{_≡_}
 use mathlib.Core.List.{List}
 use Prim.Native.Nat.{ℕ, _*_, _/_, _<_, _≤_}
 use lib.ListN.{length, getD}
-use Rattle.algebra.specs.Field.{Ops}
 use Rattle.algebra.specs.Sum.{sum, pow}
 use Rattle.algebra.specs.Layers.{digit, layerOf}
 use Rattle.algebra.specs.Group.{free, groupPoint}

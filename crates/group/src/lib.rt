@@ -7,7 +7,6 @@ ghost use mathlib.Core.Path.{_≡_};
 ghost use Prim.Native.Nat.{_+_, _-_, _*_, _/_, _<_, _≤_};
 ghost use lib.Dec.{eqb};
 ghost use lib.ListN.{length, getD, set};
-ghost use Rattle.algebra.specs.Field.{Ops};
 ghost use Rattle.algebra.specs.Erasure.{choose};
 ghost use Rattle.algebra.specs.Layers.{layerOf};
 ghost use Rattle.algebra.specs.Group.{skip, unskip, free};

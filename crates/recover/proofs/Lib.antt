@@ -3,4 +3,4 @@ pub mod Layer
 pub mod Writes
 pub mod Grounds
 pub mod Answers
-pub mod NeverLooks
+pub mod Settled

@@ -1,9 +1,10 @@
 // Recovering erased trays. Promises that the buffer becomes the only codeword that agrees with it outside the trays listed, and the answer 8 exactly when
-// there is none. It decides before it writes, writes erased trays only and never looks at their old bytes (proofs/NeverLooks.antt); a refused call changes
+// there is none. It decides before it writes, writes erased trays only and never looks at their old bytes (proofs/Settled.antt); a refused call changes
 // no byte. With fewer trays erased than there are checks, every check that was not needed to solve is tested.
 mod solving;
 
 use layout::Layout;
+use solving::TRAYS;
 use solving::layer_fits;
 use solving::solve_layer;
 ghost use mathlib.Core.Path.{_≡_};
@@ -14,9 +15,6 @@ ghost use Rattle.symbol.specs.Elem.{gf256};
 ghost use Rattle.layout.specs.Layout.{layers};
 ghost use Rattle.recover.specs.Recover.{recoverRefusal, RecoverAnswer};
 ghost use Rattle.recover.specs.Inner.{Erasing, LayerFits, Says, Room, Cells, PutTo, LayerRestored, RestoredTo};
-
-// The most trays of a cabinet, for the buffers in which a layer is solved.
-const TRAYS: usize = layout::TRAYS as usize;
 
 // The first ground for refusing that does not look at the survivors, 0 for none.
 fn refusal(l: Layout, es: &[u32], given: usize) -> u8

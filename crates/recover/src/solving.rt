@@ -5,15 +5,14 @@ ghost use mathlib.Core.Path.{_≡_};
 ghost use mathlib.Core.Bool.{true, false};
 ghost use Prim.Native.Nat.{ℕ, _+_, _<_, _≤_};
 ghost use lib.ListN.{length, getD};
-ghost use Rattle.algebra.specs.Field.{Ops};
-ghost use Rattle.symbol.specs.Elem.{elem, ops, gf256};
+ghost use Rattle.symbol.specs.Elem.{elem, gf256};
 ghost use Rattle.lagrange.specs.Solve.{symbolsOf};
 ghost use Rattle.layout.specs.Layout.{trays, checks, layers, trayLimit, Admissible};
 ghost use Rattle.codeword.specs.Codeword.{pointAt};
 ghost use Rattle.recover.specs.Inner.{Erasing, LayerFits, Says, survivorAt, checkOf, RestMeets, Room, Solved};
 
 // The most trays of a cabinet, for the buffers in which a layer is solved.
-const TRAYS: usize = layout::TRAYS as usize;
+pub const TRAYS: usize = layout::TRAYS as usize;
 
 // The symbol of tray x in layer j, zero for a tray listed: its bytes are not looked at.
 fn survivor(l: Layout, total: u32, c: &[u8], es: &[u32], j: u32, x: u32) -> Symbol

@@ -7,8 +7,6 @@ use native.Mathlib.Decide.{decLt}
 use native.Mathlib.Nat.{mul-add, mul-zero, zero-add}
 use native.Mathlib.Omega.{arith}
 use lib.ListN.{length, getD}
-use Rattle.algebra.specs.Field.{Ops}
-use Rattle.algebra.specs.Coding.{Coding}
 use Rattle.algebra.specs.Shape.{Field}
 use Rattle.algebra.proofs.Layers.{power-pos}
 use Rattle.layout.specs.declared.Layout.{Layout}

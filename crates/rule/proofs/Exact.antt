@@ -9,23 +9,20 @@ use lib.Dec.{eqb}
 use lib.ListN.{length, getD}
 use lib.Seq.{ext-getD}
 use Rattle.lists.proofs.Numbers.{cell-in}
-use Rattle.algebra.specs.Field.{Ops, Laws}
-use Rattle.algebra.specs.Coding.{Coding, Coded}
+use Rattle.algebra.specs.Field.{Ops}
 use Rattle.algebra.specs.Sum.{sum}
 use Rattle.algebra.specs.Erasure.{choose}
 use Rattle.algebra.specs.Shape.{Field, FieldLaws}
 use Rattle.algebra.specs.Points.{rackSum}
-use Rattle.algebra.specs.Cabinet.{Solution}
-use Rattle.algebra.proofs.Ring.{ring, one-mul}
+use Rattle.algebra.proofs.Ring.{ring}
 use Rattle.algebra.proofs.Sum.{sum-congr}
-use Rattle.algebra.proofs.Pow.{pow-zero}
 use Rattle.algebra.proofs.Cabinet.{codeword-solution}
 use Rattle.layout.specs.declared.Layout.{Layout}
 use Rattle.layout.specs.Layout.{trays, checks, layers, groups, parityRacks}
 use Rattle.codeword.specs.Codeword.{shapeOf, symbolAt, Usable}
 use Rattle.codeword.proofs.Buffers.{to-word, layers-pos}
 use Rattle.rule.specs.Rule.{rackPart, trayPart, groupAt, Helpers, soundSum, Ruled, Of}
-use Rattle.rule.proofs.Racks.{tray-at, tray-long, sum-out, rack-at, share-word, sound-same}
+use Rattle.rule.proofs.Racks.{tray-at, tray-long, no-weight, sum-out, rack-at, share-word, sound-same}
 use Rattle.rule.proofs.Rule.{host-in, rule-one, group-below}
 
 module _ {A : Type 0} (f : Field A) (l : Layout) (ok : Usable f l) (x : ℕ) (helpers : List ℕ) (help : Helpers l x helpers) (shares host c : List ℕ)
@@ -54,7 +51,7 @@ module _ {A : Type 0} (f : Field A) (l : Layout) (ok : Usable f l) (x : ℕ) (he
   sum-is : (j : ℕ) → sums (x / l .size) j ≡ symbols j (x % l .size) ⊕ others j
   unfolding sums rackSum others symbols
   sum-is j =
-      sum-congr o (l .size) _ (symbols j) (λ g k. ap (λ y. o .mul y (symbols j g)) (pow-zero o _) ∙ one-mul o L _)
+      sum-congr o (l .size) _ (symbols j) (λ g k. no-weight o L _ _)
       ∙ sum-out o L (l .size) (x % l .size) (symbols j) (mod-lt x (ok .fits .some-places))
 
   less : (a b : A) → a ⊕ b ⊕ neg b ≡ a

@@ -10,9 +10,9 @@ use Rattle.symbol.proofs.Elem.{gf256-laws}
 use Rattle.layout.specs.declared.Layout.{Layout}
 use Rattle.layout.specs.Layout.{layers, groups, Admissible}
 use Rattle.codeword.proofs.Usable.{usable}
-use Rattle.rule.specs.Rule.{trayPart, groupAt, Helpers, rackSymbol, weightedSum, Ruled, One, Of}
+use Rattle.rule.specs.Rule.{trayPart, groupAt, Helpers, rackSymbol, weightedSum, sharedSymbol, Ruled, One, SoundAlike, Of}
 use Rattle.rule.proofs.Racks.{plain-sum}
-use Rattle.rule.proofs.Rule.{rule-one}
+use Rattle.rule.proofs.Rule.{rule-one, ruled-same}
 use Rattle.rule.proofs.Exact.{rule-exact}
 
 pub plain-sum-256 : (l : Layout) (rack : List ℕ) (j : ℕ) → weightedSum gf256 l 0 rack j ≡ sum ops (l .size) (λ g. rackSymbol gf256 l rack g j)
@@ -25,3 +25,9 @@ module _ (l : Layout) (a : Admissible l) (x : ℕ) (helpers : List ℕ) (help : 
   pub rule-exact-256 : (c : List ℕ) → Of gf256 l x helpers shares host c → (p : ℕ) → p < groups l → (spare : List ℕ) → Ruled gf256 l x helpers shares host p spare →
       (j : ℕ) → j < layers l → groupAt l x j ≡ p → getD spare j 0 ≡ getD (trayPart l c x) j 0
   rule-exact-256 = rule-exact gf256 l (usable l a) x helpers help shares host
+
+  pub ruled-same-256 : (p : ℕ) → p < groups l → (shares′ host′ spare spare′ : List ℕ) → Ruled gf256 l x helpers shares host p spare → Ruled gf256 l x helpers shares′ host′ p spare′ →
+      ((k : ℕ) → k < l .helpers → sharedSymbol gf256 l shares p k ≡ sharedSymbol gf256 l shares′ p k) →
+      ((j : ℕ) → j < layers l → groupAt l x j ≡ p → SoundAlike gf256 l x j host host′) →
+      (j : ℕ) → j < layers l → groupAt l x j ≡ p → getD spare j 0 ≡ getD spare′ j 0
+  ruled-same-256 p h shares′ host′ = ruled-same gf256 l (usable l a) x helpers help p h shares shares′ host host′

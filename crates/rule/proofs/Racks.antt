@@ -41,8 +41,12 @@ module _ (l : Layout) (c : List ℕ) where
       length-take-le (layers l) (drop (x * layers l) c)
       (rw (length-drop (x * layers l) c, e) (omega (arith, cell-in (trays l) (layers l) x (layers l - 1) h (omega arith))))
 
--- one term, and the others
 module _ {A : Type 0} (o : Ops A) (L : Laws o) where
+  -- a zeroth power is 1
+  pub no-weight : (y a : A) → o .mul (pow o y 0) a ≡ a
+  no-weight y a = ap (λ w. o .mul w a) (pow-zero o y) ∙ one-mul o L a
+
+  -- one term, and the others
   split : (t : Bool) (a : A) → a ≡ o .add (choose t a (o .zero)) (choose t (o .zero) a)
   unfolding choose
   split true a = sym (add-zero o L a)
@@ -70,7 +74,7 @@ module _ {A : Type 0} (f : Field A) (l : Layout) where
   -- with m = 0 the weighted sum is the plain sum of the rack's symbols
   pub plain-sum : FieldLaws f → (rack : List ℕ) (j : ℕ) → weightedSum f l 0 rack j ≡ sum (f .ops) (l .size) (λ g. rackSymbol f l rack g j)
   unfolding weightedSum
-  plain-sum k rack j = sum-congr (f .ops) (l .size) _ _ (λ g h. ap (λ y. mul y (rackSymbol f l rack g j)) (pow-zero (f .ops) _) ∙ one-mul (f .ops) (k .laws) _)
+  plain-sum k rack j = sum-congr (f .ops) (l .size) _ _ (λ g h. no-weight (f .ops) (k .laws) _ _)
 
   pub group-congr : (h p : ℕ) (a b : ℕ → A) → ((j : ℕ) → j < layers l → a j ≡ b j) → groupSum (shapeOf f l) h p a ≡ groupSum (shapeOf f l) h p b
   unfolding groupSum

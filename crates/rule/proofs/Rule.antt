@@ -9,9 +9,7 @@ use native.Mathlib.Omega.{arith}
 use lib.ListN.{getD}
 use Rattle.lists.specs.Lists.{table}
 use Rattle.lists.proofs.Tables.{table-at, table-length}
-use Rattle.algebra.specs.Field.{Ops}
-use Rattle.algebra.specs.Coding.{Coding}
-use Rattle.algebra.specs.Shape.{Field, FieldLaws}
+use Rattle.algebra.specs.Shape.{Field}
 use Rattle.algebra.specs.Layers.{digit, layerOf}
 use Rattle.algebra.specs.Cabinet.{Helping, Solution}
 use Rattle.algebra.proofs.Numbers.{rising-from}

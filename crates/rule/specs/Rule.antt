@@ -6,7 +6,6 @@ use Prim.Native.Nat.{ℕ, _+_, _*_, _/_, _%_, _≤_, _<_}
 use lib.Dec.{eqb}
 use lib.ListN.{length, getD, take, drop}
 use Rattle.algebra.specs.Field.{Ops}
-use Rattle.algebra.specs.Coding.{Coding}
 use Rattle.algebra.specs.Sum.{sum, pow}
 use Rattle.algebra.specs.Erasure.{choose}
 use Rattle.algebra.specs.Shape.{Field}

@@ -6,7 +6,6 @@ use Prim.Native.Nat.{ℕ, _*_, _<_}
 use lib.ListN.{getD, take, drop}
 use lib.Seq.{getD-take, getD-drop}
 use Rattle.lists.proofs.Tables.{table-at}
-use Rattle.algebra.specs.Coding.{Coding, Coded}
 use Rattle.algebra.specs.Shape.{Field, FieldLaws}
 use Rattle.layout.specs.declared.Layout.{Layout}
 use Rattle.layout.specs.Layout.{groups}
