@@ -186,7 +186,7 @@ gesarumbo_image gesarumbo_read_image(gesarumbo_layout layout, uint32_t volume,
                                      const uint8_t *image, size_t image_length);
 
 /*
- * Says how many more trays may be lost: the trays not absent, less k. states has one byte a tray:
+ * Says how many more trays may be lost: the live trays, less k. states has one byte a tray:
  * 0 absent, 1 live, 2 demonstration. A margin below 0 is an answer and no refusal.
  * Grounds: 1; 2; 3, a state above 2.
  * Done: nothing is written.

@@ -68,4 +68,6 @@ benchBook =
     ∷ shares (cabinet 3 1 1 2) 1 tray0 (0x0C ∷ 0x0C ∷ 0x0C ∷ 0x0C ∷ [])
     ∷ margins (cabinet 4 3 8 3) (present 7 5) (negsuc 0)
     ∷ margins (cabinet 4 3 8 3) (present 12 0) (pos 4)
+    -- 12 trays, of which 5 are demonstration (document 02)
+    ∷ margins (cabinet 4 3 8 3) (replicate 7 1 ++ replicate 5 2) (negsuc 0)
     ∷ []

@@ -1,6 +1,6 @@
--- The loss margin of document 01: the trays not absent, less k.
+-- The loss margin: the live trays, less k.
 -- Assumes nothing.
-use mathlib.Core.Bool.{Bool, cond, not}
+use mathlib.Core.Bool.{Bool, cond}
 use mathlib.Core.List.{List}
 use Prim.Native.Nat.{ℕ, zero, suc, _+_}
 use lib.Dec.{leb, eqb}
@@ -16,9 +16,9 @@ use Rattle.margin.specs.declared.LossMargin.the-variants.{Known, Refused
 abbrev pub stateLimit : ℕ
 stateLimit = 2
 
--- which trays count, by their state: those not absent
+-- which trays count, by their state: the live ones
 abbrev pub counts : ℕ → Bool
-counts state = not (eqb state 0)
+counts state = eqb state 1
 
 -- the trays that count among the first n
 unfoldable pub present : List ℕ → ℕ → ℕ

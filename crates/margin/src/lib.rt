@@ -1,4 +1,4 @@
-// The loss margin: how many more trays may go before data are lost. For any bytes it answers the trays not absent, less k, or the first ground for
+// The loss margin: how many more trays may go before data are lost. For any bytes it answers the live trays, less k, or the first ground for
 // refusing; a margin below zero is an answer. It runs from -k to n - k (proofs/Range.antt).
 use layout::Layout;
 ghost use mathlib.Core.Path.{_≡_};
@@ -8,7 +8,9 @@ ghost use lib.ListN.{length};
 ghost use Rattle.layout.specs.Layout.{trayLimit};
 ghost use Rattle.margin.specs.Margin.{counts, present, statesKnown, marginRefusal, marginAnswer, marginValue, refusalOf, valueOf};
 
-// The last of the states 0 absent, 1 live, 2 demonstration.
+// The states are 0 absent, 1 live and 2 demonstration.
+const LIVE: u8 = 1;
+
 const STATES: u8 = 2;
 
 // The margin, or the refusal's number.
@@ -21,7 +23,7 @@ pub enum LossMargin {
 fn counted(state: u8) -> bool
     ensures { λ r. ⌜ r ≡ counts state ⌝ }
 {
-    state != 0
+    state == LIVE
 }
 
 // The trays that count.

@@ -163,6 +163,7 @@ fn margin(states: &[u8], expected: i32, words: &[u8]) {
 fn margins() {
     margin(&[1, 1, 1, 1, 1, 1, 1, 0, 0, 0, 0, 0], -1, b" -1");
     margin(&[1, 1, 1, 1, 1, 1, 1, 1, 1, 1, 1, 1], 4, b" 4");
+    margin(&[1, 1, 1, 1, 1, 1, 1, 2, 2, 2, 2, 2], -1, b" -1");
 }
 
 fn image() {

@@ -2,7 +2,7 @@
 
 use crate::{ffi, Layout, Refusal};
 
-/// How many more trays may be lost: the number of trays not absent, less k.
+/// How many more trays may be lost: the number of live trays, less k.
 ///
 /// `states` has one byte a tray. A margin below zero is an answer and no refusal; it runs from −k
 /// to n − k. Nothing is written.

@@ -21,5 +21,5 @@ pub fn margin(layout: Layout, states: &[u8]) -> Result<i32, Refusal> {
 
 /// Whether a tray in this state counts.
 fn counts(state: u8) -> bool {
-    state != ABSENT
+    state == LIVE
 }

@@ -103,6 +103,9 @@ fn margins() {
     };
     assert_eq!(margin(layout, &present(7)), Ok(-1));
     assert_eq!(margin(layout, &present(12)), Ok(4));
+    let mut some_reset = present(12);
+    some_reset[7..].fill(2);
+    assert_eq!(margin(layout, &some_reset), Ok(-1));
 }
 
 #[test]

@@ -39,25 +39,21 @@ fn run(arguments: &Arguments, screen: &mut Screen) -> Result<(), Failure> {
     screen.line(format!(
         "  {live} live, {reset} demonstration, {absent} absent; {needed} are needed"
     ));
-    say(margin, live as i64 - needed as i64, screen);
+    say(margin, screen);
     Ok(())
 }
 
 /// The margin, and what it means: trays may be lost as long as live ones, which alone hold
 /// records, are left over.
-fn say(margin: i64, left_over: i64, screen: &mut Screen) {
-    let meaning = match left_over {
-        ..=-1 => screen.paint(Paint::Bad, &format!("too few live trays by {}", -left_over)),
+fn say(margin: i64, screen: &mut Screen) {
+    let meaning = match margin {
+        ..=-1 => screen.paint(Paint::Bad, &format!("too few live trays by {}", -margin)),
         0 => screen.paint(Paint::Warning, "no tray more may be lost"),
         1 => screen.paint(Paint::Good, "one tray more may be lost"),
         _ => screen.paint(
             Paint::Good,
-            &format!("any {left_over} trays more may be lost"),
+            &format!("any {margin} trays more may be lost"),
         ),
     };
-    let but = match margin == left_over {
-        true => String::new(),
-        false => format!(", by live trays alone {left_over}"),
-    };
-    screen.line(format!("  margin {margin}{but}: {meaning}"));
+    screen.line(format!("  margin {margin}: {meaning}"));
 }
