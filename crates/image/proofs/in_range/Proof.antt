@@ -1,3 +1,4 @@
+use native.Mathlib.Omega.{arith}
 use borrow.Author.Needs.{needs}
 use Rattle.image.proofs.Ranges.{range-tray, range-state, range-volume}
 use Rattle.image.proofs.in_range.Statement.{statement}
@@ -8,7 +9,7 @@ in-range-spec =
     tie.close (tie.spec
     (λ c κs. search needs)
     (λ c κs. search needs)
-    (λ c. search range-tray)
+    (λ c. range-tray _ _ _ _ _ _ (c .before .before .tray-count .ensures) (c .before .number .ensures) (omega arith))
     (λ c κs. search needs)
     (λ c. search range-state)
     (λ c κs. search needs)

@@ -19,7 +19,7 @@ states-known-spec =
     tie.close (tie.spec Inv-loop μ-loop
     (λ c. below-none _)
     (λ c. search needs)
-    (λ c. search known-false)
+    (λ c. known-false _ (c .before .before .before .loop .x) (omega arith) (omega arith))
     (λ c. search needs)
     (λ c. search needs)
     (λ c. below-more _ _ (c .before .before .before .loop .inv) (c .if1 .left))
