@@ -24,7 +24,8 @@
  *    1   layout not admissible
  *    2   a lent buffer is not exactly the length its rule gives (symbols, shares, spare, states, an
  *        image being written; not lists, not an image being read)
- *    3   a tray or rack number outside the layout, or a state outside its values
+ *    3   a tray or rack number outside the layout, a state outside its values, or an image to be
+ *        written with volume number 0
  *    4   a list is not strictly rising
  *    5   more than r trays erased, or not exactly d helpers
  *    6   the host rack is a helper
@@ -168,7 +169,7 @@ gesarumbo_repaired gesarumbo_repair(gesarumbo_layout layout, uint32_t lost,
  *    at 20     4 bytes   count of the symbols, L
  *
  * Numbers are little endian.
- * Grounds: 1; 2, symbols L or image 24 + L; 3, the tray or the state.
+ * Grounds: 1; 2, symbols L or image 24 + L; 3, the tray, the state, or volume number 0.
  * Done: every byte of image is written, whatever it held.
  */
 uint32_t gesarumbo_write_image(gesarumbo_layout layout,
@@ -177,7 +178,8 @@ uint32_t gesarumbo_write_image(gesarumbo_layout layout,
                                uint8_t *image, size_t image_length);
 
 /*
- * Reads an image that should be a live one of this layout and volume.
+ * Reads an image that should be a live one of this layout and volume. Volume number 0 is what a
+ * reset tray comes up with: an image of it is malformed, also where 0 is expected.
  * Grounds: 1, the layout expected; 9; 10; 11.
  * Done: its tray, and where its L symbols lie in it. A demonstration image is never handed out.
  * Nothing is written.

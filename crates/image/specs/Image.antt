@@ -1,6 +1,6 @@
 -- Tray images: a header of 24 bytes by document 01's table, then the symbols; and what writing and reading give.
 -- Assumes nothing.
-use mathlib.Core.Bool.{Bool, true, cond, _&&_, _||_}
+use mathlib.Core.Bool.{Bool, cond, _&&_, _||_, not}
 use mathlib.Core.List.{List, [], _∷_, _++_}
 use Prim.Native.Nat.{ℕ, zero, suc, _+_, _*_, _/_, _%_}
 use lib.Dec.{leb, ltb, eqb}
@@ -49,12 +49,12 @@ header l tray state volume =
     ++ little 4 headerLength
     ++ little 4 (layers l)
 
--- which states an image may have, and which volume numbers: all
+-- which states an image may have, and which volume numbers: not 0, which is what a reset tray comes up with
 unfoldable pub stateAllowed : ℕ → Bool
 stateAllowed state = eqb state live || eqb state demonstration
 
 abbrev pub volumeAllowed : ℕ → Bool
-volumeAllowed volume = true
+volumeAllowed volume = not (eqb volume 0)
 
 -- a tray of the layout, and a state and a volume that an image may have
 unfoldable pub inRange : Layout → ℕ → ℕ → ℕ → Bool

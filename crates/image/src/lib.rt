@@ -37,7 +37,7 @@ fn state_allowed(state: u32) -> bool
 fn volume_allowed(volume: u32) -> bool
     ensures { λ r. ⌜ r ≡ volumeAllowed volume ⌝ }
 {
-    true
+    volume != 0
 }
 
 // Whether this is a tray of the layout, and a state and a volume that an image may have.

@@ -18,8 +18,8 @@ pub struct Image<'a> {
 /// as it was.
 ///
 /// Refused, in this order: [`Refusal::Layout`]; [`Refusal::Length`] where `symbols` has not L bytes
-/// or `image` not 24 + L; [`Refusal::Number`] where the tray is not below n or the state is neither
-/// of the two.
+/// or `image` not 24 + L; [`Refusal::Number`] where the tray is not below n, the state is neither of
+/// the two, or the volume is 0, which is what a reset tray comes up with.
 ///
 /// ```
 /// use gesarumbo::{write_image, Layout, Refusal, Tray, LIVE};

@@ -23,7 +23,7 @@ pub enum Refusal {
     /// A lent buffer is not exactly the length its rule gives: symbols, shares, spare, states or an
     /// image being written.
     Length = 2,
-    /// A tray or rack number is outside the layout, or a state outside its values.
+    /// A tray, rack, state or volume number is outside its values.
     Number = 3,
     /// A list is not strictly rising.
     Order = 4,
@@ -53,7 +53,7 @@ const GROUNDS: [(Refusal, &str); 11] = [
     ),
     (
         Refusal::Number,
-        "a tray or rack number is outside the layout, or a state outside its values",
+        "a tray, rack, state or volume number is outside its values",
     ),
     (Refusal::Order, "a list is not strictly rising"),
     (

@@ -68,7 +68,10 @@ pub fn write_image(
     let wrong_length = symbols.len() != numbers.layers || image.len() != HEADER + numbers.layers;
     refuse(&[
         (Refusal::Length, wrong_length),
-        (Refusal::Number, !numbers.has_tray(tray) || !is_state(state)),
+        (
+            Refusal::Number,
+            !numbers.has_tray(tray) || !is_state(state) || !is_volume(volume),
+        ),
     ])?;
     let mut written = vec![0; HEADER];
     FIXED
@@ -110,6 +113,11 @@ fn is_state(state: u32) -> bool {
     [LIVE, DEMONSTRATION].map(u32::from).contains(&state)
 }
 
+/// The volume numbers an image can have: a reset tray comes up with 0.
+fn is_volume(volume: u32) -> bool {
+    volume != 0
+}
+
 /// The layout an image names.
 fn own_layout(image: &[u8]) -> Layout {
     Layout {
@@ -132,6 +140,7 @@ fn well_formed(image: &[u8]) -> bool {
         .iter()
         .all(|(field, number)| field.read(image) == *number)
         && is_state(STATE.read(image))
+        && is_volume(VOLUME.read(image))
         && own.has_tray(Tray(TRAY.read(image)))
         && COUNT.read(image) as usize == own.layers
         && image.len() == HEADER + own.layers
