@@ -7,8 +7,8 @@
  * layers 0 to L-1. A codeword lies tray after tray, symbol j of tray x at x*L + j, so that the
  * trays of a rack lie side by side.
  *
- * A layout is admissible exactly when all of these hold: B >= 2; u is 1, 3, 5, 15 or 17; n <= 48;
- * u <= k; u <= n - k; K <= d; d <= B - 1; L <= 1024.
+ * A layout is admissible exactly when all of these hold: B >= 2; u is 1, 3, 5, 15 or 17; n <= 60;
+ * u <= k; u <= n - k; K <= d; d <= B - 1; L <= 4096.
  *
  * The code. Symbols are elements of the field of 256 with polynomial 11D (hex) and root 2. Layer j
  * has a digit in base s for each rack, that of rack 0 the lowest. The point of rack i, digit a and

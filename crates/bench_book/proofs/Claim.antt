@@ -75,4 +75,4 @@ stored = (refl, refl)
 -- THE BENCH BOOK
 pub worked-examples : AllHold benchBook
 unfolding measured admissible sizeAllowed shareOf table shareSymbol groupSum groupOf weightedSum place symbolAt choose sum pow ops elem _⊕_ _⊗_ shiftAdd mulz marginRefusal marginOf present statesKnown all
-worked-examples = (refl, (refl, (refl, (refl, (refl, (refl, (refl, (refl, (is-stored _ _ _ (stored .0), (is-stored _ _ _ (stored .1), (refl, (refl, (refl, (refl, ((refl, refl), ((refl, refl), ((refl, refl), tt)))))))))))))))))
+worked-examples = (refl, (refl, (refl, (refl, (refl, (refl, (refl, (refl, (refl, (refl, (is-stored _ _ _ (stored .0), (is-stored _ _ _ (stored .1), (refl, (refl, (refl, (refl, ((refl, refl), ((refl, refl), ((refl, refl), tt)))))))))))))))))))

@@ -58,7 +58,10 @@ benchBook =
     ∷ measures (cabinet 4 3 8 4) 1 0 0 0
     ∷ measures (cabinet 4 3 8 1) 1 0 0 0
     ∷ measures (cabinet 10 3 24 9) 0 1024 6 4608
-    ∷ measures (cabinet 11 3 27 10) 1 0 0 0
+    -- document 02, W4: two more cabinets, and one still too large
+    ∷ measures (cabinet 11 3 27 10) 0 2048 6 10240
+    ∷ measures (cabinet 7 5 24 6) 0 2187 11 4374
+    ∷ measures (cabinet 13 3 33 12) 1 0 0 0
     ∷ stores (cabinet 2 1 1 1) (0xA7 ∷ []) (0xA7 ∷ 0xA7 ∷ [])
     ∷ stores (cabinet 3 1 1 2) tray0 (tray0 ++ tray1 ++ tray2)
     ∷ shares (cabinet 3 1 1 2) 0 tray1 (0x03 ∷ 0x03 ∷ 0x03 ∷ 0x03 ∷ [])

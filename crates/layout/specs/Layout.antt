@@ -10,10 +10,10 @@ use Rattle.layout.specs.declared.Measured.the-variants.{Known, Refused}
 
 -- the limits on n and on L
 abbrev pub trayLimit : ℕ
-trayLimit = 48
+trayLimit = 60
 
 abbrev pub layerLimit : ℕ
-layerLimit = 1024
+layerLimit = 4096
 
 -- n, the trays
 abbrev pub trays : Layout → ℕ

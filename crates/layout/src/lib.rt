@@ -9,10 +9,10 @@ ghost use Rattle.algebra.specs.Layers.{digit, layerOf};
 ghost use Rattle.layout.specs.Layout.{sizeAllowed, admissible, trays, checks, digits, layers, groups, parityRacks, layerLimit, Admissible, measured};
 ghost use Rattle.layout.specs.Inner.{InGroup};
 
-// The limits of document 01: trays of a cabinet, and layers of a tray.
-pub const TRAYS: u32 = 48;
+// The limits on the trays of a cabinet and the layers of a tray (document 02, W4).
+pub const TRAYS: u32 = 60;
 
-pub const LAYERS: u32 = 1024;
+pub const LAYERS: u32 = 4096;
 
 // Document 01's B, u, k and d: any 32-bit values.
 #[repr(C)]

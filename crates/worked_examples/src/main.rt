@@ -79,6 +79,7 @@ fn layouts() {
     measure(10, 3, 24, 9);
     measure(11, 3, 27, 10);
     measure(7, 5, 24, 6);
+    measure(13, 3, 33, 12);
 }
 
 fn storing() {

@@ -4,8 +4,8 @@ use gesarumbo::Layout;
 use std::fmt;
 
 const RACK_SIZES: [u64; 5] = [1, 3, 5, 15, 17];
-const MOST_TRAYS: u64 = 48;
-const MOST_LAYERS: u64 = 1024;
+const MOST_TRAYS: u64 = 60;
+const MOST_LAYERS: u64 = 4096;
 
 /// Whether a condition holds. It is unknown where another condition's failure leaves a number in
 /// it without a meaning.
@@ -85,8 +85,8 @@ fn rack_size(u: u64) -> Condition {
 fn few_trays(b: u64, u: u64) -> Condition {
     let n = b * u;
     Condition {
-        rule: "n <= 48",
-        meaning: "48 trays or fewer",
+        rule: "n <= 60",
+        meaning: "60 trays or fewer",
         here: format!("n = {b}*{u} = {n}"),
         verdict: (n <= MOST_TRAYS).into(),
     }
@@ -148,8 +148,8 @@ fn few_layers(b: u64, u: u64, k: u64, d: u64) -> Condition {
         None => ("L has no meaning".to_string(), Verdict::Unknown),
     };
     Condition {
-        rule: "L <= 1,024",
-        meaning: "1,024 layers or fewer",
+        rule: "L <= 4,096",
+        meaning: "4,096 layers or fewer",
         here,
         verdict,
     }
@@ -182,16 +182,16 @@ mod tests {
     #[test]
     fn conditions_agree_with_the_library() {
         let mut count = 0;
-        for racks in 0..=50 {
+        for racks in 0..=62 {
             for size in [0, 1, 2, 3, 5, 15, 16, 17] {
-                for dimension in 0..=50 {
-                    for helpers in 0..=50 {
+                for dimension in 0..=62 {
+                    for helpers in 0..=62 {
                         count += u32::from(admitted([racks, size, dimension, helpers]));
                     }
                 }
             }
         }
-        assert_eq!(count, 1986, "as many layouts are admissible");
+        assert_eq!(count, 3344, "as many layouts are admissible");
     }
 
     /// Products and powers that wrap in 32 or 64 bits.
@@ -217,11 +217,11 @@ mod tests {
     fn conditions_fail_alone() {
         let alone = [
             (1, [2, 2, 2, 1]),
-            (2, [3, 17, 17, 1]),
+            (2, [4, 17, 17, 1]),
             (3, [2, 1, 0, 0]),
             (4, [2, 3, 4, 1]),
             (6, [2, 1, 1, 2]),
-            (7, [6, 1, 1, 4]),
+            (7, [7, 1, 1, 4]),
         ];
         for (place, [racks, size, dimension, helpers]) in alone {
             let conditions = conditions(Layout::new(racks, size, dimension, helpers));

@@ -6,7 +6,7 @@ use crate::random::Random;
 /// Codewords up to this length are small.
 const SMALL: usize = 1024;
 /// One random case in so many is on a layout that isn't small.
-const LARGE_ONE_IN: usize = 60;
+const LARGE_ONE_IN: usize = 300;
 
 pub struct Source {
     pub random: Random,

@@ -8,14 +8,14 @@ use std::fmt;
 /// use gesarumbo::{measure, Layout, Refusal};
 ///
 /// assert_eq!(Layout::new(4, 3, 8, 3).to_string(), "(4, 3, 8, 3)");
-/// assert_eq!(measure(Layout::new(11, 3, 27, 10)), Err(Refusal::Layout));
+/// assert_eq!(measure(Layout::new(13, 3, 33, 12)), Err(Refusal::Layout));
 /// ```
 #[repr(C)]
 #[derive(Clone, Copy, Debug, PartialEq, Eq, Hash)]
 pub struct Layout {
     /// B, the number of racks: at least 2.
     pub racks: u32,
-    /// u, the trays of a rack: 1, 3, 5, 15 or 17, and B·u at most 48.
+    /// u, the trays of a rack: 1, 3, 5, 15 or 17, and B·u at most 60.
     pub size: u32,
     /// k, the trays' worth of data: from u to B·u − u.
     pub dimension: u32,

@@ -3,9 +3,9 @@
 use crate::Refusal;
 
 /// The most trays in a cabinet.
-pub const MOST_TRAYS: u64 = 48;
+pub const MOST_TRAYS: u64 = 60;
 /// The most layers in a tray.
-pub const MOST_LAYERS: u64 = 1024;
+pub const MOST_LAYERS: u64 = 4096;
 /// The rack sizes that can be had.
 pub const RACK_SIZES: [u32; 5] = [1, 3, 5, 15, 17];
 

@@ -27,9 +27,15 @@ fn layouts() {
         measured([10, 3, 24, 9]).map(|(layers, ..)| layers),
         Ok(1024)
     );
-    assert_eq!(measured([11, 3, 27, 10]), Err(1));
-    assert_eq!(measured([7, 5, 24, 6]), Err(1));
-    assert_eq!((2u32.pow(11), 3u32.pow(7)), (2048, 2187));
+    assert_eq!(
+        measured([11, 3, 27, 10]).map(|(layers, ..)| layers),
+        Ok(2048)
+    );
+    assert_eq!(
+        measured([7, 5, 24, 6]).map(|(layers, ..)| layers),
+        Ok(2187)
+    );
+    assert_eq!(measured([13, 3, 33, 12]), Err(1));
 }
 
 #[test]

@@ -12,7 +12,7 @@ fn the_admissible_layouts_counted() {
         .iter()
         .filter(|layout| layout.numbers().unwrap().base == 1)
         .count();
-    assert_eq!((all.len(), single), (1986, 1624));
+    assert_eq!((all.len(), single), (3344, 2655));
 }
 
 #[test]

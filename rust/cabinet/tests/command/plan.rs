@@ -62,13 +62,13 @@ fn failing_conditions_are_named() {
     let bench = Bench::new();
     let cases = [
         ("4 4 8 3", "u = 1, 3, 5, 15 or 17"),
-        ("17 3 27 9", "n <= 48"),
+        ("21 3 27 9", "n <= 60"),
         ("4 3 2 3", "u <= k"),
         ("4 3 10 3", "u <= n - k"),
         ("4 3 8 1", "K <= d"),
         ("4 3 8 4", "d <= B - 1"),
-        ("11 3 27 10", "L <= 1,024"),
-        ("7 5 24 6", "L <= 1,024"),
+        ("13 3 33 12", "L <= 4,096"),
+        ("8 5 24 7", "L <= 4,096"),
     ];
     for (layout, rule) in cases {
         let line = format!("plan {layout} --svg picture.svg");
@@ -83,7 +83,7 @@ fn failing_conditions_are_named() {
         assert_eq!(failing.len(), 1, "{table}");
         assert!(failing[0].contains(rule), "{table}");
     }
-    assert!(bench.run("plan 11 3 27 10").err.contains("L = 2^11 = 2048"));
+    assert!(bench.run("plan 13 3 33 12").err.contains("L = 2^13 = 8192"));
 }
 
 #[test]

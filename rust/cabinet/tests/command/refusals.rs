@@ -8,7 +8,7 @@ fn layout_not_admissible() {
     bench.refused(1, "plan 4 4 8 3");
     bench.refused(1, "store 4 4 8 3 --volume 7 data d");
     bench.refused(1, "test c --layout 4,4,8,3");
-    bench.refused(1, "recover c --layout 11,3,27,10");
+    bench.refused(1, "recover c --layout 13,3,33,12");
     bench.refused(1, "margin c --layout 4,3,8,4");
 }
 

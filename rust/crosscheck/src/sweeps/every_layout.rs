@@ -14,10 +14,10 @@ pub const SWEEP: Sweep = Sweep {
     item,
 };
 
-const RACKS: usize = 50;
+const RACKS: usize = 62;
 const SIZES: u32 = 19;
-const DIMENSIONS: u32 = 50;
-const HELPERS: u32 = 50;
+const DIMENSIONS: u32 = 62;
+const HELPERS: u32 = 62;
 
 fn item(all: &mut Crosscheck, racks: usize) {
     for size in 0..SIZES {

@@ -9,7 +9,7 @@ use crate::damage::least_broken;
 use crate::source::Source;
 
 /// One large layout in so many is taken.
-const LARGE_STEP: usize = 20;
+const LARGE_STEP: usize = 60;
 
 pub const SWEEP: Sweep = Sweep {
     name: "least check",

@@ -11,7 +11,7 @@ use crate::inputs::Inputs;
 use crate::source::Source;
 
 /// These are always among them.
-const NAMED: [[u32; 4]; 7] = [
+const NAMED: [[u32; 4]; 13] = [
     [4, 3, 5, 2],
     [5, 3, 4, 3],
     [4, 3, 8, 3],
@@ -19,11 +19,17 @@ const NAMED: [[u32; 4]; 7] = [
     [2, 17, 17, 1],
     [10, 3, 24, 9],
     [5, 5, 9, 4],
+    [6, 1, 2, 5],
+    [7, 3, 14, 6],
+    [7, 5, 24, 6],
+    [11, 1, 9, 10],
+    [11, 3, 27, 10],
+    [12, 1, 10, 11],
 ];
 /// Of the others, one in so many.
 const FLAT_STEP: usize = 16;
 const SMALL_STEP: usize = 1;
-const LARGE_STEP: usize = 30;
+const LARGE_STEP: usize = 90;
 
 pub const SWEEP: Sweep = Sweep {
     name: "whole repairs",

@@ -36,10 +36,10 @@ pub fn codeword(layout: Layout, seed: u64) -> Vec<u8> {
 /// Every admissible layout.
 pub fn admissible() -> Vec<Layout> {
     let mut found = vec![];
-    for racks in 0..50 {
+    for racks in 0..62 {
         for size in 0..20 {
-            for dimension in 0..50 {
-                for helpers in 0..50 {
+            for dimension in 0..62 {
+                for helpers in 0..62 {
                     let layout = Layout::from([racks, size, dimension, helpers]);
                     found.extend(layout.numbers().is_ok().then_some(layout));
                 }
