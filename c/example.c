@@ -165,6 +165,11 @@ static void collect_shares(void)
         must(gesarumbo_share(layout, 1, helpers[i], rack_at(helpers[i]), RACK_LENGTH,
                              shares + i * GROUPS, GROUPS) == 0,
              "a share is worked out");
+    uint8_t built[GROUPS] = { 0 };
+    for (uint32_t x = 3; x-- > 0;)
+        must(gesarumbo_share_add(layout, 1, x, tray_at(x), LAYERS, built, GROUPS) == 0,
+             "a tray's part is added");
+    must(memcmp(built, shares, GROUPS) == 0, "a share built up tray by tray is the rack's");
     print_bytes("share of rack 0:", shares, GROUPS);
 }
 

@@ -137,6 +137,17 @@ uint32_t gesarumbo_share(gesarumbo_layout layout, uint32_t host, uint32_t helper
                          uint8_t *share, size_t share_length);
 
 /*
+ * Adds one tray's part to the share of L/s bytes for a host rack, from the tray's L bytes. Clear the
+ * share first and feed each of the rack's u trays once, in any order: it is then the rack's share.
+ * Grounds: 1; 2, either buffer; 3, the host rack or the tray; 6, the tray stands in the host rack.
+ * Done: share holds what it held, plus this tray's part. Symbol p of the part is the exclusive or of
+ * the tray's symbols in the s layers of group p. A tray fed twice cancels.
+ */
+uint32_t gesarumbo_share_add(gesarumbo_layout layout, uint32_t host, uint32_t tray,
+                             const uint8_t *symbols, size_t symbols_length,
+                             uint8_t *share, size_t share_length);
+
+/*
  * Repairs a lost tray, or a piece of it. helpers are d racks, rising; shares are theirs in this
  * order, d*L/s bytes; host is the u*L bytes of the lost tray's rack, of which those of the lost
  * tray are not looked at; spare has L bytes.

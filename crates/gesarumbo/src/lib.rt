@@ -14,7 +14,7 @@ ghost use Rattle.layout.specs.Layout.{measured};
 ghost use Rattle.recover.specs.Recover.{RecoverAnswer};
 ghost use Rattle.store.specs.Store.{StoreAnswer};
 ghost use Rattle.margin.specs.Margin.{marginRefusal, marginValue};
-ghost use Rattle.share.specs.Share.{shareRefusal, shareBuffer};
+ghost use Rattle.share.specs.Share.{shareRefusal, shareBuffer, addRefusal, addBuffer};
 ghost use Rattle.image.specs.Image.{writeRefusal, writeBuffer};
 ghost use Rattle.gesarumbo.specs.Boundary.{measureNumbers, testNumbers, marginNumbers, repairNumbers, TestShown, ReadShown, RepairShown};
 
@@ -172,6 +172,20 @@ pub extern "C" fn gesarumbo_share(
     ensures buffer { λ _. ⌜ now (share .exit) ≡ shareBuffer gf256 l host helper (now (rack .entry)) (now (share .entry)) ⌝ }
 {
     share::share(l, Rack::of(host), Rack::of(helper), rack, share) as u32
+}
+
+#[no_mangle]
+pub extern "C" fn gesarumbo_share_add(
+    l: Layout,
+    host: u32,
+    tray: u32,
+    symbols: &[u8],
+    share: &mut [u8],
+) -> u32
+    ensures answer { λ r. ⌜ r ≡ addRefusal l host tray (length (now (symbols .entry))) (length (now (share .entry))) ⌝ }
+    ensures buffer { λ _. ⌜ now (share .exit) ≡ addBuffer gf256 l host tray (now (symbols .entry)) (now (share .entry)) ⌝ }
+{
+    share::share_add(l, Rack::of(host), Tray::of(tray), symbols, share) as u32
 }
 
 #[no_mangle]

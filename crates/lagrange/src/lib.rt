@@ -4,23 +4,12 @@
 use symbol::Symbol;
 ghost use mathlib.Core.Path.{_≡_};
 ghost use Prim.Native.Nat.{ℕ, _+_, _<_};
-ghost use lib.ListN.{length, getD, replicate};
+ghost use lib.ListN.{length, getD};
 ghost use Rattle.algebra.specs.Field.{Ops};
 ghost use Rattle.algebra.specs.Sum.{sum};
 ghost use Rattle.symbol.specs.Elem.{Elem, elem, ops};
 ghost use Rattle.symbol.specs.Arithmetic.{_⊕_, _⊗_};
 ghost use Rattle.lagrange.specs.Solve.{before, solvedAt, Holds, Stepping, Solving, System};
-
-// Sets every number to zero.
-fn clear(out: &mut [u8])
-    ensures { λ _. ⌜ now (out .exit) ≡ replicate (length (now (out .entry))) 0 ⌝ }
-{
-    let mut i = 0usize;
-    while i < out.len() {
-        out[i] = 0;
-        i += 1;
-    }
-}
 
 // f (X - q) times the polynomial of these coefficients, as far as there is room.
 fn times(out: &mut [u8], f: Symbol, q: u8)
@@ -55,7 +44,7 @@ pub fn coefficients(points: &[u8], i: usize, out: &mut [u8])
     requires { ⌜ Solving (now points) i (now out) ⌝ }
     ensures { λ _. ⌜ Holds (now (points .entry)) i (length (now (points .entry))) (now (out .exit)) ⌝ }
 {
-    clear(out);
+    lists::clear(out);
     out[0] = 1;
     let mut m = 0usize;
     while m < points.len() {

@@ -1,6 +1,7 @@
 // Laws on lists and plain numbers that every crate above shares (specs/, proofs/), and the tests of a list of tray or rack numbers that several calls
-// make. Each test answers exactly what its definition says, for a list of any length and content.
+// make, and clearing a buffer. Each test answers exactly what its definition says, for a list of any length and content.
 ghost use mathlib.Core.Path.{_≡_};
+ghost use lib.ListN.{length, replicate};
 ghost use Rattle.lists.specs.Lists.{allBelow, strictlyRising, absent};
 
 // Whether every number is below n.
@@ -43,4 +44,15 @@ pub fn is_absent(xs: &[u32], n: u32) -> bool
         k += 1;
     }
     true
+}
+
+// Sets every number to zero.
+pub fn clear(out: &mut [u8])
+    ensures { λ _. ⌜ now (out .exit) ≡ replicate (length (now (out .entry))) 0 ⌝ }
+{
+    let mut i = 0usize;
+    while i < out.len() {
+        out[i] = 0;
+        i += 1;
+    }
 }

@@ -88,7 +88,7 @@ module _ {A : Type 0} (f : Field A) (l : Layout) (ok : Usable f l) (x : ℕ) (he
   -- so a spare that the rule fixes in every group is that tray
   pub rule-whole : (spare : List ℕ) → length spare ≡ layers l → ((p : ℕ) → p < groups l → Ruled f l x helpers shares host p spare) → spare ≡ trayPart l c x
   rule-whole spare long ruled =
-      ext-getD 0 spare (trayPart l c x) (long ∙ sym (tray-long l c x (layers-pos f l ok) (of .codeword .long) (help .lost-in))) (λ j h.
+      ext-getD 0 spare (trayPart l c x) (long ∙ sym (tray-long l c (trays l) x (layers-pos f l ok) (of .codeword .long) (help .lost-in))) (λ j h.
       let k : j < layers l = rw long at h in
       let g = group-below f l ok x helpers help j k in
       rule-exact (groupAt l x j) g spare (ruled (groupAt l x j) g) j k refl)

@@ -4,19 +4,13 @@ use mathlib.Core.Path.{_≡_}
 use mathlib.Core.List.{List}
 use Prim.Native.Nat.{ℕ, _<_}
 use lib.ListN.{getD}
-use Rattle.algebra.specs.Sum.{sum}
-use Rattle.symbol.specs.Elem.{ops, gf256}
-use Rattle.symbol.proofs.Elem.{gf256-laws}
+use Rattle.symbol.specs.Elem.{gf256}
 use Rattle.layout.specs.declared.Layout.{Layout}
 use Rattle.layout.specs.Layout.{layers, groups, Admissible}
 use Rattle.codeword.proofs.Usable.{usable}
-use Rattle.rule.specs.Rule.{trayPart, groupAt, Helpers, rackSymbol, weightedSum, sharedSymbol, Ruled, One, SoundAlike, Of}
-use Rattle.rule.proofs.Racks.{plain-sum}
+use Rattle.rule.specs.Rule.{trayPart, groupAt, Helpers, sharedSymbol, Ruled, One, SoundAlike, Of}
 use Rattle.rule.proofs.Rule.{rule-one, ruled-same}
 use Rattle.rule.proofs.Exact.{rule-exact}
-
-pub plain-sum-256 : (l : Layout) (rack : List ℕ) (j : ℕ) → weightedSum gf256 l 0 rack j ≡ sum ops (l .size) (λ g. rackSymbol gf256 l rack g j)
-plain-sum-256 l = plain-sum gf256 l gf256-laws
 
 module _ (l : Layout) (a : Admissible l) (x : ℕ) (helpers : List ℕ) (help : Helpers l x helpers) (shares host : List ℕ) where
   pub rule-one-256 : One gf256 l x helpers shares host

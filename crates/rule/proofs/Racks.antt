@@ -23,7 +23,7 @@ use Rattle.algebra.proofs.Sum.{sum-congr, sum-add, sum-single}
 use Rattle.algebra.proofs.Pow.{pow-zero}
 use Rattle.algebra.proofs.Cabinet.{choose-same, choose-other}
 use Rattle.layout.specs.declared.Layout.{Layout}
-use Rattle.layout.specs.Layout.{trays, digits, layers}
+use Rattle.layout.specs.Layout.{digits, layers}
 use Rattle.codeword.specs.Codeword.{shapeOf, symbolAt}
 use Rattle.rule.specs.Rule.{rackPart, trayPart, rackSymbol, weightedSum, shareSymbol, soundSum, SoundAlike}
 
@@ -35,11 +35,11 @@ module _ (l : Layout) (c : List ℕ) where
   unfolding trayPart
   tray-at x j h = getD-take (layers l) (drop (x * layers l) c) j 0 h ∙ getD-drop (x * layers l) c j 0
 
-  pub tray-long : (x : ℕ) → 0 < layers l → length c ≡ trays l * layers l → x < trays l → length (trayPart l c x) ≡ layers l
+  pub tray-long : (n x : ℕ) → 0 < layers l → length c ≡ n * layers l → x < n → length (trayPart l c x) ≡ layers l
   unfolding trayPart
-  tray-long x pos e h =
+  tray-long n x pos e h =
       length-take-le (layers l) (drop (x * layers l) c)
-      (rw (length-drop (x * layers l) c, e) (omega (arith, cell-in (trays l) (layers l) x (layers l - 1) h (omega arith))))
+      (rw (length-drop (x * layers l) c, e) (omega (arith, cell-in n (layers l) x (layers l - 1) h (omega arith))))
 
 module _ {A : Type 0} (o : Ops A) (L : Laws o) where
   -- a zeroth power is 1

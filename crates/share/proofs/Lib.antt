@@ -1,3 +1,4 @@
 pub mod Refusals
-pub mod Sums
+pub mod Parts
 pub mod Shares
+pub mod Feeds

@@ -1,2 +1,3 @@
 pub mod Share
 pub mod Inner
+pub mod Feeds

@@ -1,14 +1,19 @@
--- The share call of document 01.
+-- The share calls: document 01's share of a whole rack, and a share built up tray by tray.
 -- Assumes nothing.
 use mathlib.Core.Bool.{not, cond, _&&_}
 use mathlib.Core.List.{List}
-use Prim.Native.Nat.{ℕ, _*_}
+use Prim.Native.Nat.{ℕ, _*_, _/_, _%_}
 use lib.Dec.{eqb, ltb}
-use lib.ListN.{length}
+use lib.ListN.{length, getD}
 use Rattle.lists.specs.Lists.{table, unless}
+use Rattle.algebra.specs.Field.{Ops}
+use Rattle.algebra.specs.Sum.{pow}
 use Rattle.algebra.specs.Shape.{Field}
+use Rattle.algebra.specs.Points.{place}
+use Rattle.algebra.specs.Cabinet.{groupSum}
 use Rattle.layout.specs.declared.Layout.{Layout}
-use Rattle.layout.specs.Layout.{layers, groups, admissible}
+use Rattle.layout.specs.Layout.{trays, layers, groups, admissible}
+use Rattle.codeword.specs.Codeword.{shapeOf}
 use Rattle.rule.specs.Rule.{shareSymbol}
 
 -- the refusal of a share, given the lengths of the rack and of the room for the share; 0 for none
@@ -20,7 +25,18 @@ shareRefusal l host helper given room =
     (unless (not (eqb host helper)) 6
     0)))
 
+-- the refusal of adding tray x's part to a share, given the lengths of the tray and of the share; 0 for none
+unfoldable pub addRefusal : Layout → ℕ → ℕ → ℕ → ℕ → ℕ
+addRefusal l host x given room =
+    unless (admissible l) 1
+    (unless (eqb given (layers l) && eqb room (groups l)) 2
+    (unless (ltb host (l .racks) && ltb x (trays l)) 3
+    (unless (not (eqb host (x / l .size))) 6
+    0)))
+
 module _ {A : Type 0} (f : Field A) (l : Layout) where
+  open Ops (f .ops) using (add, mul)
+
   -- a helper's share for the host rack h
   unfoldable pub shareOf : ℕ → List ℕ → List ℕ
   shareOf h rack = table (λ p. f .coding .val (shareSymbol f l 0 h rack p)) (groups l)
@@ -28,3 +44,16 @@ module _ {A : Type 0} (f : Field A) (l : Layout) where
   -- what the room for the share holds after the call
   unfoldable pub shareBuffer : ℕ → ℕ → List ℕ → List ℕ → List ℕ
   shareBuffer host helper rack out = cond (eqb (shareRefusal l host helper (length rack) (length out)) 0) (shareOf host rack) out
+
+  -- symbol p of tray x's part in its rack's share for the host rack h: the sum over the layers of group p of the tray's symbols, each times the m-th power
+  -- of its place's factor; document 01's share has m = 0
+  unfoldable pub partSymbol : ℕ → ℕ → ℕ → List ℕ → ℕ → A
+  partSymbol m h x symbols p = groupSum (shapeOf f l) h p (λ j. mul (pow (f .ops) (place (shapeOf f l) (x % l .size)) m) (f .coding .elem (getD symbols j 0)))
+
+  -- what a share's buffer holds once tray x is fed: what it held, plus this tray's part
+  unfoldable pub fed : ℕ → ℕ → ℕ → List ℕ → List ℕ → List ℕ
+  fed m h x symbols held = table (λ p. f .coding .val (add (f .coding .elem (getD held p 0)) (partSymbol m h x symbols p))) (groups l)
+
+  -- what it holds after the call
+  unfoldable pub addBuffer : ℕ → ℕ → List ℕ → List ℕ → List ℕ
+  addBuffer host x symbols held = cond (eqb (addRefusal l host x (length symbols) (length held)) 0) (fed 0 host x symbols held) held

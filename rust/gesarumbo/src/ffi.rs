@@ -76,6 +76,15 @@ extern "C" {
         share: *mut u8,
         share_length: usize,
     ) -> u32;
+    fn gesarumbo_share_add(
+        layout: Layout,
+        host: Rack,
+        tray: Tray,
+        symbols: *const u8,
+        symbols_length: usize,
+        share: *mut u8,
+        share_length: usize,
+    ) -> u32;
     fn gesarumbo_repair(
         layout: Layout,
         lost: Tray,
@@ -149,6 +158,21 @@ pub fn share(layout: Layout, host: Rack, helper: Rack, rack: &[u8], share: &mut 
             helper,
             rack.as_ptr(),
             rack.len(),
+            share.as_mut_ptr(),
+            share.len(),
+        )
+    }
+}
+
+pub fn share_add(layout: Layout, host: Rack, tray: Tray, symbols: &[u8], share: &mut [u8]) -> u32 {
+    // SAFETY: both slices are lent for the call, the written one alone.
+    unsafe {
+        gesarumbo_share_add(
+            layout,
+            host,
+            tray,
+            symbols.as_ptr(),
+            symbols.len(),
             share.as_mut_ptr(),
             share.len(),
         )

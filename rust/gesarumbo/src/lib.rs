@@ -67,7 +67,7 @@ pub use measure::{measure, Measured};
 pub use recover::recover;
 pub use refusal::Refusal;
 pub use repair::{repair, Repaired};
-pub use share::share;
+pub use share::{share, share_add};
 pub use state::{ABSENT, DEMONSTRATION, LIVE};
 pub use store::store;
 pub use test::{test, Tested};

@@ -1,6 +1,6 @@
-//! A helper rack's share in a repair.
+//! A helper rack's share in a repair: from the whole rack, or built up tray by tray.
 
-use crate::{ffi, Layout, Rack, Refusal};
+use crate::{ffi, Layout, Rack, Refusal, Tray};
 
 /// Works out what a helper rack sends for the repair of a tray of the host rack.
 ///
@@ -34,4 +34,40 @@ pub fn share(
     share: &mut [u8],
 ) -> Result<(), Refusal> {
     Refusal::unless_done(ffi::share(layout, host, helper, rack, share), ())
+}
+
+/// Adds one tray's part to the share of its rack for the repair of a tray of the host rack.
+///
+/// `symbols` is the L bytes of the tray. Done: the L/s bytes of `share` hold what they held, plus
+/// this tray's part: symbol p of the part is the exclusive or of the tray's symbols over the s layers
+/// of group p (see [`share()`]). Clear the share first and feed each of the rack's u trays once, in any
+/// order: it then holds what [`share()`] gives for the rack. A tray fed twice cancels. Refused: `share`
+/// is as it was.
+///
+/// Refused, in this order: [`Refusal::Layout`]; [`Refusal::Length`] where `symbols` has not L bytes or
+/// `share` not L/s; [`Refusal::Number`] where the rack is not below B or the tray not below n;
+/// [`Refusal::Host`] where the tray stands in the host rack.
+///
+/// ```
+/// use gesarumbo::{share, share_add, Layout, Rack, Refusal, Tray};
+///
+/// let layout = Layout::new(2, 3, 3, 1);
+/// let (mut whole, mut built) = ([0; 1], [0; 1]);
+/// share(layout, Rack::new(0), Rack::new(1), &[0x11, 0x12, 0x14], &mut whole)?;
+/// for (tray, symbols) in [(5, [0x14]), (3, [0x11]), (4, [0x12])] {
+///     share_add(layout, Rack::new(0), Tray::new(tray), &symbols, &mut built)?;
+/// }
+/// assert_eq!(built, whole);
+/// assert_eq!(share_add(layout, Rack::new(0), Tray::new(2), &[9], &mut built), Err(Refusal::Host));
+/// assert_eq!(built, whole);
+/// # Ok::<(), Refusal>(())
+/// ```
+pub fn share_add(
+    layout: Layout,
+    host: Rack,
+    tray: Tray,
+    symbols: &[u8],
+    share: &mut [u8],
+) -> Result<(), Refusal> {
+    Refusal::unless_done(ffi::share_add(layout, host, tray, symbols, share), ())
 }

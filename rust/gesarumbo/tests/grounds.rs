@@ -78,6 +78,24 @@ fn sharing() {
 }
 
 #[test]
+fn sharing_tray_by_tray() {
+    for (ground, layout, host, tray, symbols, length) in [
+        (Refusal::Layout, BAD, 4, 12, 15, 7),
+        (Refusal::Length, GOOD, 4, 12, 15, 8),
+        (Refusal::Length, GOOD, 4, 12, 16, 7),
+        (Refusal::Number, GOOD, 4, 12, 16, 8),
+        (Refusal::Number, GOOD, 4, 11, 16, 8),
+        (Refusal::Number, GOOD, 3, 12, 16, 8),
+        (Refusal::Host, GOOD, 3, 11, 16, 8),
+    ] {
+        let (host, tray) = (Rack::new(host), Tray::new(tray));
+        refused(ground, length, |share| {
+            share_add(layout, host, tray, &vec![1; symbols], share)
+        });
+    }
+}
+
+#[test]
 fn repairing() {
     for (ground, layout, lost, helpers, shares, host, length) in [
         (Refusal::Layout, BAD, 12, &[1, 0, 4, 3][..], 25, 49, 15),

@@ -29,7 +29,7 @@ pub use margin::margin;
 pub use recover::recover;
 pub use refusal::Refusal;
 pub use repair::{repair, Given, Repaired};
-pub use share::share;
+pub use share::{share, share_add};
 pub use store::store;
 pub use test::{test, Tested};
 

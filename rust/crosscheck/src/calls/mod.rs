@@ -6,6 +6,7 @@ pub mod read_image;
 pub mod recover;
 pub mod repair;
 pub mod share;
+pub mod share_add;
 pub mod store;
 pub mod test;
 pub mod write_image;
@@ -31,12 +32,13 @@ pub struct Call {
     pub reference: fn(&Inputs) -> Answer,
 }
 
-pub const CALLS: [&Call; 9] = [
+pub const CALLS: [&Call; 10] = [
     &measure::CALL,
     &test::CALL,
     &store::CALL,
     &recover::CALL,
     &share::CALL,
+    &share_add::CALL,
     &repair::CALL,
     &write_image::CALL,
     &read_image::CALL,

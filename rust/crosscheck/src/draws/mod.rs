@@ -2,6 +2,7 @@
 
 mod any_call;
 mod cutting;
+mod feeds;
 mod same_group;
 
 use crate::crosscheck::Crosscheck;
@@ -15,4 +16,9 @@ pub struct Draw {
     pub case: fn(&mut Crosscheck),
 }
 
-pub const DRAWS: [&Draw; 3] = [&any_call::DRAW, &cutting::DRAW, &same_group::DRAW];
+pub const DRAWS: [&Draw; 4] = [
+    &any_call::DRAW,
+    &cutting::DRAW,
+    &feeds::DRAW,
+    &same_group::DRAW,
+];
