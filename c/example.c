@@ -1,6 +1,6 @@
 /*
  * A cabinet's life in one program: data are stored, a reset tray is refused, a lost tray is
- * repaired in pieces, two erased trays are recovered.
+ * repaired in pieces, the codeword is tested some layers at a time, two erased trays are recovered.
  *
  * Every buffer is lent from one pool with guard bytes between, which must be untouched at the end.
  */
@@ -221,6 +221,29 @@ static void test(void)
     tray_at(9)[11] ^= 1;
 }
 
+/* The night check: seven layers a call, over a codeword with two bad layers. */
+static void scrub(void)
+{
+    static const char *const reports[] = { "none", "unfinished", "sound", "bad" };
+    gesarumbo_scrub_record any = { 99, 99, 99 };
+    tray_at(2)[6] ^= 1;
+    tray_at(9)[11] ^= 1;
+    gesarumbo_scrubbed s = gesarumbo_scrub_reset(layout, any);
+    must(s.refusal == 0 && s.report == 0, "a walk begins");
+    do {
+        s = gesarumbo_scrub(layout, codeword, CODEWORD_LENGTH, s.record, 7);
+        must(s.refusal == 0, "a call of the walk is done");
+        printf("scrub: %s, %u of %u layers seen, %u bad, the first is %u\n", reports[s.report],
+               s.record.next, LAYERS, s.record.bad, s.record.first);
+    } while (s.report == 1);
+    tray_at(2)[6] ^= 1;
+    tray_at(9)[11] ^= 1;
+    s = gesarumbo_scrub(layout, codeword, CODEWORD_LENGTH, any, 7);
+    must(s.record.next == 99 && s.record.bad == 99 && s.record.first == 99,
+         "a refused call hands back the record as it came");
+    printf("scrub with another record: refused %u\n", s.refusal);
+}
+
 static void recover(void)
 {
     uint8_t kept[CODEWORD_LENGTH], damaged[CODEWORD_LENGTH];
@@ -254,6 +277,7 @@ static void margin(void)
 /* A buffer of length 0 may be NULL: an empty list, or a length that is refused. */
 static void lend_nothing(void)
 {
+    gesarumbo_scrub_record nothing_seen = { 0, 0, LAYERS };
     printf("nothing lent: test %u", gesarumbo_test(layout, NULL, 0).refusal);
     printf(", store %u", gesarumbo_store(layout, NULL, 0, NULL, 0));
     printf(", recover %u", gesarumbo_recover(layout, NULL, 0, NULL, 0));
@@ -262,7 +286,8 @@ static void lend_nothing(void)
            gesarumbo_repair(layout, 5, NULL, 0, NULL, 0, NULL, 0, NULL, 0, 0, 1).refusal);
     printf(", write %u", gesarumbo_write_image(layout, 5, LIVE, VOLUME, NULL, 0, NULL, 0));
     printf(", read %u", gesarumbo_read_image(layout, VOLUME, NULL, 0).refusal);
-    printf(", margin %u\n", gesarumbo_margin(layout, NULL, 0).refusal);
+    printf(", margin %u", gesarumbo_margin(layout, NULL, 0).refusal);
+    printf(", scrub %u\n", gesarumbo_scrub(layout, NULL, 0, nothing_seen, 1).refusal);
     printf("no tray erased: %u, no helpers: %u\n",
            gesarumbo_recover(layout, codeword, CODEWORD_LENGTH, NULL, 0),
            repair_piece(0, 0, 1).refusal);
@@ -278,6 +303,7 @@ int main(void)
     collect_shares();
     repair_in_pieces();
     test();
+    scrub();
     recover();
     margin();
     lend_nothing();

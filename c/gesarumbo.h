@@ -24,8 +24,8 @@
  *    1   layout not admissible
  *    2   a lent buffer is not exactly the length its rule gives (symbols, shares, spare, states, an
  *        image being written; not lists, not an image being read)
- *    3   a tray or rack number outside the layout, a state outside its values, or an image to be
- *        written with volume number 0
+ *    3   a tray or rack number outside the layout, a state outside its values, an image to be
+ *        written with volume number 0, or a scrub record that no walk can have
  *    4   a list is not strictly rising
  *    5   more than r trays erased, or not exactly d helpers
  *    6   the host rack is a helper
@@ -36,7 +36,8 @@
  *   10   image marked demonstration
  *   11   image of another layout or volume
  *
- * A refused call has changed no byte of any buffer, and every other number it answers is 0.
+ * A refused call has changed no byte of any buffer, and every other number it answers is 0; a scrub
+ * record is handed back as it came.
  *
  * Buffers. Each is a pointer and then its length in elements; one of length 0 may be NULL. Buffers
  * of one call must not overlap. A call keeps no pointer, allocates nothing and remembers nothing,
@@ -88,6 +89,19 @@ typedef struct {
     uint32_t refusal;
     int32_t margin; /* from -k to n - k */
 } gesarumbo_margin_result;
+
+/* The record of a walk over a codeword's layers; it may be kept anywhere between two calls. */
+typedef struct {
+    uint32_t next;  /* the next layer to look at, L where all have been seen */
+    uint32_t bad;   /* how many layers below it are bad */
+    uint32_t first; /* the first bad layer, L where there is none */
+} gesarumbo_scrub_record;
+
+typedef struct {
+    uint32_t refusal;
+    uint32_t report; /* 1 unfinished, 2 sound, 3 bad */
+    gesarumbo_scrub_record record;
+} gesarumbo_scrubbed;
 
 /*
  * Measures a layout.
@@ -206,6 +220,28 @@ gesarumbo_image gesarumbo_read_image(gesarumbo_layout layout, uint32_t volume,
  */
 gesarumbo_margin_result gesarumbo_margin(gesarumbo_layout layout,
                                          const uint8_t *states, size_t states_length);
+
+/*
+ * Starts a new walk, whatever the record holds: the next layer is 0, no layer is bad, the first bad
+ * one is L. The report is 0.
+ * Grounds: 1.
+ */
+gesarumbo_scrubbed gesarumbo_scrub_reset(gesarumbo_layout layout, gesarumbo_scrub_record record);
+
+/*
+ * Looks at the next layers of a codeword of n*L bytes: the smaller of budget and the layers left.
+ * A layer is bad where some check of it is broken.
+ * Grounds: 1; 2, the codeword; 3, a next layer above L, a count of bad layers above the next layer,
+ * or a first bad layer that is not L with a count of 0 or not below the next layer otherwise.
+ * Done: the record's next layer is that much higher. After each call of a walk begun by a reset, if
+ * codeword, layout and record were not changed between calls, the record holds exactly how many
+ * layers below the next are bad, and the least of them. The report is unfinished while the next
+ * layer is below L; at L it is sound exactly when the count is 0, and then, after such a walk,
+ * codeword is a codeword. Nothing is written.
+ */
+gesarumbo_scrubbed gesarumbo_scrub(gesarumbo_layout layout,
+                                   const uint8_t *codeword, size_t codeword_length,
+                                   gesarumbo_scrub_record record, uint64_t budget);
 
 #ifdef __cplusplus
 }

@@ -13,6 +13,8 @@ use Rattle.layout.specs.Layout.{numbersOf}
 use Rattle.codeword.specs.declared.Tested.{Tested}
 use Rattle.codeword.specs.Test.{TestAnswer, numbersOf as tested}
 use Rattle.image.specs.Image.{headerLength, readRefusal, readTray, readPart}
+use Rattle.scrub.specs.declared.Scrubbed.{Scrubbed}
+use Rattle.scrub.specs.Scrub.{numbersOf as reported}
 use Rattle.gesarumbo.specs.declared.ImageNumbers.{ImageNumbers}
 use Rattle.margin.specs.declared.LossMargin.{LossMargin}
 use Rattle.margin.specs.Margin.{refusalOf, valueOf}
@@ -22,6 +24,7 @@ use Rattle.repair.specs.declared.Repaired.{Repaired}
 use Rattle.repair.specs.Repair.{report, RepairAnswer}
 use Rattle.gesarumbo.specs.declared.RepairNumbers.{RepairNumbers}
 use Rattle.gesarumbo.specs.declared.TestNumbers.{TestNumbers}
+use Rattle.gesarumbo.specs.declared.ScrubNumbers.{ScrubNumbers}
 
 abbrev pub measureNumbers : Measured → MeasureNumbers
 measureNumbers a =
@@ -36,6 +39,9 @@ marginNumbers a = record { refusal = refusalOf a; margin = valueOf a }
 abbrev pub repairNumbers : Repaired → RepairNumbers
 repairNumbers a =
     record { refusal = report a .refusal; groups = report a .groupsDone; crossed = report a .crossed; remaining = report a .remaining }
+
+abbrev pub scrubNumbers : Scrubbed → ScrubNumbers
+scrubNumbers a = record { refusal = reported (a .report) .refusal; report = reported (a .report) .report; walk = a .walk }
 
 -- the numbers are those of an answer that the test's contract allows
 pub record TestShown (l : Layout) (c : List ℕ) (r : TestNumbers) : Type 0 where

@@ -7,6 +7,9 @@ use layout::Rack;
 use layout::Tray;
 use margin::LossMargin;
 use repair::Repaired;
+use scrub::Report;
+use scrub::Scrubbed;
+use scrub::Walk;
 ghost use mathlib.Core.Path.{_≡_};
 ghost use lib.ListN.{length};
 ghost use Rattle.symbol.specs.Elem.{gf256};
@@ -16,7 +19,8 @@ ghost use Rattle.store.specs.Store.{StoreAnswer};
 ghost use Rattle.margin.specs.Margin.{marginRefusal, marginValue};
 ghost use Rattle.share.specs.Share.{shareRefusal, shareBuffer, addRefusal, addBuffer};
 ghost use Rattle.image.specs.Image.{writeRefusal, writeBuffer};
-ghost use Rattle.gesarumbo.specs.Boundary.{measureNumbers, testNumbers, marginNumbers, repairNumbers, TestShown, ReadShown, RepairShown};
+ghost use Rattle.scrub.specs.Scrub.{scrubbed, begun};
+ghost use Rattle.gesarumbo.specs.Boundary.{measureNumbers, testNumbers, marginNumbers, repairNumbers, scrubNumbers, TestShown, ReadShown, RepairShown};
 
 #[repr(C)]
 pub struct MeasureNumbers {
@@ -54,6 +58,13 @@ pub struct ImageNumbers {
 pub struct MarginNumbers {
     pub refusal: u32,
     pub margin: i32,
+}
+
+#[repr(C)]
+pub struct ScrubNumbers {
+    pub refusal: u32,
+    pub report: u32,
+    pub walk: Walk,
 }
 
 // The numbers of an answer of the layout call.
@@ -142,6 +153,41 @@ fn margin_numbers(answer: LossMargin) -> MarginNumbers
         LossMargin::Refused(e) => MarginNumbers {
             refusal: e as u32,
             margin: 0,
+        },
+    }
+}
+
+// The numbers of an answer of a scrub call, and the record as it is handed back.
+fn scrub_numbers(answer: Scrubbed) -> ScrubNumbers
+    ensures { λ r. ⌜ r ≡ scrubNumbers answer ⌝ }
+{
+    let walk = answer.walk;
+    let report = answer.report;
+    match report {
+        Report::Begun => ScrubNumbers {
+            refusal: 0,
+            report: 0,
+            walk: walk,
+        },
+        Report::Unfinished => ScrubNumbers {
+            refusal: 0,
+            report: 1,
+            walk: walk,
+        },
+        Report::Sound => ScrubNumbers {
+            refusal: 0,
+            report: 2,
+            walk: walk,
+        },
+        Report::Bad => ScrubNumbers {
+            refusal: 0,
+            report: 3,
+            walk: walk,
+        },
+        Report::Refused(e) => ScrubNumbers {
+            refusal: e as u32,
+            report: 0,
+            walk: walk,
         },
     }
 }
@@ -272,4 +318,23 @@ pub extern "C" fn gesarumbo_margin(l: Layout, states: &[u8]) -> MarginNumbers
     ensures margin { λ r. ⌜ r .margin ≡ marginValue l (now (states .entry)) ⌝ }
 {
     margin_numbers(margin::margin(l, states))
+}
+
+#[no_mangle]
+pub extern "C" fn gesarumbo_scrub_reset(l: Layout, walk: Walk) -> ScrubNumbers
+    ensures { λ r. ⌜ r ≡ scrubNumbers (begun l walk) ⌝ }
+{
+    scrub_numbers(scrub::reset(l, walk))
+}
+
+#[no_mangle]
+pub extern "C" fn gesarumbo_scrub(
+    l: Layout,
+    codeword: &[u8],
+    walk: Walk,
+    budget: u64,
+) -> ScrubNumbers
+    ensures { λ r. ⌜ r ≡ scrubNumbers (scrubbed gf256 l (now (codeword .entry)) walk budget) ⌝ }
+{
+    scrub_numbers(scrub::step(l, codeword, walk, budget))
 }

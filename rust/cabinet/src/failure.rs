@@ -25,7 +25,7 @@ pub const STATUSES: [(u8, &str); 4] = [
     (USAGE, "the command line makes no sense"),
     (
         CONTENTS,
-        "a file's contents cannot be used, or test found a bad layer",
+        "a file's contents cannot be used, or test or scrub found a bad layer",
     ),
     (INTERNAL, "building failed, or command and library disagree"),
     (FILE, "a file or folder cannot be read or written"),

@@ -10,6 +10,7 @@ mod commands;
 mod conditions;
 mod failure;
 mod files;
+mod fingerprint;
 mod folder;
 mod header;
 mod help;
@@ -24,6 +25,7 @@ mod spare;
 mod svg;
 mod task;
 mod traffic;
+mod walk;
 mod words;
 
 use screen::Screen;

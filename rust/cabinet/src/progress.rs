@@ -1,6 +1,7 @@
-//! Bars, and the lines that a repair in pieces prints.
+//! Bars, and the lines that work done in pieces prints.
 
 use crate::task::Piece;
+use gesarumbo::ScrubRecord;
 
 /// A bar of some cells, filled in proportion; something is never shown as nothing.
 pub fn bar(part: u64, whole: u64, cells: u64) -> String {
@@ -27,15 +28,32 @@ pub fn piece(piece: &Piece) -> String {
         crossed,
         remaining,
     } = *piece;
-    let which = match end - first {
-        0 => "no group".to_string(),
-        1 => format!("group {first}"),
-        _ => format!("groups {first}-{}", end - 1),
-    };
+    let which = run("group", first, end);
     let bar = bar(end, groups, 16);
     let wide = (crossed + remaining).to_string().len();
     let traffic = format!("{crossed:>wide$} crossed, {remaining:>wide$} to come");
     format!("  {which:<16} {bar} {end:>3} of {groups}: {traffic}")
+}
+
+/// One call of a walk: which layers, how far the whole is, and what has been found bad.
+pub fn layers(before: &ScrubRecord, after: &ScrubRecord, layers: usize) -> String {
+    let [first, end] = [before, after].map(|record| u64::from(record.next.number()));
+    let which = run("layer", first, end);
+    let bar = bar(end, layers as u64, 16);
+    let found = match after.bad {
+        0 => "none bad".to_string(),
+        bad => format!("{bad} bad, the first is {}", after.first),
+    };
+    format!("  {which:<16} {bar} {end:>4} of {layers}: {found}")
+}
+
+/// The things from the first to the one before the end, in words.
+fn run(thing: &str, first: u64, end: u64) -> String {
+    match end - first {
+        0 => format!("no {thing}"),
+        1 => format!("{thing} {first}"),
+        _ => format!("{thing}s {first}-{}", end - 1),
+    }
 }
 
 #[cfg(test)]

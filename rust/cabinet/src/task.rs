@@ -1,6 +1,7 @@
 //! The repair of one lost tray, done in pieces over a spare.
 
 use crate::failure::Failure;
+use crate::fingerprint;
 use crate::folder::Folder;
 use crate::numbers::Numbers;
 use crate::plate::Plate;
@@ -122,12 +123,8 @@ impl Task {
         )
     }
 
-    /// A number that changes when shares or sound trays do (FNV-1a, 64 bits).
+    /// A number that changes when shares or sound trays do.
     fn fingerprint(&self) -> u64 {
-        let mix = |hash: u64, byte: &u8| (hash ^ u64::from(*byte)).wrapping_mul(0x100_0000_01b3);
-        self.shares
-            .iter()
-            .chain(&self.host)
-            .fold(0xcbf2_9ce4_8422_2325, mix)
+        fingerprint::of(self.shares.iter().chain(&self.host))
     }
 }

@@ -35,7 +35,7 @@ enum Final {
 pub struct Answer {
     /// The ground of refusal, 0 where done.
     pub refusal: u32,
-    /// The result numbers, all zero in a refusal.
+    /// The result numbers, all zero in a refusal but for a record handed back.
     pub numbers: Vec<i128>,
     buffer: Final,
     /// What the call has changed and may not.
@@ -54,6 +54,16 @@ impl Answer {
             buffer: Final::None,
             spoilt: vec![],
         }
+    }
+
+    /// An answer whose last numbers are a record, which a refusal hands back too.
+    pub fn handing_back<const N: usize, R: Ground>(
+        result: Result<[i128; N], R>,
+        record: [u32; 3],
+    ) -> Answer {
+        let mut answer = Answer::new(result);
+        answer.numbers.extend(record.map(i128::from));
+        answer
     }
 
     /// An answer that is a buffer alone: what it holds afterwards, or a refusal.

@@ -11,6 +11,8 @@ pub enum Kind {
     /// A number of 64 bits.
     Wide,
     List,
+    /// The three numbers of a walk's record.
+    Record,
     Bytes,
 }
 
@@ -20,6 +22,7 @@ pub enum Value {
     Small(u32),
     Wide(u64),
     List(Vec<u32>),
+    Record([u32; 3]),
     Bytes(Vec<u8>),
 }
 
@@ -57,6 +60,13 @@ impl Inputs {
         }
     }
 
+    pub fn record(&self, at: usize) -> [u32; 3] {
+        match self.0[at] {
+            Value::Record(record) => record,
+            _ => panic!("input {at} is not a record"),
+        }
+    }
+
     pub fn bytes(&self, at: usize) -> &[u8] {
         match &self.0[at] {
             Value::Bytes(bytes) => bytes,
@@ -91,7 +101,8 @@ fn parse_value(kind: Kind, word: &str) -> Option<Value> {
         Kind::Layout => parse_layout(word).map(Value::Layout),
         Kind::Small => word.parse().ok().map(Value::Small),
         Kind::Wide => word.parse().ok().map(Value::Wide),
-        Kind::List => parse_numbers(word.strip_prefix('[')?.strip_suffix(']')?).map(Value::List),
+        Kind::List => parse_list(word).map(Value::List),
+        Kind::Record => parse_list(word)?.try_into().ok().map(Value::Record),
         Kind::Bytes => parse_hex(word.strip_prefix('x')?).map(Value::Bytes),
     }
 }
@@ -101,6 +112,10 @@ fn parse_layout(word: &str) -> Option<[u32; 4]> {
     let numbers = parse_numbers(word)?;
     let (four, rest) = numbers.split_at_checked(4)?;
     (rest.is_empty() || rest == [0]).then(|| four.try_into().ok())?
+}
+
+fn parse_list(word: &str) -> Option<Vec<u32>> {
+    parse_numbers(word.strip_prefix('[')?.strip_suffix(']')?)
 }
 
 fn parse_numbers(word: &str) -> Option<Vec<u32>> {
@@ -132,6 +147,7 @@ impl fmt::Display for Value {
             Value::Small(number) => write!(f, "{number}"),
             Value::Wide(number) => write!(f, "{number}"),
             Value::List(list) => write!(f, "[{}]", comma_list(list)),
+            Value::Record(record) => write!(f, "[{}]", comma_list(record)),
             Value::Bytes(bytes) => f.write_str(&hex(bytes)),
         }
     }
@@ -187,6 +203,17 @@ mod tests {
         let parse = |word| Inputs::parse(&SHAPE[..1], &[word]);
         assert_eq!(parse("4,3,8,3,0").unwrap().layout(), [4, 3, 8, 3]);
         assert!(["4,3,8,3,1", "4,3,8", "4,3,8,3,0,0", "4,3,8,4294967296"]
+            .iter()
+            .all(|word| parse(word).is_err()));
+    }
+
+    #[test]
+    fn a_record_has_three_numbers() {
+        let parse = |word| Inputs::parse(&[Kind::Record], &[word]);
+        let parsed = parse("[1,0,4294967295]").unwrap();
+        assert_eq!(parsed.record(0), [1, 0, u32::MAX]);
+        assert_eq!(parsed.to_string(), "[1,0,4294967295]");
+        assert!(["[]", "[1,2]", "[1,2,3,4]", "1,2,3"]
             .iter()
             .all(|word| parse(word).is_err()));
     }

@@ -17,6 +17,7 @@ pub fn spoil(source: &mut Source, cabinet: &Cabinet, inputs: &mut Inputs, times:
             }
             Value::Wide(number) => *number = number_near(&mut source.random, cabinet, *number, 64),
             Value::List(list) => spoil_list(&mut source.random, cabinet, list),
+            Value::Record(record) => spoil_record(&mut source.random, cabinet, record),
             Value::Bytes(bytes) => spoil_bytes(&mut source.random, cabinet, bytes),
         }
     }
@@ -110,6 +111,17 @@ fn spoil_list(random: &mut Random, cabinet: &Cabinet, list: &mut Vec<u32>) {
         6 => list.insert(at, list[at]),
         7 => list.swap(at, length - 1),
         _ => list[at] = number_near(random, cabinet, u64::from(list[at]), 32) as u32,
+    }
+}
+
+/// One of the three numbers is moved, or all stand close together.
+fn spoil_record(random: &mut Random, cabinet: &Cabinet, record: &mut [u32; 3]) {
+    if random.one_in(3) {
+        let base = random.pick(&[0, cabinet.numbers.layers as u32]);
+        *record = [(); 3].map(|()| base.wrapping_add(random.pick(&[0, 1, 2, u32::MAX])));
+    } else {
+        let at = random.below(3);
+        record[at] = number_near(random, cabinet, u64::from(record[at]), 32) as u32;
     }
 }
 

@@ -5,7 +5,7 @@
 //! keeps no pointer. What it writes is lent `&mut`, so no two buffers of a call overlap. Structs
 //! and kinds have the layout of the header `c/gesarumbo.h`.
 
-use crate::{Layout, Rack, Tray};
+use crate::{Layout, Rack, ScrubRecord, Tray};
 
 /// The answer to a measuring; `refusal` is 0 where the call was done, here and below.
 #[repr(C)]
@@ -48,6 +48,14 @@ pub struct Image {
 pub struct Margin {
     pub refusal: u32,
     pub margin: i32,
+}
+
+/// The answer to a call of a walk; `report` is 1 for unfinished, 2 for sound and 3 for bad.
+#[repr(C)]
+pub struct Scrubbed {
+    pub refusal: u32,
+    pub report: u32,
+    pub record: ScrubRecord,
 }
 
 extern "C" {
@@ -111,6 +119,14 @@ extern "C" {
     ) -> u32;
     fn gesarumbo_read_image(layout: Layout, volume: u32, image: *const u8, length: usize) -> Image;
     fn gesarumbo_margin(layout: Layout, states: *const u8, length: usize) -> Margin;
+    fn gesarumbo_scrub_reset(layout: Layout, record: ScrubRecord) -> Scrubbed;
+    fn gesarumbo_scrub(
+        layout: Layout,
+        codeword: *const u8,
+        length: usize,
+        record: ScrubRecord,
+        budget: u64,
+    ) -> Scrubbed;
 }
 
 pub fn measure(layout: Layout) -> Measured {
@@ -241,4 +257,14 @@ pub fn read_image(layout: Layout, volume: u32, image: &[u8]) -> Image {
 pub fn margin(layout: Layout, states: &[u8]) -> Margin {
     // SAFETY: the slice is lent for the call.
     unsafe { gesarumbo_margin(layout, states.as_ptr(), states.len()) }
+}
+
+pub fn scrub_reset(layout: Layout, record: ScrubRecord) -> Scrubbed {
+    // SAFETY: numbers only.
+    unsafe { gesarumbo_scrub_reset(layout, record) }
+}
+
+pub fn scrub(layout: Layout, codeword: &[u8], record: ScrubRecord, budget: u64) -> Scrubbed {
+    // SAFETY: the slice is lent for the call.
+    unsafe { gesarumbo_scrub(layout, codeword.as_ptr(), codeword.len(), record, budget) }
 }

@@ -23,7 +23,8 @@ pub enum Refusal {
     /// A lent buffer is not exactly the length its rule gives: symbols, shares, spare, states or an
     /// image being written.
     Length = 2,
-    /// A tray, rack, state or volume number is outside its values.
+    /// A tray, rack, state or volume number is outside its values, or a scrub record is none that a
+    /// walk can have.
     Number = 3,
     /// A list is not strictly rising.
     Order = 4,
@@ -53,7 +54,8 @@ const GROUNDS: [(Refusal, &str); 11] = [
     ),
     (
         Refusal::Number,
-        "a tray, rack, state or volume number is outside its values",
+        "a tray, rack, state or volume number is outside its values, or a scrub record none that a \
+         walk can have",
     ),
     (Refusal::Order, "a list is not strictly rising"),
     (

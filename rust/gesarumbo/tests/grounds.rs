@@ -176,6 +176,44 @@ fn the_margin() {
     assert_eq!(margin(GOOD, &[ABSENT; 12]), Ok(-8));
 }
 
+/// Asserts that a call is refused on this ground and leaves the record.
+fn record_left<T: Debug>(
+    ground: Refusal,
+    numbers: [u32; 3],
+    call: impl FnOnce(&mut ScrubRecord) -> Result<T, Refusal>,
+) {
+    let [next, bad, first] = numbers;
+    let before = ScrubRecord::new(next, bad, first);
+    let mut lent = before;
+    assert_eq!(call(&mut lent).expect_err("it is refused"), ground);
+    assert_eq!(lent, before);
+}
+
+#[test]
+fn scrubbing() {
+    for (ground, layout, length, record) in [
+        (Refusal::Layout, BAD, 191, [17, 18, 19]),
+        (Refusal::Length, GOOD, 191, [17, 18, 19]),
+        (Refusal::Number, GOOD, 192, [17, 0, 16]), // next above L
+        (Refusal::Number, GOOD, 192, [5, 6, 4]),   // count above next
+        (Refusal::Number, GOOD, 192, [5, 0, 4]),   // none bad, first not L
+        (Refusal::Number, GOOD, 192, [5, 1, 5]),   // some bad, first not below next
+        (Refusal::Number, GOOD, 192, [16, 1, 16]),
+    ] {
+        let codeword = vec![0; length];
+        record_left(ground, record, |r| scrub(layout, &codeword, r, 1));
+    }
+    record_left(Refusal::Layout, [17, 18, 19], |r| scrub_reset(BAD, r));
+}
+
+/// A record that no walk can have, but that no ground refuses.
+#[test]
+fn two_bad_layers_of_one() {
+    let mut record = ScrubRecord::new(2, 2, 1);
+    assert_eq!(scrub(GOOD, &[0; 192], &mut record, 14), Ok(Scrubbed::Bad));
+    assert_eq!(record, ScrubRecord::new(16, 2, 1));
+}
+
 #[test]
 fn nothing_lent_is_a_wrong_length() {
     let (rack, tray) = (Rack::new(0), Tray::new(0));
@@ -188,4 +226,5 @@ fn nothing_lent_is_a_wrong_length() {
     refused(length, 0, |i| write_image(GOOD, tray, 1, 7, &[], i));
     assert_eq!(read_image(GOOD, 7, &[]), Err(Refusal::Malformed));
     assert_eq!(margin(GOOD, &[]), Err(length));
+    record_left(length, [0, 0, 16], |r| scrub(GOOD, &[], r, 1));
 }

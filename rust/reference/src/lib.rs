@@ -1,4 +1,4 @@
-//! A second program, written from document 01 alone: every call in the
+//! A second program, written from documents 01 and 02 alone: every call in the
 //! plainest way, to compare the library with.
 //!
 //! Products are worked out bit by bit and every unknown is found by
@@ -19,6 +19,7 @@ pub mod margin;
 pub mod recover;
 pub mod refusal;
 pub mod repair;
+pub mod scrub;
 pub mod share;
 pub mod store;
 pub mod test;
@@ -29,6 +30,7 @@ pub use margin::margin;
 pub use recover::recover;
 pub use refusal::Refusal;
 pub use repair::{repair, Given, Repaired};
+pub use scrub::{scrub, scrub_reset, Report, ScrubRecord};
 pub use share::{share, share_add};
 pub use store::store;
 pub use test::{test, Tested};

@@ -12,6 +12,7 @@ mod margin;
 mod plan;
 mod recover;
 mod repair;
+mod scrub;
 mod share;
 mod store;
 mod test;
@@ -33,6 +34,7 @@ pub const COMMANDS: &[Command] = &[
     plan::COMMAND,
     store::COMMAND,
     test::COMMAND,
+    scrub::COMMAND,
     recover::COMMAND,
     share::COMMAND,
     repair::COMMAND,

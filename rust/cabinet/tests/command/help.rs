@@ -2,8 +2,8 @@
 
 use crate::bench::{assert_readable, Bench};
 
-const COMMANDS: [&str; 9] = [
-    "demo", "plan", "store", "test", "recover", "share", "repair", "margin", "inspect",
+const COMMANDS: [&str; 10] = [
+    "demo", "plan", "store", "test", "scrub", "recover", "share", "repair", "margin", "inspect",
 ];
 
 #[test]
@@ -71,6 +71,9 @@ fn senseless_lines_are_usage_errors() {
         "store 4 3 8 3 --volume 7 --exact=yes data d",
         "test",
         "test c --layout 4,3,8",
+        "scrub",
+        "scrub c --budget some",
+        "scrub c --reset now",
         "share c --host 1 out",
         "repair c --lost 4",
         "repair c --lost 4 --helpers 0,two,3",

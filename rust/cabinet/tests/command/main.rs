@@ -7,4 +7,5 @@ mod help;
 mod plan;
 mod refusals;
 mod repair;
+mod scrub;
 mod xml;

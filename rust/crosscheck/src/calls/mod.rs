@@ -9,6 +9,8 @@ pub mod share;
 pub mod share_add;
 pub mod store;
 pub mod test;
+pub mod walk;
+pub mod walk_reset;
 pub mod write_image;
 
 use crate::answer::Answer;
@@ -32,7 +34,7 @@ pub struct Call {
     pub reference: fn(&Inputs) -> Answer,
 }
 
-pub const CALLS: [&Call; 10] = [
+pub const CALLS: [&Call; 12] = [
     &measure::CALL,
     &test::CALL,
     &store::CALL,
@@ -43,6 +45,8 @@ pub const CALLS: [&Call; 10] = [
     &write_image::CALL,
     &read_image::CALL,
     &margin::CALL,
+    &walk_reset::CALL,
+    &walk::CALL,
 ];
 
 fn library_layout(inputs: &Inputs) -> gesarumbo::Layout {

@@ -4,6 +4,7 @@ mod any_call;
 mod cutting;
 mod feeds;
 mod same_group;
+mod walks;
 
 use crate::crosscheck::Crosscheck;
 
@@ -16,9 +17,10 @@ pub struct Draw {
     pub case: fn(&mut Crosscheck),
 }
 
-pub const DRAWS: [&Draw; 4] = [
+pub const DRAWS: [&Draw; 5] = [
     &any_call::DRAW,
     &cutting::DRAW,
     &feeds::DRAW,
     &same_group::DRAW,
+    &walks::DRAW,
 ];

@@ -1,0 +1,4 @@
+pub mod Layers
+pub mod Answers
+pub mod Walks
+pub mod Broken

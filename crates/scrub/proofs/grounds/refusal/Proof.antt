@@ -1,0 +1,51 @@
+use mathlib.Core.Path.{_≡_, sym, ap, ap₂, _∙_}
+use mathlib.Core.Bool.{Bool, true, false}
+use Prim.Native.Nat.{ℕ, _*_}
+use native.Mathlib.Omega.{arith}
+use borrow.Author.Needs.{needs}
+use borrow.Author.Tests.{not-true, not-false}
+use Rattle.lists.proofs.Bools.{told-true, told-false}
+use Rattle.lists.proofs.Numbers.{mul-below}
+use Rattle.layout.specs.Layout.{trayLimit, layerLimit, layers, trays, admissible, Admissible}
+use Rattle.layout.proofs.Facts.{admissible-facts}
+use Rattle.scrub.specs.Scrub.{plausible}
+use Rattle.scrub.proofs.Answers.{refused-1, refused-2, refused-3, not-refused}
+use Rattle.scrub.proofs.grounds.refusal.Statement.{statement}
+use Rattle.scrub.proofs.grounds.refusal.Tie as tie
+
+-- past the first test
+adm : (c : tie.Else1) → admissible (c .before .before .args .l) ≡ true
+adm c = told-true (c .before .admitted .ensures) (c .if1 .left)
+
+facts : (c : tie.Else1) → Admissible (c .before .before .args .l)
+facts c = admissible-facts _ (adm c)
+
+-- past the second test
+long : (c : tie.Else2) →
+    c .before .before .before .before .before .args .length
+    ≡ trays (c .before .before .before .before .before .args .l) * layers (c .before .before .before .before .before .args .l)
+long c = c .if2 .left ∙ ap₂ _*_ (c .before .tray-count .ensures) (c .before .before .layer-count .ensures)
+
+-- what the last test says of the record
+told : (t : Bool) → (c : tie.After-takes) → c .takes .result ≡ t →
+    plausible (layers (c .before .before .before .before .before .before .args .l)) (c .before .before .before .before .before .before .args .walk) ≡ t
+told t c e =
+    ap (λ (n : ℕ). plausible n (c .before .before .before .before .before .before .args .walk)) (sym (c .before .before .before .layer-count .ensures))
+    ∙ sym (c .takes .ensures) ∙ e
+
+pub refusal-spec : {M : Type 1} → statement M
+refusal-spec =
+    tie.close (tie.spec
+    (λ c κs. search needs)
+    (λ c. refused-1 _ _ _ (told-false (c .before .admitted .ensures) (c .if1 .taken)))
+    (λ c κs. facts c)
+    (λ c κs. facts (c .before))
+    (λ c. search needs)
+    (λ c. search needs)
+    (λ c. let a = facts (c .before .before) in record { fits = mul-below trayLimit layerLimit (omega arith) (omega arith) tt })
+    (λ c.
+    refused-2 _ _ _ (adm (c .before .before .before))
+    (λ e. c .if2 .taken (e ∙ sym (ap₂ _*_ (c .before .tray-count .ensures) (c .before .before .layer-count .ensures)))))
+    (λ c κs. search needs)
+    (λ c. refused-3 _ _ _ (adm (c .before .before .before .before .before)) (long (c .before .before)) (told false (c .before) (not-true _ (c .if3 .taken))))
+    (λ c. not-refused _ _ _ (adm (c .before .before .before .before .before)) (long (c .before .before)) (told true (c .before) (not-false _ (c .if3 .left)))))

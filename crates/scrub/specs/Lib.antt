@@ -1,0 +1,3 @@
+pub mod Scrub
+pub mod Calls
+pub mod Inner

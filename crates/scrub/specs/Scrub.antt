@@ -1,0 +1,81 @@
+-- Testing a codeword some layers at a time (document 02, W6): the grounds of a call, its report, and what it makes of the record.
+-- Assumes nothing.
+use mathlib.Core.Bool.{Bool, not, cond, _&&_}
+use mathlib.Core.List.{List}
+use Prim.Native.Nat.{ℕ, zero, suc, _+_, _-_, _*_, min}
+use lib.Dec.{eqb, ltb, leb}
+use lib.ListN.{length}
+use Rattle.lists.specs.Lists.{all, unless}
+use Rattle.algebra.specs.Shape.{Field}
+use Rattle.layout.specs.declared.Layout.{Layout}
+use Rattle.layout.specs.Layout.{trays, checks, layers, admissible}
+use Rattle.codeword.specs.Codeword.{checkAt}
+use Rattle.scrub.specs.declared.Walk.{Walk}
+use Rattle.scrub.specs.declared.Scrubbed.{Scrubbed}
+use Rattle.scrub.specs.declared.Report.{Report}
+use Rattle.scrub.specs.declared.Report.the-variants.{Begun, Unfinished, Sound, Bad, Refused}
+
+-- whether layer j is bad: some check of it is not zero
+unfoldable pub badLayer : {A : Type 0} → Field A → Layout → List ℕ → ℕ → Bool
+badLayer f l c j = not (all (λ t. eqb (f .coding .val (checkAt f l c j t)) (f .coding .val (f .ops .zero))) (checks l))
+
+-- how many of the layers a, .., a + k - 1 are bad
+unfoldable pub badCount : (ℕ → Bool) → ℕ → ℕ → ℕ
+badCount p a zero = 0
+badCount p a (suc k) = cond (p a) 1 0 + badCount p (a + 1) k
+
+-- the least bad one of them, or e where there is none
+unfoldable pub leastBad : (ℕ → Bool) → ℕ → ℕ → ℕ → ℕ
+leastBad p a e zero = e
+leastBad p a e (suc k) = cond (p a) a (leastBad p (a + 1) e k)
+
+-- the record after k more layers
+unfoldable pub after : (ℕ → Bool) → Walk → ℕ → Walk
+after p w k = record {
+  next = w .next + k;
+  bad = w .bad + badCount p (w .next) k;
+  first = cond (eqb (w .bad) 0) (leastBad p (w .next) (w .first) k) (w .first);
+}
+
+-- the records that a call takes, L the number of layers
+unfoldable pub plausible : ℕ → Walk → Bool
+plausible L w = leb (w .next) L && leb (w .bad) (w .next) && cond (eqb (w .bad) 0) (eqb (w .first) L) (ltb (w .first) (w .next))
+
+-- the refusal of a call, given the buffer's length; 0 for none
+unfoldable pub scrubRefusal : Layout → ℕ → Walk → ℕ
+scrubRefusal l n w = unless (admissible l) 1 (unless (eqb n (trays l * layers l)) 2 (unless (plausible (layers l) w) 3 0))
+
+-- the report at a record
+unfoldable pub reportOf : ℕ → Walk → Report
+reportOf L w = cond (ltb (w .next) L) Unfinished (cond (eqb (w .bad) 0) Sound Bad)
+
+-- what a call that is not refused makes of the record: it looks at the smaller of its budget and the layers left
+unfoldable pub stepped : {A : Type 0} → Field A → Layout → List ℕ → Walk → ℕ → Walk
+stepped f l c w budget = after (badLayer f l c) w (min budget (layers l - w .next))
+
+-- a call; a refused one hands back the record as it came
+unfoldable pub scrubbed : {A : Type 0} → Field A → Layout → List ℕ → Walk → ℕ → Scrubbed
+scrubbed f l c w budget =
+    cond (eqb (scrubRefusal l (length c) w) 0)
+    (record { report = reportOf (layers l) (stepped f l c w budget); walk = stepped f l c w budget })
+    (record { report = Refused (scrubRefusal l (length c) w); walk = w })
+
+-- the record that a walk begins with
+unfoldable pub fresh : Layout → Walk
+fresh l = record { next = 0; bad = 0; first = layers l }
+
+-- a reset of any record
+unfoldable pub begun : Layout → Walk → Scrubbed
+begun l w = cond (admissible l) (record { report = Begun; walk = fresh l }) (record { report = Refused 1; walk = w })
+
+-- the numbers for each report: the refusal (0 for none), and 1 unfinished, 2 sound, 3 bad, 0 where nothing is said of the codeword
+pub record Numbers : Type 0 where
+  pub refusal : ℕ
+  pub report : ℕ
+
+abbrev pub numbersOf : Report → Numbers
+numbersOf Begun = record { refusal = 0; report = 0 }
+numbersOf Unfinished = record { refusal = 0; report = 1 }
+numbersOf Sound = record { refusal = 0; report = 2 }
+numbersOf Bad = record { refusal = 0; report = 3 }
+numbersOf (Refused e) = record { refusal = e; report = 0 }

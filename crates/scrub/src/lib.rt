@@ -1,0 +1,120 @@
+// Testing a stored codeword some layers at a time (document 02, W6). A walk is begun by a reset, and each call looks at some more layers. Promises that after
+// each call the record holds exactly how many layers below the next are bad and the least of them, and what the report says; a refused call leaves the
+// record as it came. `reset` and `step` take the record by value and hand it back; `scrub_reset` and `scrub` change a lent one in its place.
+mod grounds;
+mod look;
+
+use layout::Layout;
+ghost use mathlib.Core.Path.{_≡_};
+ghost use Prim.Native.Nat.{min};
+ghost use Rattle.symbol.specs.Elem.{gf256};
+ghost use Rattle.scrub.specs.Scrub.{reportOf, scrubbed, begun};
+
+// The record of a walk: the next layer, how many layers below it are bad, and the first bad one; L for none.
+#[repr(C)]
+pub struct Walk {
+    pub next: u32,
+    pub bad: u32,
+    pub first: u32,
+}
+
+// What a call reports. `Begun` is a reset's, and says nothing of the codeword.
+pub enum Report {
+    Begun,
+    Unfinished,
+    Sound,
+    Bad,
+    Refused(u8),
+}
+
+// A call's report, and the record afterwards.
+pub struct Scrubbed {
+    pub report: Report,
+    pub walk: Walk,
+}
+
+// The smaller of a budget and the layers left.
+fn smaller(budget: u64, left: u32) -> u32
+    ensures { λ r. ⌜ r ≡ min budget left ⌝ }
+{
+    if budget < left as u64 {
+        budget as u32
+    } else {
+        left
+    }
+}
+
+// What a record says of a walk over so many layers.
+fn report_of(total: u32, walk: Walk) -> Report
+    ensures { λ r. ⌜ r ≡ reportOf total walk ⌝ }
+{
+    let j = walk.next;
+    let n = walk.bad;
+    if j < total {
+        return Report::Unfinished;
+    }
+    if n == 0 {
+        return Report::Sound;
+    }
+    Report::Bad
+}
+
+// Starts a new walk, whatever the old record holds.
+pub fn reset(l: Layout, old: Walk) -> Scrubbed
+    ensures { λ r. ⌜ r ≡ begun l old ⌝ }
+{
+    if !layout::admitted(l) {
+        return Scrubbed {
+            report: Report::Refused(1),
+            walk: old,
+        };
+    }
+    Scrubbed {
+        report: Report::Begun,
+        walk: Walk {
+            next: 0,
+            bad: 0,
+            first: layout::layer_count(l),
+        },
+    }
+}
+
+// Looks at the smaller of the budget and the layers left.
+pub fn step(l: Layout, c: &[u8], walk: Walk, budget: u64) -> Scrubbed
+    ensures { λ r. ⌜ r ≡ scrubbed gf256 l (now (c .entry)) walk budget ⌝ }
+{
+    let no = grounds::refusal(l, c.len(), walk);
+    if no != 0 {
+        return Scrubbed {
+            report: Report::Refused(no),
+            walk: walk,
+        };
+    }
+    let total = layout::layer_count(l);
+    let j = walk.next;
+    let count = smaller(budget, total - j);
+    let seen = look::look_on(l, total, c, walk, count);
+    Scrubbed {
+        report: report_of(total, seen),
+        walk: seen,
+    }
+}
+
+// A reset with the record lent, and changed in its place.
+pub fn scrub_reset(l: Layout, walk: &mut Walk) -> Report
+    ensures { λ r. ⌜ (r ≡ begun l (now (walk .entry)) .report) × (now (walk .exit) ≡ begun l (now (walk .entry)) .walk) ⌝ }
+{
+    let s = reset(l, *walk);
+    *walk = s.walk;
+    s.report
+}
+
+// A step with the record lent, and changed in its place.
+pub fn scrub(l: Layout, c: &[u8], walk: &mut Walk, budget: u64) -> Report
+    ensures { λ r. ⌜ (r ≡ scrubbed gf256 l (now (c .entry)) (now (walk .entry)) budget .report)
+        × (now (walk .exit) ≡ scrubbed gf256 l (now (c .entry)) (now (walk .entry)) budget .walk) ⌝ }
+{
+    let s = step(l, c, *walk, budget);
+    *walk = s.walk;
+    s.report
+}

@@ -1,0 +1,108 @@
+//! `cabinet scrub`: whether a cabinet's trays are a codeword, some layers at a time.
+
+use super::Command;
+use crate::arguments::{Arguments, Setting};
+use crate::failure::Failure;
+use crate::folder::Folder;
+use crate::numbers::Numbers;
+use crate::plate;
+use crate::progress;
+use crate::screen::{Paint, Screen};
+use crate::walk::{self, Walk};
+use crate::words::count;
+use gesarumbo::{ScrubRecord, Scrubbed};
+use std::path::{Path, PathBuf};
+
+const BUDGET: Setting = Setting::with(
+    "--budget",
+    "N",
+    "look at no more than N layers now; without it, at all that are left",
+);
+const RESET: Setting = Setting::plain("--reset", "start a new walk, whatever the file holds");
+const RECORD: Setting = Setting::with(
+    "--record",
+    "FILE",
+    "where the record is kept, DIR/scrub.txt if not given",
+);
+
+pub const COMMAND: Command = Command {
+    name: "scrub",
+    summary: "test the trays some layers at a time, as a night check",
+    help: HELP,
+    settings: &[BUDGET, RESET, RECORD, plate::LAYOUT, plate::VOLUME],
+    run,
+};
+
+const HELP: &str = "\
+cabinet scrub DIR [--budget N] [--reset] [--record FILE]
+
+Tests whether the trays of DIR meet every parity check, some layers at a time.
+Between two calls a small file keeps the next layer, how many layers before it
+are bad, and the first bad one. It also knows the trays by their contents: if
+one is changed, what was seen no longer holds, and the walk must be begun anew
+(65). At the end the file is removed. Bad layers are an answer, with exit status
+65 when all layers have been seen.
+";
+
+fn run(arguments: &Arguments, screen: &mut Screen) -> Result<(), Failure> {
+    let [folder] = arguments.words(["DIR"])?;
+    let budget = arguments.number(BUDGET)?.unwrap_or(u64::MAX);
+    let path = match arguments.value(RECORD) {
+        Some(file) => PathBuf::from(file),
+        None => Path::new(folder).join(walk::NAME),
+    };
+    let folder = Folder::open(folder, arguments)?;
+    folder.introduce(screen);
+    let codeword = folder.codeword()?;
+    let start = match arguments.has(RESET) {
+        true => Walk::begin,
+        false => Walk::go_on,
+    };
+    let mut walk = start(path, &folder, &codeword)?;
+    let before = walk.record;
+    let scrubbed = gesarumbo::scrub(folder.plate.layout, &codeword, &mut walk.record, budget)
+        .map_err(Failure::refused(walk.path().display()))?;
+    screen.line(progress::layers(
+        &before,
+        &walk.record,
+        folder.numbers.layers,
+    ));
+    match scrubbed {
+        Scrubbed::Unfinished => {
+            walk.save()?;
+            let place = walk.path().display();
+            screen.line(format!(
+                "  the record is kept in {place}; scrub goes on with it"
+            ));
+            Ok(())
+        }
+        ended => {
+            let record = walk.record;
+            walk.discard()?;
+            conclude(ended, &record, &folder.numbers, screen)
+        }
+    }
+}
+
+/// What a walk over all layers has found.
+fn conclude(
+    ended: Scrubbed,
+    record: &ScrubRecord,
+    numbers: &Numbers,
+    screen: &mut Screen,
+) -> Result<(), Failure> {
+    let layers = numbers.layers;
+    if ended == Scrubbed::Sound {
+        let sound = screen.paint(Paint::Good, "sound");
+        let checks = numbers.checks;
+        screen.line(format!(
+            "  {sound}: each of {layers} layers meets all {checks} checks"
+        ));
+        return Ok(());
+    }
+    let bad = count(record.bad as usize, "layer");
+    Err(Failure::Contents(format!(
+        "bad: {bad} of {layers} broken, layer {} is the first",
+        record.first
+    )))
+}

@@ -1,0 +1,56 @@
+//! Starting a walk over a codeword's layers.
+
+use super::{library_layout, reference_layout, Call};
+use crate::answer::Answer;
+use crate::cabinet::Cabinet;
+use crate::inputs::{Inputs, Kind, Value};
+use crate::source::Source;
+
+pub const CALL: Call = Call {
+    name: "walk_reset",
+    shape: &[Kind::Layout, Kind::Record],
+    grounds: &[1],
+    example,
+    library,
+    reference,
+};
+
+pub fn inputs(cabinet: &Cabinet, record: [u32; 3]) -> Inputs {
+    Inputs(vec![Value::Layout(cabinet.layout), Value::Record(record)])
+}
+
+/// Any record is reset.
+fn example(source: &mut Source, cabinet: &Cabinet) -> Inputs {
+    let random = &mut source.random;
+    inputs(cabinet, [(); 3].map(|()| random.word() as u32))
+}
+
+fn library(inputs: &Inputs) -> Answer {
+    let mut record = library_record(inputs, 1);
+    let reset = gesarumbo::scrub_reset(library_layout(inputs), &mut record);
+    Answer::handing_back(reset.map(|()| []), library_numbers(record))
+}
+
+fn reference(inputs: &Inputs) -> Answer {
+    let reset = reference::scrub_reset(reference_layout(inputs));
+    let record = reset.unwrap_or_else(|_| reference_record(inputs, 1));
+    Answer::handing_back(reset.map(|_| []), reference_numbers(record))
+}
+
+pub fn library_record(inputs: &Inputs, at: usize) -> gesarumbo::ScrubRecord {
+    let [next, bad, first] = inputs.record(at);
+    gesarumbo::ScrubRecord::new(next, bad, first)
+}
+
+pub fn reference_record(inputs: &Inputs, at: usize) -> reference::ScrubRecord {
+    let [next, bad, first] = inputs.record(at);
+    reference::ScrubRecord { next, bad, first }
+}
+
+pub fn library_numbers(record: gesarumbo::ScrubRecord) -> [u32; 3] {
+    [record.next.number(), record.bad, record.first.number()]
+}
+
+pub fn reference_numbers(record: reference::ScrubRecord) -> [u32; 3] {
+    [record.next, record.bad, record.first]
+}
