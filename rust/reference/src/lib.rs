@@ -30,7 +30,7 @@ pub use margin::margin;
 pub use recover::recover;
 pub use refusal::Refusal;
 pub use repair::{repair, Given, Repaired};
-pub use scrub::{scrub, scrub_reset, Report, ScrubRecord};
+pub use scrub::{bad_layers, scrub, scrub_reset, Report, ScrubRecord};
 pub use share::{share, share_add};
 pub use store::store;
 pub use test::{test, Tested};

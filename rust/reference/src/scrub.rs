@@ -1,16 +1,17 @@
-//! Testing a stored codeword some layers at a time, by document 02's W6.
+//! Testing a stored codeword some layers at a time.
 
 use crate::checks::Checks;
 use crate::layout::{Layout, Numbers};
 use crate::refusal::{refuse, Refusal};
-use std::ops::Range;
 
-/// The watchman's record: the next layer, the count of bad layers and the
-/// first bad one. A first bad layer of L means none.
+/// How far a walk is and what it has found.
 #[derive(Clone, Copy, Debug, PartialEq, Eq)]
 pub struct ScrubRecord {
+    /// The next layer to look at.
     pub next: u32,
+    /// How many layers below the next are bad.
     pub bad: u32,
+    /// The first bad layer; L means none.
     pub first: u32,
 }
 
@@ -21,7 +22,7 @@ pub enum Report {
     Bad,
 }
 
-/// A reset of any record: the record that a new walk begins with.
+/// The record of a walk not yet begun.
 pub fn scrub_reset(layout: Layout) -> Result<ScrubRecord, Refusal> {
     let numbers = layout.numbers()?;
     Ok(ScrubRecord {
@@ -31,7 +32,9 @@ pub fn scrub_reset(layout: Layout) -> Result<ScrubRecord, Refusal> {
     })
 }
 
-/// One call of a walk: its report, and the record afterwards.
+/// Looks at as many layers as the budget allows, from the record's next one
+/// on, and gives the report and the record afterwards. A refused call leaves
+/// the record as it came.
 pub fn scrub(
     layout: Layout,
     codeword: &[u8],
@@ -39,49 +42,55 @@ pub fn scrub(
     budget: u64,
 ) -> Result<(Report, ScrubRecord), Refusal> {
     let numbers = layout.numbers()?;
-    let layers = numbers.layers as u32;
+    let wrong_length = codeword.len() != numbers.trays * numbers.layers;
     refuse(&[
-        (
-            Refusal::Length,
-            codeword.len() != numbers.trays * numbers.layers,
-        ),
-        (Refusal::Number, !in_order(record, layers)),
+        (Refusal::Length, wrong_length),
+        (Refusal::Number, !is_record(&numbers, record)),
     ])?;
-    let looked_at = budget.min(u64::from(layers - record.next)) as u32;
-    let end = record.next + looked_at;
-    let bad = bad_layers(numbers, codeword, record.next as usize..end as usize);
-    let first = if record.bad == 0 {
-        bad.first().map_or(layers, |&layer| layer as u32)
-    } else {
-        record.first
+    let next = record.next as usize;
+    let looked_at = budget.min((numbers.layers - next) as u64) as usize;
+    let found = bad_layers(numbers, codeword, next..next + looked_at);
+    // With none bad so far, the first of those found is the first of all.
+    let first = match found.first() {
+        Some(&layer) if record.bad == 0 => layer as u32,
+        _ => record.first,
     };
     let after = ScrubRecord {
-        next: end,
-        bad: record.bad + bad.len() as u32,
+        next: (next + looked_at) as u32,
+        bad: record.bad + found.len() as u32,
         first,
     };
-    let report = match (end < layers, after.bad) {
-        (true, _) => Report::Unfinished,
-        (false, 0) => Report::Sound,
-        (false, _) => Report::Bad,
-    };
-    Ok((report, after))
+    Ok((report(&numbers, after), after))
 }
 
-/// Whether a record is none of those that are refused.
-fn in_order(record: ScrubRecord, layers: u32) -> bool {
-    let first = match record.bad {
-        0 => record.first == layers,
-        _ => record.first < record.next,
-    };
-    record.next <= layers && record.bad <= record.next && first
-}
-
-/// The layers of a run in which some check is broken, rising.
-pub fn bad_layers(numbers: Numbers, codeword: &[u8], run: Range<usize>) -> Vec<usize> {
+/// The layers of a run in which some check is broken, the lowest first. The
+/// codeword must have n·L bytes, and the run must end at L or below.
+pub fn bad_layers(numbers: Numbers, codeword: &[u8], run: std::ops::Range<usize>) -> Vec<usize> {
     let checks = Checks::new(numbers);
     let trays: Vec<usize> = (0..numbers.trays).collect();
-    let broken =
+    let is_bad =
         |&layer: &usize| (0..numbers.checks).any(|t| checks.sum(codeword, &trays, layer, t) != 0);
-    run.filter(broken).collect()
+    run.filter(is_bad).collect()
+}
+
+/// The rules of W6 for a record.
+fn is_record(numbers: &Numbers, record: ScrubRecord) -> bool {
+    let layers = numbers.layers as u32;
+    let first_fits = if record.bad == 0 {
+        record.first == layers
+    } else {
+        record.first < record.next
+    };
+    record.next <= layers && record.bad <= record.next && first_fits
+}
+
+/// What a record says of the walk.
+fn report(numbers: &Numbers, record: ScrubRecord) -> Report {
+    if (record.next as usize) < numbers.layers {
+        Report::Unfinished
+    } else if record.bad == 0 {
+        Report::Sound
+    } else {
+        Report::Bad
+    }
 }
