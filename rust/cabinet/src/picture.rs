@@ -2,18 +2,12 @@
 //!
 //! It shows a tray lost in rack 0, with racks 1 to d as helpers.
 
+use crate::frame::{self, EDGE, INNER, TOP};
 use crate::numbers::Numbers;
 use crate::svg::Svg;
 use crate::traffic::{self, percent};
 use crate::words::{count, grouped};
 use gesarumbo::{Rack, Tray};
-
-const WIDTH: usize = 960;
-const EDGE: usize = 56;
-const INNER: usize = WIDTH - 2 * EDGE;
-
-/// Where the racks begin, below title and legend.
-const TOP: usize = 132;
 
 /// Racks in a row of the picture.
 const MOST_IN_ROW: usize = 12;
@@ -32,15 +26,8 @@ const HEAD: usize = 10;
 const PANEL: usize = 190;
 
 const STYLE: &str = "\
-text { font-family: system-ui, 'DejaVu Sans', Helvetica, Arial, sans-serif; fill: #24323f; }
-text { font-size: 14px; }
-.paper { fill: #ffffff; }
 .panel { fill: #f3f6f8; }
-.title { font-size: 24px; font-weight: bold; }
-.small { font-size: 13px; fill: #51606d; }
 .strong { font-weight: bold; }
-.middle { text-anchor: middle; }
-.end { text-anchor: end; }
 .figure { font-size: 34px; font-weight: bold; fill: #1d8a55; text-anchor: end; }
 .rack { fill: #f3f6f8; stroke: #b4c0ca; stroke-width: 1.5; }
 .helper .rack { stroke: #1d8a55; stroke-width: 2; }
@@ -69,10 +56,9 @@ const MARKS: &str = "\
 /// The whole picture.
 pub fn draw(numbers: &Numbers) -> String {
     let grid = Grid::new(numbers);
-    let mut svg = Svg::default();
+    let title = format!("Cabinet {}", numbers.layout);
     let height = grid.bottom() + PANEL;
-    svg.rect("paper", [0, 0], [WIDTH, height]);
-    draw_title(numbers, &mut svg);
+    let mut svg = frame::begin(height, &title, &words(numbers));
     draw_legend(numbers, &mut svg);
     draw_ways(numbers, &grid, &mut svg);
     for rack in 0..numbers.racks {
@@ -81,8 +67,7 @@ pub fn draw(numbers: &Numbers) -> String {
         });
     }
     draw_traffic(numbers, grid.bottom(), &mut svg);
-    let title = format!("Cabinet {}", numbers.layout);
-    svg.document([WIDTH, height], &title, STYLE, MARKS)
+    frame::end(svg, height, &title, STYLE, MARKS)
 }
 
 /// Where the racks stand.
@@ -156,7 +141,8 @@ fn lost(numbers: &Numbers) -> Tray {
     Tray::new(numbers.layout.size / 2)
 }
 
-fn draw_title(numbers: &Numbers, svg: &mut Svg) {
+/// The words below the title.
+fn words(numbers: &Numbers) -> String {
     let Numbers {
         racks,
         size,
@@ -165,7 +151,6 @@ fn draw_title(numbers: &Numbers, svg: &mut Svg) {
         checks,
         ..
     } = *numbers;
-    svg.text("title", [EDGE, 48], format!("Cabinet {}", numbers.layout));
     let parts = [
         format!("{racks} racks of {}", count(size, "tray")),
         format!("{} a tray", count(layers, "symbol")),
@@ -174,7 +159,7 @@ fn draw_title(numbers: &Numbers, svg: &mut Svg) {
             count(dimension, "tray")
         ),
     ];
-    svg.text("small", [EDGE, 74], parts.join(", "));
+    parts.join(", ")
 }
 
 fn draw_legend(numbers: &Numbers, svg: &mut Svg) {
@@ -184,15 +169,10 @@ fn draw_legend(numbers: &Numbers, svg: &mut Svg) {
         ("lost", "lost tray", 108),
         ("share", "share of a helper rack, in symbols", 270),
     ];
-    let mut x = EDGE;
-    for (class, words, width) in entries {
-        svg.rect(class, [x, 92], [16, 16]);
-        svg.text("small", [x + 23, 105], words);
-        x += width;
-    }
+    let [x, y] = frame::legend(&entries, svg);
     if numbers.helpers + 1 < numbers.racks {
-        svg.group("idle", |svg| svg.rect("rack", [x, 92], [16, 16]));
-        svg.text("small", [x + 23, 105], "rack not asked");
+        svg.group("idle", |svg| svg.rect("rack", [x, y], [16, 16]));
+        svg.text("small", [x + 23, y + 13], "rack not asked");
     }
 }
 

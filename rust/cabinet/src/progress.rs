@@ -1,7 +1,15 @@
-//! Bars, and the lines that work done in pieces prints.
+//! Bars, and the pieces in which work is done, with the line that each prints.
 
 use crate::task::Piece;
 use gesarumbo::ScrubRecord;
+
+/// Work is cut into this many pieces, or fewer.
+const PIECES: u64 = 8;
+
+/// The size of a piece of work of this size.
+pub fn piece_size(whole: u64) -> u64 {
+    whole.div_ceil(PIECES)
+}
 
 /// A bar of some cells, filled in proportion; something is never shown as nothing.
 pub fn bar(part: u64, whole: u64, cells: u64) -> String {
@@ -35,7 +43,7 @@ pub fn piece(piece: &Piece) -> String {
     format!("  {which:<16} {bar} {end:>3} of {groups}: {traffic}")
 }
 
-/// One call of a walk: which layers, how far the whole is, and what has been found bad.
+/// One piece of a walk: which layers, how far the whole is, and what has been found bad.
 pub fn layers(before: &ScrubRecord, after: &ScrubRecord, layers: usize) -> String {
     let [first, end] = [before, after].map(|record| u64::from(record.next.number()));
     let which = run("layer", first, end);

@@ -5,10 +5,8 @@ use crate::fingerprint;
 use crate::folder::Folder;
 use crate::numbers::Numbers;
 use crate::plate::Plate;
+use crate::progress;
 use gesarumbo::{Rack, Tray};
-
-/// A repair is cut into this many pieces, or fewer.
-const PIECES: u64 = 8;
 
 /// What stays fixed over all pieces of a repair.
 pub struct Task {
@@ -86,7 +84,7 @@ impl Task {
 
     /// Groups of one piece.
     pub fn piece_size(&self) -> u64 {
-        self.groups().div_ceil(PIECES)
+        progress::piece_size(self.groups())
     }
 
     /// Does one piece.

@@ -1,17 +1,17 @@
-//! The record of a walk over a cabinet's layers between two calls: a small file that says over
-//! which trays it is.
+//! A walk over a cabinet's layers between two calls: a small file that says over which trays it is
+//! and what has been seen.
 //!
-//! Its first line names cabinet, volume and the trays' contents; its second holds the record. What
-//! the record says holds only as long as no tray is changed.
+//! Its first line names cabinet, volume and the trays' contents, its second holds the record and
+//! its third the bad layers. What they say holds only as long as no tray is changed.
 
 use crate::failure::Failure;
 use crate::files;
 use crate::fingerprint;
 use crate::folder::Folder;
-use gesarumbo::{Layout, ScrubRecord};
+use gesarumbo::{Layer, Layout, ScrubRecord, Scrubbed};
 use std::path::{Path, PathBuf};
 
-/// The record's file in a cabinet's folder.
+/// The walk's file in a cabinet's folder.
 pub const NAME: &str = "scrub.txt";
 
 /// A walk as far as it has come.
@@ -19,7 +19,10 @@ pub struct Walk {
     path: PathBuf,
     /// What it goes over, in a line.
     name: String,
+    layout: Layout,
     pub record: ScrubRecord,
+    /// The bad layers below the next, rising: the record has only their count and the first.
+    pub bad: Vec<Layer>,
 }
 
 impl Walk {
@@ -28,23 +31,67 @@ impl Walk {
         Ok(Walk {
             path,
             name: name(folder, codeword),
+            layout: folder.plate.layout,
             record: fresh(folder.plate.layout)?,
+            bad: Vec::new(),
         })
     }
 
     /// The walk as its file has it; a new one if there is no such file.
     pub fn go_on(path: PathBuf, folder: &Folder, codeword: &[u8]) -> Result<Walk, Failure> {
         let mut walk = Walk::begin(path, folder, codeword)?;
-        if let Some(bytes) = files::read(&walk.path).map_err(Failure::file(&walk.path))? {
-            walk.record = parse(&bytes, &walk.name).ok_or_else(|| foreign(&walk.path))?;
+        let Some(bytes) = files::read(&walk.path).map_err(Failure::file(&walk.path))? else {
+            return Ok(walk);
+        };
+        (walk.record, walk.bad) = parse(&bytes, &walk.name).ok_or_else(|| foreign(&walk.path))?;
+        // The library says whether the record is one that a walk can have.
+        walk.look(codeword, 0)?;
+        match walk.agrees() {
+            true => Ok(walk),
+            false => Err(foreign(&walk.path)),
         }
-        Ok(walk)
+    }
+
+    /// Looks at the next layers, as many as the budget allows and are left, one at a time: a layer
+    /// is bad when the library counts one more.
+    pub fn look(&mut self, codeword: &[u8], budget: u64) -> Result<Scrubbed, Failure> {
+        let mut report = self.step(codeword, 0)?;
+        let mut left = budget;
+        while left > 0 && report == Scrubbed::Unfinished {
+            report = self.step(codeword, 1)?;
+            left -= 1;
+        }
+        Ok(report)
+    }
+
+    fn step(&mut self, codeword: &[u8], budget: u64) -> Result<Scrubbed, Failure> {
+        let before = self.record;
+        let report = gesarumbo::scrub(self.layout, codeword, &mut self.record, budget)
+            .map_err(Failure::refused(self.path.display()))?;
+        if self.record.bad > before.bad {
+            self.bad.push(before.next);
+        }
+        Ok(report)
+    }
+
+    /// Whether the bad layers are as many as the record says, from its first on and rising, and all
+    /// below the next.
+    fn agrees(&self) -> bool {
+        let ScrubRecord { next, bad, first } = self.record;
+        self.bad.len() == bad as usize
+            && self.bad.first().is_none_or(|layer| *layer == first)
+            && self.bad.windows(2).all(|pair| pair[0] < pair[1])
+            && self.bad.last().is_none_or(|layer| *layer < next)
     }
 
     /// Writes the file.
     pub fn save(&self) -> Result<(), Failure> {
         let ScrubRecord { next, bad, first } = self.record;
-        let text = format!("{}\nnext {next} bad {bad} first {first}\n", self.name);
+        let layers: String = self.bad.iter().map(|layer| format!(" {layer}")).collect();
+        let text = format!(
+            "{}\nnext {next} bad {bad} first {first}\nlayers{layers}\n",
+            self.name
+        );
         files::write_one(&self.path, text.into_bytes())
     }
 
@@ -71,14 +118,21 @@ fn name(folder: &Folder, codeword: &[u8]) -> String {
     format!("scrub of {layout} volume {volume} over {trays:016x}")
 }
 
-/// The record, if the file is of this very walk. Whether its numbers are those of a record that a
-/// walk can have, the library says.
-fn parse(bytes: &[u8], name: &str) -> Option<ScrubRecord> {
-    let mut lines = str::from_utf8(bytes).ok()?.lines();
-    let named = lines.next()? == name;
-    let words: Vec<&str> = lines.next()?.split(' ').collect();
-    match (named, &words[..], lines.next()) {
-        (true, ["next", next, "bad", bad, "first", first], None) => Some(ScrubRecord::new(
+/// The record and the bad layers, if the file is of this very walk.
+fn parse(bytes: &[u8], name: &str) -> Option<(ScrubRecord, Vec<Layer>)> {
+    let lines: Vec<&str> = str::from_utf8(bytes).ok()?.lines().collect();
+    match lines[..] {
+        [first, record, layers] if first == name => {
+            Some((parse_record(record)?, parse_layers(layers)?))
+        }
+        _ => None,
+    }
+}
+
+fn parse_record(line: &str) -> Option<ScrubRecord> {
+    let words: Vec<&str> = line.split(' ').collect();
+    match words[..] {
+        ["next", next, "bad", bad, "first", first] => Some(ScrubRecord::new(
             next.parse().ok()?,
             bad.parse().ok()?,
             first.parse().ok()?,
@@ -87,10 +141,19 @@ fn parse(bytes: &[u8], name: &str) -> Option<ScrubRecord> {
     }
 }
 
+fn parse_layers(line: &str) -> Option<Vec<Layer>> {
+    let mut words = line.split(' ');
+    let named = words.next() == Some("layers");
+    let layers: Option<Vec<Layer>> = words
+        .map(|word| word.parse().ok().map(Layer::new))
+        .collect();
+    layers.filter(|_| named)
+}
+
 fn foreign(path: &Path) -> Failure {
     Failure::Contents(format!(
-        "{}: the record of another walk, or a tray has been changed since it began; \
-         --reset starts a new one",
+        "{}: the record of another walk, or a damaged one, or a tray has been changed since it \
+         began; --reset starts a new one",
         path.display()
     ))
 }

@@ -50,10 +50,7 @@ fn say(margin: i64, screen: &mut Screen) {
         ..=-1 => screen.paint(Paint::Bad, &format!("too few live trays by {}", -margin)),
         0 => screen.paint(Paint::Warning, "no tray more may be lost"),
         1 => screen.paint(Paint::Good, "one tray more may be lost"),
-        _ => screen.paint(
-            Paint::Good,
-            &format!("any {margin} trays more may be lost"),
-        ),
+        _ => screen.paint(Paint::Good, &format!("any {margin} trays more may be lost")),
     };
     screen.line(format!("  margin {margin}: {meaning}"));
 }

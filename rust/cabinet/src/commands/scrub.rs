@@ -3,11 +3,15 @@
 use super::Command;
 use crate::arguments::{Arguments, Setting};
 use crate::failure::Failure;
+use crate::files;
 use crate::folder::Folder;
+use crate::layer_map;
+use crate::layer_picture;
 use crate::numbers::Numbers;
 use crate::plate;
 use crate::progress;
 use crate::screen::{Paint, Screen};
+use crate::seen::Seen;
 use crate::walk::{self, Walk};
 use crate::words::count;
 use gesarumbo::{ScrubRecord, Scrubbed};
@@ -24,24 +28,35 @@ const RECORD: Setting = Setting::with(
     "FILE",
     "where the record is kept, DIR/scrub.txt if not given",
 );
+const MAP: Setting = Setting::plain("--map", "print the map of the layers, bad ones or none");
+const SVG: Setting = Setting::with("--svg", "FILE", "draw the layers, one cell each");
 
 pub const COMMAND: Command = Command {
     name: "scrub",
     summary: "test the trays some layers at a time, as a night check",
     help: HELP,
-    settings: &[BUDGET, RESET, RECORD, plate::LAYOUT, plate::VOLUME],
+    settings: &[
+        BUDGET,
+        RESET,
+        RECORD,
+        MAP,
+        SVG,
+        plate::LAYOUT,
+        plate::VOLUME,
+    ],
     run,
 };
 
 const HELP: &str = "\
-cabinet scrub DIR [--budget N] [--reset] [--record FILE]
+cabinet scrub DIR [--budget N] [--reset] [--record FILE] [--map] [--svg FILE]
 
 Tests whether the trays of DIR meet every parity check, some layers at a time.
 Between two calls a small file keeps the next layer, how many layers before it
-are bad, and the first bad one. It also knows the trays by their contents: if
-one is changed, what was seen no longer holds, and the walk must be begun anew
-(65). At the end the file is removed. Bad layers are an answer, with exit status
-65 when all layers have been seen.
+are bad, and which. It also knows the trays by their contents: if one is
+changed, what was seen no longer holds, and the walk must be begun anew (65).
+At the end the file is removed. Bad layers are an answer, with exit status 65
+when all layers have been seen. As soon as one has been seen, a map shows where
+they lie.
 ";
 
 fn run(arguments: &Arguments, screen: &mut Screen) -> Result<(), Failure> {
@@ -59,14 +74,9 @@ fn run(arguments: &Arguments, screen: &mut Screen) -> Result<(), Failure> {
         false => Walk::go_on,
     };
     let mut walk = start(path, &folder, &codeword)?;
-    let before = walk.record;
-    let scrubbed = gesarumbo::scrub(folder.plate.layout, &codeword, &mut walk.record, budget)
-        .map_err(Failure::refused(walk.path().display()))?;
-    screen.line(progress::layers(
-        &before,
-        &walk.record,
-        folder.numbers.layers,
-    ));
+    let layers = folder.numbers.layers;
+    let scrubbed = look(&mut walk, &codeword, budget, layers, screen)?;
+    show(arguments, &folder, &Seen::of(&walk, layers), screen)?;
     match scrubbed {
         Scrubbed::Unfinished => {
             walk.save()?;
@@ -82,6 +92,45 @@ fn run(arguments: &Arguments, screen: &mut Screen) -> Result<(), Failure> {
             conclude(ended, &record, &folder.numbers, screen)
         }
     }
+}
+
+/// Looks at the next layers, piece by piece, as far as the budget goes.
+fn look(
+    walk: &mut Walk,
+    codeword: &[u8],
+    budget: u64,
+    layers: usize,
+    screen: &mut Screen,
+) -> Result<Scrubbed, Failure> {
+    let size = progress::piece_size(layers as u64);
+    let mut left = budget;
+    loop {
+        let before = walk.record;
+        let report = walk.look(codeword, size.min(left))?;
+        left = left.saturating_sub(size);
+        screen.line(progress::layers(&before, &walk.record, layers));
+        if left == 0 || report != Scrubbed::Unfinished {
+            return Ok(report);
+        }
+    }
+}
+
+/// Where the bad layers lie: on the screen if there are any, and as it is asked for.
+fn show(
+    arguments: &Arguments,
+    folder: &Folder,
+    seen: &Seen,
+    screen: &mut Screen,
+) -> Result<(), Failure> {
+    if arguments.has(MAP) || !seen.bad.is_empty() {
+        layer_map::print(seen, screen);
+    }
+    if let Some(path) = arguments.value(SVG).map(Path::new) {
+        let picture = layer_picture::draw(folder.plate, seen);
+        files::write_one(path, picture.into_bytes())?;
+        screen.line(format!("  drawn in {}", path.display()));
+    }
+    Ok(())
 }
 
 /// What a walk over all layers has found.

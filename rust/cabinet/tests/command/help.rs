@@ -74,6 +74,8 @@ fn senseless_lines_are_usage_errors() {
         "scrub",
         "scrub c --budget some",
         "scrub c --reset now",
+        "scrub c --map=all",
+        "scrub c --svg",
         "share c --host 1 out",
         "repair c --lost 4",
         "repair c --lost 4 --helpers 0,two,3",

@@ -1,6 +1,7 @@
-//! Testing some layers at a time: the record between calls, and how a walk ends.
+//! Testing some layers at a time: the record between calls, the layers shown, and how a walk ends.
 
-use crate::bench::{assert_readable, Bench};
+use crate::bench::{assert_readable, data, Bench};
+use crate::xml::assert_well_formed;
 
 /// Changes a symbol of a tray.
 fn damage(bench: &Bench, tray: u32, layer: usize) {
@@ -9,9 +10,37 @@ fn damage(bench: &Bench, tray: u32, layer: usize) {
     bench.poke(&name, 24 + layer, byte ^ 0x40);
 }
 
+fn record_file(bench: &Bench) -> String {
+    String::from_utf8(bench.read("c/scrub.txt")).expect("the record is text")
+}
+
 fn record(bench: &Bench) -> String {
-    let text = String::from_utf8(bench.read("c/scrub.txt")).expect("the record is text");
-    text.lines().nth(1).expect("it has two lines").to_string()
+    let text = record_file(bench);
+    let line = text.lines().nth(1);
+    line.expect("the record is the second line").to_string()
+}
+
+/// The rows of the map of layers: a layer's number, then cells.
+fn rows(out: &str) -> Vec<&str> {
+    let is_row = |line: &&str| {
+        let (number, cells) = line.trim().split_once(' ').unwrap_or_default();
+        number.parse::<u32>().is_ok() && cells.chars().all(|cell| ".#- ".contains(cell))
+    };
+    out.lines().filter(is_row).collect()
+}
+
+fn picture(bench: &Bench) -> String {
+    let picture = String::from_utf8(bench.read("picture.svg")).expect("a picture is text");
+    assert_well_formed(&picture);
+    picture
+}
+
+/// Sound, bad and unseen cells of a picture; each stands in the legend too.
+fn cells(picture: &str) -> [usize; 3] {
+    ["sound", "bad", "unseen"].map(|class| {
+        let drawn = picture.matches(&format!("class=\"{class}\"")).count();
+        drawn - 1
+    })
 }
 
 #[test]
@@ -57,6 +86,139 @@ fn bad_layers_are_counted_and_the_first_is_named() {
 }
 
 #[test]
+fn a_call_is_done_in_pieces() {
+    let bench = Bench::with_cabinet();
+    let lines = |out: &str| out.matches(" of 16: ").count();
+    assert_eq!(lines(&bench.done("scrub c --budget 5")), 3);
+    assert_eq!(lines(&bench.done("scrub c --budget 0")), 1);
+    assert_eq!(lines(&bench.done("scrub c")), 6);
+    assert_eq!(lines(&bench.done("scrub c")), 8);
+}
+
+#[test]
+fn a_map_shows_the_bad_layers() {
+    let bench = Bench::with_cabinet();
+    damage(&bench, 6, 11);
+    damage(&bench, 2, 3);
+    let nothing_bad = bench.done("scrub c --budget 3");
+    assert_eq!(rows(&nothing_bad), [""; 0]);
+    let out = bench.done("scrub c --budget 2");
+    assert_eq!(rows(&out), ["     0 ...#.--- --------"]);
+    assert!(out.contains("# bad"), "{out}");
+    bench.done("scrub c --budget 6");
+    assert!(record_file(&bench).ends_with("\nnext 11 bad 1 first 3\nlayers 3\n"));
+    bench.done("scrub c --budget 1");
+    assert!(record_file(&bench).ends_with("\nnext 12 bad 2 first 3\nlayers 3 11\n"));
+    let ended = bench.run("scrub c");
+    assert_eq!(ended.status, 65);
+    assert_eq!(rows(&ended.out), ["     0 ...#.... ...#...."]);
+    assert!(ended.out.contains("bad layers: 3, 11\n"), "{}", ended.out);
+}
+
+#[test]
+fn a_map_of_sound_layers_is_shown_on_demand() {
+    let bench = Bench::with_cabinet();
+    let out = bench.done("scrub c --budget 9 --map");
+    assert_eq!(rows(&out), ["     0 ........ .-------"]);
+    assert!(rows(&bench.done("scrub c")).is_empty());
+}
+
+#[test]
+fn large_maps_fit_on_a_screen() {
+    // Of the last layers one is bad, and of the second half one is looked at: where a cell is four
+    // layers, that is not yet a cell.
+    for (layout, layers, begun, last) in [
+        ("10 3 24 9", 1024, ".-------", "......#."),
+        ("12 1 10 11", 4096, "--------", ".......#"),
+    ] {
+        let bench = Bench::new();
+        bench.write("data", &data(100));
+        bench.done(&format!("store {layout} --volume 7 data c"));
+        damage(&bench, 1, layers - 2);
+        let out = bench.done(&format!("scrub c --map --budget {}", layers / 2 + 1));
+        assert_readable(&out);
+        let map = rows(&out);
+        assert_eq!(map.len(), 16, "{out}");
+        assert!(map[7].ends_with("........"), "{out}");
+        let row = format!("  {:>4} {begun} ", layers / 2);
+        assert!(map[8].starts_with(&row), "{out}");
+        let ended = bench.run("scrub c");
+        assert_readable(&ended.out);
+        let map = rows(&ended.out);
+        assert_eq!(map.concat().matches('#').count(), 1, "{}", ended.out);
+        assert!(map[15].ends_with(last), "{}", ended.out);
+    }
+}
+
+#[test]
+fn pictures_of_layers_are_well_formed() {
+    let bench = Bench::with_cabinet();
+    damage(&bench, 6, 11);
+    bench.done("scrub c --budget 10 --svg picture.svg");
+    assert_eq!(cells(&picture(&bench)), [10, 0, 6]);
+    bench.done("scrub c --budget 2 --svg picture.svg");
+    let drawn = picture(&bench);
+    assert_eq!(cells(&drawn), [11, 1, 4]);
+    for words in [
+        "Layers of Cabinet (4, 3, 8, 3), volume 7",
+        "12 of 16 layers looked at: 1 bad, the first is 11",
+        "not looked at yet",
+    ] {
+        assert!(drawn.contains(words), "{words} is missing");
+    }
+    bench.fails(65, "scrub c --svg picture.svg");
+    assert_eq!(cells(&picture(&bench)), [15, 1, 0]);
+    bench.done("store 12 1 10 11 --volume 7 data large");
+    bench.done("scrub large --svg picture.svg");
+    assert_eq!(cells(&picture(&bench)), [4096, 0, 0]);
+}
+
+/// The record stays as it was, and the layers are looked at again.
+#[test]
+fn a_picture_that_cannot_be_written_ends_the_call() {
+    let bench = Bench::with_cabinet();
+    bench.done("scrub c --budget 5");
+    let before = bench.snapshot(".");
+    bench.fails(74, "scrub c --budget 5 --svg .");
+    bench.fails(74, "scrub c --svg none/picture.svg");
+    assert!(before == bench.snapshot("."));
+}
+
+#[test]
+fn a_list_of_layers_that_disagrees_is_no_record() {
+    let bench = Bench::with_cabinet();
+    damage(&bench, 6, 11);
+    damage(&bench, 2, 3);
+    bench.done("scrub c --budget 13");
+    let text = record_file(&bench);
+    let broken = [
+        "",
+        "layers\n",
+        "layers 3\n",
+        "layers 4 11\n",
+        "layers 3 13\n",
+        "layers 3 3\n",
+        "layers 3 2\n",
+        "layers 3 11 12\n",
+        "layers 3 11 \n",
+        "layers 3 many\n",
+        "bad 3 11\n",
+        "layers 3 11\nmore\n",
+    ];
+    for line in broken {
+        bench.write(
+            "c/scrub.txt",
+            text.replace("layers 3 11\n", line).as_bytes(),
+        );
+        let before = bench.snapshot(".");
+        assert!(bench.fails(65, "scrub c").contains("--reset"), "{line}");
+        assert!(before == bench.snapshot("."), "{line}: nothing is changed");
+    }
+    bench.write("c/scrub.txt", text.as_bytes());
+    assert!(bench.fails(65, "scrub c").contains("bad: 2 layers"));
+}
+
+#[test]
 fn a_changed_tray_ends_the_walk() {
     let bench = Bench::with_cabinet();
     bench.done("scrub c --budget 5 --record kept");
@@ -77,7 +239,7 @@ fn a_record_that_no_walk_can_have_is_refused() {
     let bench = Bench::with_cabinet();
     bench.done("scrub c --budget 5");
     let good = record(&bench);
-    let text = String::from_utf8(bench.read("c/scrub.txt")).expect("the record is text");
+    let text = record_file(&bench);
     for numbers in [
         "next 17 bad 0 first 16",
         "next 5 bad 6 first 0",
