@@ -1,6 +1,7 @@
 /*
  * A cabinet's life in one program: data are stored, a reset tray is refused, a lost tray is
- * repaired in pieces, the codeword is tested some layers at a time, two erased trays are recovered.
+ * repaired in pieces and read meanwhile, the codeword is tested some layers at a time, two erased
+ * trays are recovered.
  *
  * Every buffer is lent from one pool with guard bytes between, which must be untouched at the end.
  */
@@ -180,6 +181,19 @@ static gesarumbo_repaired repair_piece(size_t helpers_count, uint64_t first, uin
                             first, budget);
 }
 
+/* Reads layers of tray 5 from its spare while it is being repaired. */
+static void read_layers(uint64_t groups, uint32_t first, uint32_t end)
+{
+    gesarumbo_part part = gesarumbo_read_part(layout, codeword, CODEWORD_LENGTH, spare, LAYERS, 5,
+                                              groups, 5, first, end);
+    if (part.refusal != 0) {
+        printf("layers %u to %u: refused %u\n", first, end - 1, part.refusal);
+        return;
+    }
+    must(part.source == 2 && part.length == end - first, "the lost tray is read from the spare");
+    print_bytes("read:", spare + part.offset, part.length);
+}
+
 static void repair_in_pieces(void)
 {
     uint8_t kept[LAYERS];
@@ -195,6 +209,8 @@ static void repair_in_pieces(void)
         printf("groups %u of %u, crossed %u, still to come %u\n", (unsigned)done, GROUPS,
                (unsigned)crossed, (unsigned)piece.remaining);
         print_bytes("spare:", spare, LAYERS);
+        read_layers(done, 1, 4);
+        read_layers(done, 4, 6);
     }
     printf("from group %u: refused %u\n", GROUPS + 1, repair_piece(HELPERS, GROUPS + 1, 0).refusal);
     printf("tray 5 is %s\n", memcmp(spare, kept, LAYERS) == 0 ? "as it was" : "wrong");
@@ -284,6 +300,8 @@ static void lend_nothing(void)
     printf(", share %u", gesarumbo_share(layout, 1, 0, NULL, 0, NULL, 0));
     printf(", repair %u",
            gesarumbo_repair(layout, 5, NULL, 0, NULL, 0, NULL, 0, NULL, 0, 0, 1).refusal);
+    printf(", part %u",
+           gesarumbo_read_part(layout, NULL, 0, NULL, 0, 5, 0, 5, 0, 0).refusal);
     printf(", write %u", gesarumbo_write_image(layout, 5, LIVE, VOLUME, NULL, 0, NULL, 0));
     printf(", read %u", gesarumbo_read_image(layout, VOLUME, NULL, 0).refusal);
     printf(", margin %u", gesarumbo_margin(layout, NULL, 0).refusal);

@@ -25,7 +25,8 @@
  *    2   a lent buffer is not exactly the length its rule gives (symbols, shares, spare, states, an
  *        image being written; not lists, not an image being read)
  *    3   a tray or rack number outside the layout, a state outside its values, an image to be
- *        written with volume number 0, or a scrub record that no walk can have
+ *        written with volume number 0, a scrub record that no walk can have, a run of layers
+ *        outside 0 .. L or one that ends before it begins, or more groups done than there are
  *    4   a list is not strictly rising
  *    5   more than r trays erased, or not exactly d helpers
  *    6   the host rack is a helper
@@ -35,6 +36,7 @@
  *        tray not below n, or its length not 24 + L
  *   10   image marked demonstration
  *   11   image of another layout or volume
+ *   13   a layer asked for of the lost tray is not in a group that is done
  *
  * A refused call has changed no byte of any buffer, and every other number it answers is 0; a scrub
  * record is handed back as it came.
@@ -78,6 +80,12 @@ typedef struct {
     uint64_t crossed;   /* symbols crossed: d for each group done */
     uint64_t remaining; /* symbols still to come: d for each group after the last one done */
 } gesarumbo_repaired;
+
+typedef struct {
+    uint32_t refusal;
+    uint32_t source;       /* 1 the store, 2 the spare */
+    size_t offset, length; /* where the part lies in it */
+} gesarumbo_part;
 
 typedef struct {
     uint32_t refusal;
@@ -179,6 +187,24 @@ gesarumbo_repaired gesarumbo_repair(gesarumbo_layout layout, uint32_t lost,
                                     const uint8_t *host, size_t host_length,
                                     uint8_t *spare, size_t spare_length,
                                     uint64_t first, uint64_t budget);
+
+/*
+ * Reads layers first to end - 1 of a tray while the tray lost is being repaired in spare, where so
+ * many groups are done from group 0. codeword, the store, has n*L bytes and spare has L.
+ * Grounds: 1; 2, codeword or spare; 3, either tray, groups above L/s, end above L, or end below
+ * first; 13.
+ * Done: where the part lies: in the store for a tray that is not lost, in the spare for the lost
+ * one, every layer asked for being in a group done. With first = end it is empty. Nothing is
+ * written.
+ * If spare was written by pieces of a repair of this tray, the first from group 0 and each from
+ * where the last done one ended, and at least as far as groups says, out of shares and sound trays
+ * of a codeword that the store's other trays belong to, then the part is that codeword's.
+ */
+gesarumbo_part gesarumbo_read_part(gesarumbo_layout layout,
+                                   const uint8_t *codeword, size_t codeword_length,
+                                   const uint8_t *spare, size_t spare_length,
+                                   uint32_t lost, uint64_t groups,
+                                   uint32_t tray, uint32_t first, uint32_t end);
 
 /*
  * Writes the image of a tray, with state 1 live or 2 demonstration: the header, then L symbols.

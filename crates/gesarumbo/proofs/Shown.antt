@@ -1,22 +1,25 @@
 -- What the boundary shows of a call is the call's contract.
 -- Assumes nothing.
-use mathlib.Core.Path.{_≡_, sym, ap, _∙_, subst}
+use mathlib.Core.Path.{_≡_, sym, ap, ap₂, _∙_, subst}
 use mathlib.Core.Bool.{cond}
 use mathlib.Core.List.{List, []}
-use Prim.Native.Nat.{ℕ}
+use Prim.Native.Nat.{ℕ, _+_, _-_, _*_}
 use native.Mathlib.Nat.{le-refl}
 use borrow.Author.Tests.{eq-eqb, ne-eqb}
 use lib.Dec.{eqb}
-use lib.ListN.{length, take, drop}
-use lib.Seq.{take-all}
+use lib.ListN.{length, take, drop, take-append-drop}
+use lib.Seq.{take-all, take-append-seam}
 use Rattle.layout.specs.declared.Layout.{Layout}
+use Rattle.layout.specs.Layout.{layers}
+use Rattle.reading.specs.Reading.{partRefusal, run, partGiven}
+use Rattle.reading.proofs.Grounds.{Accepted, accepted}
 use Rattle.image.specs.Image.{headerLength, readRefusal, readTray, readPart}
 use Rattle.layout.specs.declared.Tray.{Tray}
 use Rattle.repair.specs.declared.Repaired.{Repaired}
 use Rattle.repair.specs.Repair.{RepairAnswer}
 use Rattle.symbol.specs.Elem.{gf256}
 use Rattle.gesarumbo.specs.declared.RepairNumbers.{RepairNumbers}
-use Rattle.gesarumbo.specs.Boundary.{repairNumbers, ReadShown, RepairShown}
+use Rattle.gesarumbo.specs.Boundary.{repairNumbers, ReadShown, RepairShown, PartShown}
 
 module _ (l : Layout) (volume : ℕ) (image : List ℕ) where
   pub read-refused : (n : ℕ) → n ≡ readRefusal l volume image → (n ≡ 0 → ⊥) →
@@ -51,3 +54,57 @@ repair-shown l lost helpers shares host first budget old new t a r e right shown
   right = subst (λ t. RepairAnswer gf256 l t helpers shares host first budget old new a) (tray-is t lost e) right;
   shown = shown;
 }
+
+-- a part is as long as it says
+own-length : (n : ℕ) (s part : List ℕ) → part ≡ take n s → take (length part) s ≡ part
+own-length n s part e =
+    ap (λ p. take (length p) s) e
+    ∙ ap (take (length (take n s))) (sym (take-append-drop n s))
+    ∙ take-append-seam (take n s) (drop n s)
+    ∙ sym e
+
+-- reading while repairing; x and y are the kinds' numbers, n the refusal that was written
+module _ (l : Layout) (codeword spare : List ℕ) (lost done tray first end x y n : ℕ) (xs : x ≡ lost) (ys : y ≡ tray)
+    (e : n ≡ partRefusal l (length codeword) (length spare) x done y first end) where
+  refusal-is : n ≡ partRefusal l (length codeword) (length spare) lost done tray first end
+  refusal-is = e ∙ ap₂ (λ a b. partRefusal l (length codeword) (length spare) a done b first end) xs ys
+
+  pub part-refused : (n ≡ 0 → ⊥) → PartShown l codeword spare lost done tray first end (record { refusal = n; source = 0; offset = 0; length = 0 })
+  unfolding partGiven
+  part-refused d =
+      let r = ne-eqb (partRefusal l (length codeword) (length spare) lost done tray first end) 0 (λ z. d (refusal-is ∙ z)) in
+      record { refusal-is = refusal-is; source-is = simp r; offset-is = simp r; length-is = simp r; part-is = simp r }
+
+  module _ (z : n ≡ 0) where
+    none : partRefusal l (length codeword) (length spare) lost done tray first end ≡ 0
+    none = sym refusal-is ∙ z
+
+    pub part-facts : Accepted l (length codeword) (length spare) lost done tray first end
+    part-facts = accepted l (length codeword) (length spare) lost done tray first end none
+
+    module _ (part : List ℕ) (p : part ≡ partGiven l codeword spare x done y first end) where
+      given : part ≡ partGiven l codeword spare lost done tray first end
+      given = p ∙ ap₂ (λ a b. partGiven l codeword spare a done b first end) xs ys
+
+      pub part-in-spare : tray ≡ lost → PartShown l codeword spare lost done tray first end (record { refusal = 0; source = 2; offset = first; length = length part })
+      unfolding partGiven run
+      part-in-spare same =
+          let r = eq-eqb (partRefusal l (length codeword) (length spare) lost done tray first end) 0 none in
+          let t = eq-eqb tray lost same in
+          let q : part ≡ take (end - first) (drop first spare) = given ∙ simp (r, t) in
+          record { refusal-is = sym none; source-is = simp (r, t); offset-is = simp (r, t); length-is = ap length given; part-is = own-length (end - first) (drop first spare) part q ∙ given }
+
+      pub part-in-store : (tray ≡ lost → ⊥) → (m : ℕ) → m ≡ layers l →
+          PartShown l codeword spare lost done tray first end (record { refusal = 0; source = 1; offset = tray * m + first; length = length part })
+      unfolding partGiven run
+      part-in-store other m k =
+          let r = eq-eqb (partRefusal l (length codeword) (length spare) lost done tray first end) 0 none in
+          let t = ne-eqb tray lost other in
+          let q : part ≡ take (end - first) (drop (tray * m + first) codeword) = given ∙ simp (r, t) (ap (λ n. take (end - first) (drop (tray * n + first) codeword)) (sym k)) in
+          record {
+            refusal-is = sym none;
+            source-is = simp (r, t);
+            offset-is = simp (r, t) (ap (λ n. tray * n + first) k);
+            length-is = ap length given;
+            part-is = own-length (end - first) (drop (tray * m + first) codeword) part q ∙ given;
+          }

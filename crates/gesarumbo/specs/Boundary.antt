@@ -2,14 +2,14 @@
 -- Assumes nothing.
 use mathlib.Core.Path.{_≡_}
 use mathlib.Core.List.{List}
-use Prim.Native.Nat.{ℕ}
+use Prim.Native.Nat.{ℕ, _+_, _*_}
 use mathlib.Core.Bool.{cond}
 use lib.Dec.{eqb}
 use lib.ListN.{length, take, drop}
 use Rattle.symbol.specs.Elem.{gf256}
 use Rattle.layout.specs.declared.Layout.{Layout}
 use Rattle.layout.specs.declared.Measured.{Measured}
-use Rattle.layout.specs.Layout.{numbersOf}
+use Rattle.layout.specs.Layout.{numbersOf, layers}
 use Rattle.codeword.specs.declared.Tested.{Tested}
 use Rattle.codeword.specs.Test.{TestAnswer, numbersOf as tested}
 use Rattle.image.specs.Image.{headerLength, readRefusal, readTray, readPart}
@@ -22,6 +22,8 @@ use Rattle.gesarumbo.specs.declared.MarginNumbers.{MarginNumbers}
 use Rattle.gesarumbo.specs.declared.MeasureNumbers.{MeasureNumbers}
 use Rattle.repair.specs.declared.Repaired.{Repaired}
 use Rattle.repair.specs.Repair.{report, RepairAnswer}
+use Rattle.reading.specs.Reading.{partRefusal, partGiven}
+use Rattle.gesarumbo.specs.declared.PartNumbers.{PartNumbers}
 use Rattle.gesarumbo.specs.declared.RepairNumbers.{RepairNumbers}
 use Rattle.gesarumbo.specs.declared.TestNumbers.{TestNumbers}
 use Rattle.gesarumbo.specs.declared.ScrubNumbers.{ScrubNumbers}
@@ -62,3 +64,16 @@ pub record RepairShown (l : Layout) (lost : ℕ) (helpers shares host : List ℕ
   pub answer : Repaired
   pub right : RepairAnswer gf256 l (record { 0 = lost }) helpers shares host first budget old new answer
   pub shown : r ≡ repairNumbers answer
+
+-- the place of the part that a read gives while a tray is being repaired: source is 1 for the codeword and 2 for the spare
+module _ (l : Layout) (codeword spare : List ℕ) (lost done tray first end : ℕ) where
+  -- a number of a call that is done, 0 with a refusal
+  abbrev pub ifRead : ℕ → ℕ
+  ifRead n = cond (eqb (partRefusal l (length codeword) (length spare) lost done tray first end) 0) n 0
+
+  pub record PartShown (r : PartNumbers) : Type 0 where
+    pub refusal-is : r .refusal ≡ partRefusal l (length codeword) (length spare) lost done tray first end
+    pub source-is : r .source ≡ ifRead (cond (eqb tray lost) 2 1)
+    pub offset-is : r .offset ≡ ifRead (cond (eqb tray lost) first (tray * layers l + first))
+    pub length-is : r .length ≡ length (partGiven l codeword spare lost done tray first end)
+    pub part-is : take (r .length) (drop (r .offset) (cond (eqb (r .source) 2) spare codeword)) ≡ partGiven l codeword spare lost done tray first end

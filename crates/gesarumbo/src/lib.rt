@@ -20,7 +20,7 @@ ghost use Rattle.margin.specs.Margin.{marginRefusal, marginValue};
 ghost use Rattle.share.specs.Share.{shareRefusal, shareBuffer, addRefusal, addBuffer};
 ghost use Rattle.image.specs.Image.{writeRefusal, writeBuffer};
 ghost use Rattle.scrub.specs.Scrub.{scrubbed, begun};
-ghost use Rattle.gesarumbo.specs.Boundary.{measureNumbers, testNumbers, marginNumbers, repairNumbers, scrubNumbers, TestShown, ReadShown, RepairShown};
+ghost use Rattle.gesarumbo.specs.Boundary.{measureNumbers, testNumbers, marginNumbers, repairNumbers, scrubNumbers, TestShown, ReadShown, RepairShown, PartShown};
 
 #[repr(C)]
 pub struct MeasureNumbers {
@@ -44,6 +44,14 @@ pub struct RepairNumbers {
     pub groups: u64,
     pub crossed: u64,
     pub remaining: u64,
+}
+
+#[repr(C)]
+pub struct PartNumbers {
+    pub refusal: u32,
+    pub source: u32,
+    pub offset: usize,
+    pub length: usize,
 }
 
 #[repr(C)]
@@ -257,6 +265,56 @@ pub extern "C" fn gesarumbo_repair(
         first,
         budget,
     ))
+}
+
+#[no_mangle]
+pub extern "C" fn gesarumbo_read_part<'a>(
+    l: Layout,
+    codeword: &'a [u8],
+    spare: &'a [u8],
+    lost: u32,
+    done: u64,
+    tray: u32,
+    first: u32,
+    end: u32,
+) -> PartNumbers
+    ensures { λ r. ⌜ PartShown l (now (codeword .entry)) (now (spare .entry)) lost done tray first end r ⌝ }
+{
+    let mut refusal = 0u32;
+    let part = reading::read_part(
+        l,
+        codeword,
+        spare,
+        Tray::of(lost),
+        done,
+        Tray::of(tray),
+        first,
+        end,
+        &mut refusal,
+    );
+    let length = part.len();
+    if refusal != 0 {
+        return PartNumbers {
+            refusal: refusal,
+            source: 0,
+            offset: 0,
+            length: 0,
+        };
+    }
+    if tray == lost {
+        return PartNumbers {
+            refusal: 0,
+            source: 2,
+            offset: first as usize,
+            length: length,
+        };
+    }
+    PartNumbers {
+        refusal: 0,
+        source: 1,
+        offset: tray as usize * layout::layer_count(l) as usize + first as usize,
+        length: length,
+    }
 }
 
 #[no_mangle]

@@ -1,14 +1,15 @@
--- The parts of a layer's number, as `layer_of` works it out, are at most that number.
+-- The parts of a layer's number, as `layer_of` works it out, are at most that number; and those of a group's number, as `group_of` does.
 -- Assumes nothing.
-use Prim.Native.Nat.{ℕ, _+_, _*_, _/_, _%_, _^_, _≤_, _<_}
-use native.Mathlib.Nat.{le-mul-of-pos-right, one-le-pow}
+use mathlib.Core.Path.{_≡_, sym, ap}
+use Prim.Native.Nat.{ℕ, suc, _+_, _*_, _/_, _%_, _^_, _≤_, _<_}
+use native.Mathlib.Nat.{le-mul-of-pos-right, one-le-pow, pow-suc}
 use native.Mathlib.Omega.{arith}
-use Rattle.algebra.specs.Layers.{layerOf}
+use Rattle.algebra.specs.Layers.{groupOf, layerOf}
 use Rattle.layout.specs.declared.Layout.{Layout}
-use Rattle.layout.specs.Layout.{digits, layers, layerLimit}
-use Rattle.layout.specs.Inner.{InGroup}
-use Rattle.layout.proofs.Facts.{bounds}
-use Rattle.layout.proofs.Numbers.{layer-below}
+use Rattle.layout.specs.Layout.{digits, layers, groups, layerLimit}
+use Rattle.layout.specs.Inner.{InGroup, HasLayer}
+use Rattle.layout.proofs.Facts.{bounds, power-in}
+use Rattle.layout.proofs.Numbers.{layer-below, group-below}
 
 pub record Parts (q s p a : ℕ) : Type 0 where
   pub q-low : 0 < q
@@ -36,4 +37,29 @@ module _ (l : Layout) (h p a : ℕ) (g : InGroup l h p a) where
         digit-high = omega (arith, top, m, adm .layers-high);
         times-high = omega (arith, top, adm .layers-high);
         whole-high = omega (arith, top, adm .layers-high);
+      }
+
+pub record GroupParts (q s j : ℕ) : Type 0 where
+  pub q-low : 0 < q
+  pub above-low : 0 < q * s
+  pub above-high : q * s ≤ layerLimit
+  pub times-high : q * (j / (q * s)) < layerLimit
+  pub whole-high : j % q + q * (j / (q * s)) < layerLimit
+
+module _ (l : Layout) (h j : ℕ) (g : HasLayer l h j) where
+  pub group-as : groupOf (digits l) h j ≡ j % digits l ^ h + digits l ^ h * (j / (digits l ^ h * digits l))
+  unfolding groupOf
+  group-as = ap (λ n. j % digits l ^ h + digits l ^ h * (j / n)) (pow-suc (digits l) h)
+
+  pub group-parts : GroupParts (digits l ^ h) (digits l) j
+  group-parts =
+      let b = bounds l (g .adm) in
+      let next : digits l ^ suc h ≡ digits l ^ h * digits l = pow-suc (digits l) h in
+      let top : groupOf (digits l) h j < groups l = group-below l (g .adm) h j (g .host-in) (g .layer-in) in
+      record {
+        q-low = one-le-pow h (digits l) (b .digits-low);
+        above-low = rw (sym next) (one-le-pow (suc h) (digits l) (b .digits-low));
+        above-high = rw (sym next) (power-in l (g .adm) (suc h) (g .host-in));
+        times-high = omega (arith, top, group-as, b .groups-high);
+        whole-high = omega (arith, top, group-as, b .groups-high);
       }

@@ -5,9 +5,9 @@ mod power;
 use power::capped_power;
 ghost use mathlib.Core.Path.{_≡_};
 ghost use Prim.Native.Nat.{_+_, _*_, _/_, _%_, _^_, _<_, _≤_};
-ghost use Rattle.algebra.specs.Layers.{digit, layerOf};
+ghost use Rattle.algebra.specs.Layers.{digit, groupOf, layerOf};
 ghost use Rattle.layout.specs.Layout.{sizeAllowed, admissible, trays, checks, digits, layers, groups, parityRacks, layerLimit, Admissible, measured};
-ghost use Rattle.layout.specs.Inner.{InGroup};
+ghost use Rattle.layout.specs.Inner.{InGroup, HasLayer};
 
 // The limits on the trays of a cabinet and the layers of a tray (document 02, W4).
 pub const TRAYS: u32 = 60;
@@ -193,6 +193,16 @@ pub fn layer_of(l: Layout, h: u32, p: u32, a: u32) -> u32
     let s = digit_count(l);
     let q = capped_power(s, h);
     (p / q * s + a) * q + p % q
+}
+
+// The group of layer j, for the host rack h.
+pub fn group_of(l: Layout, h: u32, j: u32) -> u32
+    requires { ⌜ HasLayer l h j ⌝ }
+    ensures { λ r. ⌜ r ≡ groupOf (digits l) h j ⌝ }
+{
+    let s = digit_count(l);
+    let q = capped_power(s, h);
+    j % q + q * (j / (q * s))
 }
 
 // The layout call: L, r and the traffic of a repair, or 1.

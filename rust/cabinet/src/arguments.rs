@@ -3,6 +3,7 @@
 use crate::failure::Failure;
 use gesarumbo::Layout;
 use std::ffi::{OsStr, OsString};
+use std::ops::Range;
 use std::str::FromStr;
 
 /// A setting that a command knows.
@@ -149,6 +150,12 @@ impl Arguments {
         let value = self.value(setting);
         value.map(|word| list(setting.name, word)).transpose()
     }
+
+    /// The setting's two numbers A..B, if it was given.
+    pub fn range(&self, setting: Setting) -> Result<Option<Range<u32>>, Failure> {
+        let value = self.value(setting);
+        value.map(|word| range(setting.name, word)).transpose()
+    }
 }
 
 /// What was given of a setting that the command cannot do without.
@@ -172,6 +179,15 @@ fn list(name: &str, word: &OsStr) -> Result<Vec<u32>, Failure> {
             .collect(),
         None => Err(not_a_number(name, word)),
     }
+}
+
+/// Two numbers with two dots between.
+fn range(name: &str, word: &OsStr) -> Result<Range<u32>, Failure> {
+    let Some((start, end)) = word.to_str().and_then(|text| text.split_once("..")) else {
+        let found = word.to_string_lossy();
+        return Err(usage(format!("{name}: '{found}' is no run A..B")));
+    };
+    Ok(number(name, OsStr::new(start))?..number(name, OsStr::new(end))?)
 }
 
 /// Document 01's four numbers B, u, k, d.

@@ -38,7 +38,7 @@ const FILE: u8 = 74;
 
 /// Every refusal, in order of their numbers.
 pub fn refusals() -> impl Iterator<Item = Refusal> {
-    (1..u32::from(USAGE)).map_while(Refusal::from_number)
+    (1..u32::from(USAGE)).filter_map(Refusal::from_number)
 }
 
 impl Failure {

@@ -162,16 +162,19 @@ impl Folder {
         codeword
     }
 
-    /// Tests the codeword with these symbols for one tray; nothing if another tray is missing too.
-    pub fn test_with(&self, tray: Tray, symbols: &[u8]) -> Result<Option<Tested>, Failure> {
-        let Ok(mut codeword) = self.joined(self.numbers.all_trays(), Some(tray)) else {
-            return Ok(None);
-        };
+    /// The codeword with these symbols for one tray; nothing if another tray is missing too.
+    pub fn codeword_with(&self, tray: Tray, symbols: &[u8]) -> Option<Vec<u8>> {
+        let mut codeword = self.joined(self.numbers.all_trays(), Some(tray)).ok()?;
         let start = tray.number() as usize * self.numbers.layers;
         drop(codeword.splice(start..start + self.numbers.layers, symbols.iter().copied()));
-        gesarumbo::test(self.plate.layout, &codeword)
-            .map(Some)
-            .map_err(Failure::refused("test"))
+        Some(codeword)
+    }
+
+    /// Tests the codeword with these symbols for one tray; nothing if another tray is missing too.
+    pub fn test_with(&self, tray: Tray, symbols: &[u8]) -> Result<Option<Tested>, Failure> {
+        let test = |codeword: Vec<u8>| gesarumbo::test(self.plate.layout, &codeword);
+        let tested = self.codeword_with(tray, symbols).map(test);
+        tested.transpose().map_err(Failure::refused("test"))
     }
 
     /// The share of a helper rack for a host rack, worked out from the helper's trays.

@@ -1,18 +1,15 @@
 //! A cabinet's layers on the terminal: rows of cells, one layer a cell or several.
 
+use crate::runs;
 use crate::screen::{Paint, Screen};
 use crate::seen::{Seen, Sight};
 use crate::words::{count, hanging};
-use gesarumbo::Layer;
 
 /// Cells of a row, in blocks with a space between.
 const ROW: usize = 64;
 const BLOCK: usize = 8;
 
 const MOST_ROWS: usize = 16;
-
-/// Runs of bad layers that are named.
-const MOST_NAMED: usize = 12;
 
 /// Prints what the cells mean, the rows, and the numbers of the bad layers.
 pub fn print(seen: &Seen, screen: &mut Screen) {
@@ -28,7 +25,7 @@ pub fn print(seen: &Seen, screen: &mut Screen) {
         screen.line(format!("  {first:>4} {cells}"));
     }
     if !seen.bad.is_empty() {
-        screen.line(hanging("  bad layers: ", &named(seen.bad)));
+        screen.line(hanging("  bad layers: ", &runs::named(seen.bad)));
     }
 }
 
@@ -57,42 +54,5 @@ fn mark(sight: Sight) -> &'static str {
         Sight::Sound => ".",
         Sight::Bad => "#",
         Sight::Unseen => "-",
-    }
-}
-
-/// The layers in words, 3-5 for those side by side; not all if there are many.
-fn named(layers: &[Layer]) -> String {
-    let runs = layers.chunk_by(|one, next| one.number() + 1 == next.number());
-    let words: Vec<String> = runs.clone().take(MOST_NAMED).map(run).collect();
-    let left: usize = runs.skip(MOST_NAMED).map(<[Layer]>::len).sum();
-    match left {
-        0 => words.join(", "),
-        _ => format!("{} and {left} more", words.join(", ")),
-    }
-}
-
-fn run(layers: &[Layer]) -> String {
-    match layers {
-        [first, .., last] => format!("{first}-{last}"),
-        _ => layers.iter().map(Layer::to_string).collect(),
-    }
-}
-
-#[cfg(test)]
-mod tests {
-    use super::named;
-    use gesarumbo::Layer;
-
-    fn words(numbers: impl Iterator<Item = u32>) -> String {
-        named(&numbers.map(Layer::new).collect::<Vec<_>>())
-    }
-
-    #[test]
-    fn layers_are_named_by_runs() {
-        assert_eq!(words([7].into_iter()), "7");
-        assert_eq!(words([0, 1, 3, 5, 6, 7].into_iter()), "0-1, 3, 5-7");
-        assert_eq!(words(0..4096), "0-4095");
-        let even = words((0..4096).step_by(2));
-        assert!(even.ends_with("20, 22 and 2036 more"), "{even}");
     }
 }

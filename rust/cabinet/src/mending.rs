@@ -1,5 +1,6 @@
 //! Bringing back a lost tray: shares, pieces over a spare, and the test at the end.
 
+use crate::arguments::{Arguments, Setting};
 use crate::failure::Failure;
 use crate::files;
 use crate::folder::Folder;
@@ -9,6 +10,18 @@ use crate::spare::Spare;
 use crate::task::Task;
 use gesarumbo::{Rack, Tested, Tray};
 use std::path::PathBuf;
+
+pub const SPARE: Setting = Setting::with(
+    "--spare",
+    "FILE",
+    "the work file, DIR/tray-XX.spare if not given",
+);
+
+/// The work file that is named, or the one beside the tray's image.
+pub fn work_file(arguments: &Arguments, folder: &Folder, lost: Tray) -> PathBuf {
+    let named = arguments.value(SPARE).map(PathBuf::from);
+    named.unwrap_or_else(|| spare_path(folder, lost))
+}
 
 /// The work file beside the tray's image.
 pub fn spare_path(folder: &Folder, lost: Tray) -> PathBuf {

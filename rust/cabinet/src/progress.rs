@@ -56,7 +56,7 @@ pub fn layers(before: &ScrubRecord, after: &ScrubRecord, layers: usize) -> Strin
 }
 
 /// The things from the first to the one before the end, in words.
-fn run(thing: &str, first: u64, end: u64) -> String {
+pub fn run(thing: &str, first: u64, end: u64) -> String {
     match end - first {
         0 => format!("no {thing}"),
         1 => format!("{thing} {first}"),

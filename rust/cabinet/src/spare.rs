@@ -1,13 +1,20 @@
 //! The spare between the pieces of a repair: a work file that says whose it is and how far it is.
 //!
-//! Its first line is the repair's name and the groups done from group 0; the spare's symbols
+//! Its first line is the repair's label and the groups done from group 0; the spare's symbols
 //! follow. It is written after each piece, so a repair that is broken off goes on where the last
 //! piece ended.
 
 use crate::failure::Failure;
 use crate::files;
+use crate::label::Label;
+use crate::numbers::Numbers;
+use crate::plate::Plate;
 use crate::task::Task;
+use gesarumbo::Tray;
 use std::path::{Path, PathBuf};
+
+/// What stands between the label and the number of groups done.
+const DONE: &str = ", groups done ";
 
 /// A spare and how far its repair is.
 pub struct Spare {
@@ -18,22 +25,50 @@ pub struct Spare {
 }
 
 impl Spare {
+    /// A spare in which no group is done.
+    pub fn fresh(path: &Path, numbers: &Numbers) -> Spare {
+        Spare {
+            path: path.to_path_buf(),
+            symbols: vec![0; numbers.layers],
+            done: 0,
+        }
+    }
+
     /// The spare of this repair as its work file has it; a fresh one if there is no such file.
     pub fn open(path: &Path, task: &Task) -> Result<Spare, Failure> {
-        let (symbols, done) = match files::read(path).map_err(Failure::file(path))? {
-            None => (vec![0; task.layers()], 0),
-            Some(bytes) => parse(&bytes, task).ok_or_else(|| foreign(path))?,
+        let label = task.label();
+        match Spare::find(path, task.numbers(), label.plate, label.lost)? {
+            None => Ok(Spare::fresh(path, task.numbers())),
+            Some((found, spare)) if found == *label => Ok(spare),
+            Some(_) => Err(foreign(path)),
+        }
+    }
+
+    /// The spare that the work file holds, with its label, which must be of this tray and cabinet;
+    /// nothing if there is no such file.
+    pub fn find(
+        path: &Path,
+        numbers: &Numbers,
+        plate: Plate,
+        lost: Tray,
+    ) -> Result<Option<(Label, Spare)>, Failure> {
+        let Some(bytes) = files::read(path).map_err(Failure::file(path))? else {
+            return Ok(None);
         };
-        Ok(Spare {
+        let (label, done, symbols) = parse(&bytes, plate, lost)
+            .filter(|(_, done, _)| *done <= numbers.groups() as u64)
+            .ok_or_else(|| foreign(path))?;
+        let spare = Spare {
             path: path.to_path_buf(),
-            symbols,
+            symbols: symbols.to_vec(),
             done,
-        })
+        };
+        Ok(Some((label, spare)))
     }
 
     /// Writes the work file.
     pub fn save(&self, task: &Task) -> Result<(), Failure> {
-        let mut bytes = format!("{}{}\n", opening(task), self.done).into_bytes();
+        let mut bytes = format!("{}{DONE}{}\n", task.label().line(), self.done).into_bytes();
         bytes.extend_from_slice(&self.symbols);
         files::write_one(&self.path, bytes)
     }
@@ -48,23 +83,19 @@ impl Spare {
     }
 }
 
-/// The first line up to the number of groups done.
-fn opening(task: &Task) -> String {
-    format!("{}, groups done ", task.name())
+/// The label, the groups done and the symbols of a work file of this tray and cabinet.
+fn parse(bytes: &[u8], plate: Plate, lost: Tray) -> Option<(Label, u64, &[u8])> {
+    let end = bytes.iter().position(|byte| *byte == b'\n')?;
+    let (label, done) = str::from_utf8(&bytes[..end]).ok()?.split_once(DONE)?;
+    let label = Label::parse(label, plate, lost)?;
+    Some((label, done.parse().ok()?, &bytes[end + 1..]))
 }
 
-/// The symbols and groups done, if the file is of this very repair.
-fn parse(bytes: &[u8], task: &Task) -> Option<(Vec<u8>, u64)> {
-    let rest = bytes.strip_prefix(opening(task).as_bytes())?;
-    let end = rest.iter().position(|byte| *byte == b'\n')?;
-    let done = str::from_utf8(&rest[..end]).ok()?.parse().ok()?;
-    (done <= task.groups()).then(|| (rest[end + 1..].to_vec(), done))
-}
-
-fn foreign(path: &Path) -> Failure {
+/// A work file that must not be used here.
+pub fn foreign(path: &Path) -> Failure {
     Failure::Contents(format!(
-        "{}: the spare of another repair (another tray, other helpers, shares or trays); \
-         remove it or name another by --spare",
+        "{}: no work file of this repair; if it is of another repair (another tray or cabinet, \
+         other helpers, shares or trays), name a file for this one by --spare",
         path.display()
     ))
 }

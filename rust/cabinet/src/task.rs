@@ -3,17 +3,15 @@
 use crate::failure::Failure;
 use crate::fingerprint;
 use crate::folder::Folder;
+use crate::label::Label;
 use crate::numbers::Numbers;
-use crate::plate::Plate;
 use crate::progress;
 use gesarumbo::{Rack, Tray};
 
 /// What stays fixed over all pieces of a repair.
 pub struct Task {
-    plate: Plate,
     numbers: Numbers,
-    lost: Tray,
-    helpers: Vec<Rack>,
+    label: Label,
     shares: Vec<u8>,
     /// The host rack's trays, with zeros for the lost one.
     host: Vec<u8>,
@@ -62,24 +60,33 @@ impl Task {
     ) -> Result<Task, Failure> {
         let numbers = folder.numbers;
         let rack = numbers.trays_of(numbers.rack_of(lost));
-        Ok(Task {
+        let host = folder.joined(rack, Some(lost))?;
+        let label = Label {
             plate: folder.plate,
-            numbers,
             lost,
             helpers,
+            fingerprint: fingerprint::of(shares.iter().chain(&host)),
+        };
+        Ok(Task {
+            numbers,
+            label,
             shares,
-            host: folder.joined(rack, Some(lost))?,
+            host,
         })
+    }
+
+    /// What makes this repair this one.
+    pub fn label(&self) -> &Label {
+        &self.label
+    }
+
+    pub fn numbers(&self) -> &Numbers {
+        &self.numbers
     }
 
     /// Groups of the whole repair.
     pub fn groups(&self) -> u64 {
         self.numbers.groups() as u64
-    }
-
-    /// Symbols in the spare.
-    pub fn layers(&self) -> usize {
-        self.numbers.layers
     }
 
     /// Groups of one piece.
@@ -89,14 +96,13 @@ impl Task {
 
     /// Does one piece.
     pub fn piece(&self, spare: &mut [u8], first: u64, budget: u64) -> Result<Piece, Failure> {
-        let Task {
+        let Label {
+            plate,
             lost,
             helpers,
-            shares,
-            host,
             ..
-        } = self;
-        let layout = self.plate.layout;
+        } = &self.label;
+        let (layout, shares, host) = (plate.layout, &self.shares, &self.host);
         let done = gesarumbo::repair(layout, *lost, helpers, shares, host, spare, first, budget)
             .map_err(Failure::refused(format!("repair of tray {lost}")))?;
         Ok(Piece {
@@ -106,23 +112,5 @@ impl Task {
             crossed: first * self.numbers.helpers as u64 + done.crossed,
             remaining: done.remaining,
         })
-    }
-
-    /// What makes this repair this one: everything that its pieces must have in common, in a line.
-    pub fn name(&self) -> String {
-        let helpers: Vec<String> = self.helpers.iter().map(Rack::to_string).collect();
-        format!(
-            "repair of tray {} of {} volume {} by racks {} over {:016x}",
-            self.lost,
-            self.plate.layout,
-            self.plate.volume,
-            helpers.join(" "),
-            self.fingerprint()
-        )
-    }
-
-    /// A number that changes when shares or sound trays do.
-    fn fingerprint(&self) -> u64 {
-        fingerprint::of(self.shares.iter().chain(&self.host))
     }
 }

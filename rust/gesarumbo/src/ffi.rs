@@ -5,7 +5,7 @@
 //! keeps no pointer. What it writes is lent `&mut`, so no two buffers of a call overlap. Structs
 //! and kinds have the layout of the header `c/gesarumbo.h`.
 
-use crate::{Layout, Rack, ScrubRecord, Tray};
+use crate::{Layer, Layout, Rack, ScrubRecord, Tray};
 
 /// The answer to a measuring; `refusal` is 0 where the call was done, here and below.
 #[repr(C)]
@@ -32,6 +32,16 @@ pub struct Repaired {
     pub groups: u64,
     pub crossed: u64,
     pub remaining: u64,
+}
+
+/// The answer to a read while repairing: where the part lies, `source` being 1 for the codeword and
+/// 2 for the spare.
+#[repr(C)]
+pub struct Part {
+    pub refusal: u32,
+    pub source: u32,
+    pub offset: usize,
+    pub length: usize,
 }
 
 /// The answer to the reading of an image: where its symbols lie in it.
@@ -107,6 +117,18 @@ extern "C" {
         first: u64,
         budget: u64,
     ) -> Repaired;
+    fn gesarumbo_read_part(
+        layout: Layout,
+        codeword: *const u8,
+        length: usize,
+        spare: *const u8,
+        spare_length: usize,
+        lost: Tray,
+        groups: u64,
+        tray: Tray,
+        first: Layer,
+        end: Layer,
+    ) -> Part;
     fn gesarumbo_write_image(
         layout: Layout,
         tray: Tray,
@@ -221,6 +243,34 @@ pub fn repair(
             spare.len(),
             first,
             budget,
+        )
+    }
+}
+
+#[allow(clippy::too_many_arguments)] // a read while repairing has as many
+pub fn read_part(
+    layout: Layout,
+    codeword: &[u8],
+    spare: &[u8],
+    lost: Tray,
+    groups: u64,
+    tray: Tray,
+    first: Layer,
+    end: Layer,
+) -> Part {
+    // SAFETY: both slices are lent for the call.
+    unsafe {
+        gesarumbo_read_part(
+            layout,
+            codeword.as_ptr(),
+            codeword.len(),
+            spare.as_ptr(),
+            spare.len(),
+            lost,
+            groups,
+            tray,
+            first,
+            end,
         )
     }
 }

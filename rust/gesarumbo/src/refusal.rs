@@ -2,7 +2,7 @@
 
 use std::{error, fmt};
 
-/// Why a call was refused: the first ground that applies to it, in the order 1 to 11.
+/// Why a call was refused: the first ground that applies to it, in the order of their numbers.
 ///
 /// A refused call has changed no byte of any buffer it was lent.
 ///
@@ -23,8 +23,8 @@ pub enum Refusal {
     /// A lent buffer is not exactly the length its rule gives: symbols, shares, spare, states or an
     /// image being written.
     Length = 2,
-    /// A tray, rack, state or volume number is outside its values, or a scrub record is none that a
-    /// walk can have.
+    /// A tray, rack, state or volume number is outside its values, a run of layers or a number of
+    /// groups done is, or a scrub record is none that a walk can have.
     Number = 3,
     /// A list is not strictly rising.
     Order = 4,
@@ -43,10 +43,12 @@ pub enum Refusal {
     Demonstration = 10,
     /// The image is of another layout or volume.
     Other = 11,
+    /// A layer asked for of the lost tray is not in a group that is done.
+    NotRepaired = 13,
 }
 
-/// Every ground with its words, in the order of their numbers, from 1.
-const GROUNDS: [(Refusal, &str); 11] = [
+/// Every ground with its words, in the order of their numbers.
+const GROUNDS: [(Refusal, &str); 12] = [
     (Refusal::Layout, "the layout is not admissible"),
     (
         Refusal::Length,
@@ -54,8 +56,8 @@ const GROUNDS: [(Refusal, &str); 11] = [
     ),
     (
         Refusal::Number,
-        "a tray, rack, state or volume number is outside its values, or a scrub record none that a \
-         walk can have",
+        "a tray, rack, state, volume, layer or group number is outside its values, or a scrub \
+         record none that a walk can have",
     ),
     (Refusal::Order, "a list is not strictly rising"),
     (
@@ -71,18 +73,29 @@ const GROUNDS: [(Refusal, &str); 11] = [
     (Refusal::Malformed, "the image is malformed"),
     (Refusal::Demonstration, "the image is marked demonstration"),
     (Refusal::Other, "the image is of another layout or volume"),
+    (
+        Refusal::NotRepaired,
+        "a layer asked for is not yet repaired in the spare",
+    ),
 ];
 
 impl Refusal {
-    /// The number of this ground, 1 to 11.
+    /// The number of this ground.
     pub const fn number(self) -> u32 {
         self as u32
     }
 
     /// The ground of this number, if there is one.
     pub fn from_number(number: u32) -> Option<Refusal> {
-        let place = usize::try_from(number).ok()?.checked_sub(1)?;
-        GROUNDS.get(place).map(|&(ground, _)| ground)
+        let mut grounds = GROUNDS.iter().map(|&(ground, _)| ground);
+        grounds.find(|ground| ground.number() == number)
+    }
+
+    /// The words of this ground.
+    fn words(self) -> &'static str {
+        let mut grounds = GROUNDS.iter();
+        let found = grounds.find(|&&(ground, _)| ground == self);
+        found.expect("every ground has its words").1
     }
 
     /// What the library's number means: `done` for 0, else the refusal.
@@ -100,7 +113,7 @@ impl Refusal {
 
 impl fmt::Display for Refusal {
     fn fmt(&self, f: &mut fmt::Formatter<'_>) -> fmt::Result {
-        f.write_str(GROUNDS[*self as usize - 1].1)
+        f.write_str(self.words())
     }
 }
 
@@ -111,16 +124,17 @@ mod tests {
     use super::*;
 
     #[test]
-    fn every_ground_stands_at_its_number() {
-        for (number, (ground, _)) in (1..).zip(GROUNDS) {
-            assert_eq!(ground.number(), number);
-            assert_eq!(Refusal::from_number(number), Some(ground));
+    fn every_ground_is_found_by_its_number() {
+        for (ground, words) in GROUNDS {
+            assert_eq!(Refusal::from_number(ground.number()), Some(ground));
+            assert_eq!(ground.to_string(), words);
         }
+        assert!(GROUNDS.windows(2).all(|pair| pair[0].0 < pair[1].0));
     }
 
     #[test]
     fn no_other_number_is_a_ground() {
-        for number in [0, 12, 255, 256 + 1, u32::MAX] {
+        for number in [0, 12, 14, 255, 256 + 1, u32::MAX] {
             assert_eq!(Refusal::from_number(number), None);
         }
     }

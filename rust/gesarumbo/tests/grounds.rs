@@ -118,6 +118,51 @@ fn repairing() {
 }
 
 #[test]
+fn reading_while_repairing() {
+    let (codeword, spare): (Vec<u8>, Vec<u8>) = ((0..192).collect(), (0..16).rev().collect());
+    // Tray 5 stands in rack 1: layers 0, 1, 2, 3 and 4 are in groups 0, 1, 0, 1 and 2.
+    for (answer, layout, length, lost, groups, tray, layers) in [
+        (Err(Refusal::Layout), BAD, 191, 12, 9, 12, (5, 4)),
+        (Err(Refusal::Length), GOOD, 191, 12, 9, 12, (5, 4)),
+        (Err(Refusal::Number), GOOD, 192, 12, 1, 5, (0, 16)),
+        (Err(Refusal::Number), GOOD, 192, 5, 1, 12, (0, 16)),
+        (Err(Refusal::Number), GOOD, 192, 5, 9, 5, (0, 16)),
+        (Err(Refusal::Number), GOOD, 192, 5, 1, 5, (0, 17)),
+        (Err(Refusal::Number), GOOD, 192, 5, 1, 5, (1, 0)),
+        (
+            Err(Refusal::Number),
+            GOOD,
+            192,
+            5,
+            1,
+            5,
+            (u32::MAX, u32::MAX),
+        ),
+        (Err(Refusal::Number), GOOD, 192, 5, 1 << 32, 4, (0, 1)),
+        (Err(Refusal::NotRepaired), GOOD, 192, 5, 1, 5, (0, 2)),
+        (Err(Refusal::NotRepaired), GOOD, 192, 5, 2, 5, (0, 5)),
+        (Ok(&spare[..4]), GOOD, 192, 5, 2, 5, (0, 4)),
+        (Ok(&spare[2..3]), GOOD, 192, 5, 1, 5, (2, 3)),
+        (Ok(&spare[..]), GOOD, 192, 5, 8, 5, (0, 16)),
+        (Ok(&[][..]), GOOD, 192, 5, 0, 5, (16, 16)),
+        (Ok(&codeword[66..80]), GOOD, 192, 5, 0, 4, (2, 16)),
+    ] {
+        let (lost, tray) = (Tray::new(lost), Tray::new(tray));
+        let layers = Layer::new(layers.0)..Layer::new(layers.1);
+        let read = read_part(
+            layout,
+            &codeword[..length],
+            &spare,
+            lost,
+            groups,
+            tray,
+            layers,
+        );
+        assert_eq!(read, answer);
+    }
+}
+
+#[test]
 fn writing_an_image() {
     for (ground, layout, tray, state, symbols, length) in [
         (Refusal::Layout, BAD, 12, 3, 15, 39),
@@ -223,6 +268,9 @@ fn nothing_lent_is_a_wrong_length() {
     refused(length, 0, |codeword| recover(GOOD, codeword, &[]));
     refused(length, 0, |out| share(GOOD, rack, rack, &[], out));
     refused(length, 0, |s| repair(GOOD, tray, &[], &[], &[], s, 0, 0));
+    let none = Layer::new(0)..Layer::new(0);
+    let read = read_part(GOOD, &[], &[], tray, 0, tray, none);
+    assert_eq!(read, Err(length));
     refused(length, 0, |i| write_image(GOOD, tray, 1, 7, &[], i));
     assert_eq!(read_image(GOOD, 7, &[]), Err(Refusal::Malformed));
     assert_eq!(margin(GOOD, &[]), Err(length));

@@ -31,10 +31,7 @@ fn layouts() {
         measured([11, 3, 27, 10]).map(|(layers, ..)| layers),
         Ok(2048)
     );
-    assert_eq!(
-        measured([7, 5, 24, 6]).map(|(layers, ..)| layers),
-        Ok(2187)
-    );
+    assert_eq!(measured([7, 5, 24, 6]).map(|(layers, ..)| layers), Ok(2187));
     assert_eq!(measured([13, 3, 33, 12]), Err(1));
 }
 

@@ -10,6 +10,7 @@ mod demo;
 mod inspect;
 mod margin;
 mod plan;
+mod read;
 mod recover;
 mod repair;
 mod scrub;
@@ -38,6 +39,7 @@ pub const COMMANDS: &[Command] = &[
     recover::COMMAND,
     share::COMMAND,
     repair::COMMAND,
+    read::COMMAND,
     margin::COMMAND,
     inspect::COMMAND,
 ];

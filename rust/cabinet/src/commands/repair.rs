@@ -5,7 +5,7 @@ use crate::arguments::{needed, Arguments, Setting};
 use crate::failure::Failure;
 use crate::files;
 use crate::folder::Folder;
-use crate::mending;
+use crate::mending::{self, SPARE};
 use crate::numbers::Numbers;
 use crate::plate;
 use crate::screen::Screen;
@@ -13,7 +13,7 @@ use crate::spare::Spare;
 use crate::task::{judge, Task};
 use gesarumbo::{Rack, Refusal, Tray};
 use std::ffi::OsStr;
-use std::path::{Path, PathBuf};
+use std::path::Path;
 
 const LOST: Setting = Setting::with(
     "--lost",
@@ -34,11 +34,6 @@ const FIRST: Setting = Setting::with(
     "begin with group G, at most the groups done; without it, go on where the work file ends",
 );
 const BUDGET: Setting = Setting::with("--budget", "N", "do at most N groups now");
-const SPARE: Setting = Setting::with(
-    "--spare",
-    "FILE",
-    "the work file, DIR/tray-XX.spare if not given",
-);
 
 pub const COMMAND: Command = Command {
     name: "repair",
@@ -106,8 +101,7 @@ fn run(arguments: &Arguments, screen: &mut Screen) -> Result<(), Failure> {
         false => read_shares(&folder.numbers, &files, asked.helpers.len())?,
     };
     let task = Task::new(&folder, lost, asked.helpers, shares)?;
-    let path = arguments.value(SPARE).map(PathBuf::from);
-    let path = path.unwrap_or_else(|| mending::spare_path(&folder, lost));
+    let path = mending::work_file(arguments, &folder, lost);
     let mut spare = Spare::open(&path, &task)?;
     let first = start(asked.first, &spare)?;
     folder.introduce(screen);

@@ -2,8 +2,9 @@
 
 use crate::bench::{assert_readable, Bench};
 
-const COMMANDS: [&str; 10] = [
-    "demo", "plan", "store", "test", "scrub", "recover", "share", "repair", "margin", "inspect",
+const COMMANDS: [&str; 11] = [
+    "demo", "plan", "store", "test", "scrub", "recover", "share", "repair", "read", "margin",
+    "inspect",
 ];
 
 #[test]
@@ -20,7 +21,7 @@ fn general_help_lists_commands_and_statuses() {
         );
     }
     for status in [
-        "   0  ", "   1  ", "  11  ", "  64  ", "  65  ", "  70  ", "  74  ",
+        "   0  ", "   1  ", "  11  ", "  13  ", "  64  ", "  65  ", "  70  ", "  74  ",
     ] {
         assert!(
             help.contains(&format!("\n{status}")),
@@ -80,6 +81,13 @@ fn senseless_lines_are_usage_errors() {
         "repair c --lost 4",
         "repair c --lost 4 --helpers 0,two,3",
         "repair c --lost 4 --helpers 0,2,3 --share c/tray-00.img",
+        "read c --tray 4",
+        "read c --layers 0..1",
+        "read c --tray 4 --layers 0",
+        "read c --tray 4 --layers 0..",
+        "read c --tray 4 --layers 0...1",
+        "read c --tray 4 --layers -1..1",
+        "read c --tray 4 --layers 0..1 --spare s",
         "recover c --length 5",
         "recover c --data out --length 129",
         "inspect",

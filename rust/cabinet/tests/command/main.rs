@@ -5,6 +5,7 @@ mod demo;
 mod files;
 mod help;
 mod plan;
+mod read;
 mod refusals;
 mod repair;
 mod scrub;

@@ -123,3 +123,13 @@ fn image_of_another_layout_or_volume() {
     bench.refused(11, "inspect c/tray-02.img --layout 4,3,7,3");
     bench.refused(11, "share c --volume 8 --host 1 --helper 0 out");
 }
+
+#[test]
+fn layer_not_yet_repaired() {
+    let bench = Bench::with_cabinet();
+    bench.refused(13, "read c --tray 4 --lost 4 --layers 0..1");
+    bench.done("repair c --lost 4 --helpers 0,2,3 --budget 1");
+    bench.done("read c --tray 4 --lost 4 --layers 0..1");
+    bench.refused(13, "read c --tray 4 --lost 4 --layers 0..2");
+    bench.refused(3, "read c --tray 4 --lost 4 --layers 0..17");
+}

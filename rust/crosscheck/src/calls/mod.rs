@@ -3,6 +3,7 @@
 pub mod margin;
 pub mod measure;
 pub mod read_image;
+pub mod read_part;
 pub mod recover;
 pub mod repair;
 pub mod share;
@@ -34,7 +35,7 @@ pub struct Call {
     pub reference: fn(&Inputs) -> Answer,
 }
 
-pub const CALLS: [&Call; 12] = [
+pub const CALLS: [&Call; 13] = [
     &measure::CALL,
     &test::CALL,
     &store::CALL,
@@ -42,6 +43,7 @@ pub const CALLS: [&Call; 12] = [
     &share::CALL,
     &share_add::CALL,
     &repair::CALL,
+    &read_part::CALL,
     &write_image::CALL,
     &read_image::CALL,
     &margin::CALL,

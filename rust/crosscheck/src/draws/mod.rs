@@ -3,6 +3,7 @@
 mod any_call;
 mod cutting;
 mod feeds;
+mod reading;
 mod same_group;
 mod walks;
 
@@ -17,10 +18,11 @@ pub struct Draw {
     pub case: fn(&mut Crosscheck),
 }
 
-pub const DRAWS: [&Draw; 5] = [
+pub const DRAWS: [&Draw; 6] = [
     &any_call::DRAW,
     &cutting::DRAW,
     &feeds::DRAW,
+    &reading::DRAW,
     &same_group::DRAW,
     &walks::DRAW,
 ];

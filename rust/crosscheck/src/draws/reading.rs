@@ -1,0 +1,40 @@
+//! Reading while repairing: what is handed back is the codeword's.
+
+use super::Draw;
+use crate::calls::{read_part, repair, share};
+use crate::crosscheck::Crosscheck;
+use crate::given::Given;
+
+pub const DRAW: Draw = Draw {
+    name: "reading while repairing",
+    gate: 3_000,
+    short: 60,
+    case,
+};
+
+/// A repair of a codeword's tray up to some group, and reads that are told as
+/// much of it or less.
+fn case(all: &mut Crosscheck) {
+    let cabinet = all.source.cabinet();
+    let random = &mut all.source.random;
+    let codeword = cabinet.codeword(random);
+    let lost = random.below(cabinet.numbers.trays) as u32;
+    let given = Given::of_codeword(random, &cabinet, &codeword, lost, share::CALL.reference);
+    let far = random.below(cabinet.numbers.groups + 1) as u64;
+    let spare = random.bytes(cabinet.numbers.layers);
+    let piece = given.piece(random, &spare, 0, far);
+    let spare = (repair::CALL.library)(&piece).buffer().to_vec();
+    let mut store = codeword.clone();
+    store[cabinet.tray(lost)].copy_from_slice(&random.bytes(cabinet.numbers.layers));
+    for _ in 0..8 {
+        let random = &mut all.source.random;
+        let done = random.below(far as usize + 1) as u64;
+        let inputs = read_part::inputs(random, &cabinet, &store, &spare, lost, done);
+        let answer = all.run.compare(&read_part::CALL, &inputs);
+        let tray = &codeword[cabinet.tray(inputs.small(5))];
+        let run = &tray[inputs.small(6) as usize..inputs.small(7) as usize];
+        let holds = answer.refusal == 13 || answer.refusal == 0 && answer.buffer() == run;
+        all.run
+            .claim(holds, || format!("a read while repairing: {inputs}"));
+    }
+}

@@ -1,0 +1,69 @@
+//! Reading a tray while a repair is under way.
+
+use crate::layout::{Layout, Numbers, Tray};
+use crate::refusal::{refuse, Refusal};
+
+/// The buffer that a part lies in.
+#[derive(Clone, Copy, Debug, PartialEq, Eq)]
+pub enum Source {
+    Store,
+    Spare,
+}
+
+/// What a read gives: the bytes, the buffer they lie in and where they begin
+/// in it.
+#[derive(Clone, Debug, PartialEq, Eq)]
+pub struct Part {
+    pub source: Source,
+    pub offset: usize,
+    pub bytes: Vec<u8>,
+}
+
+/// What a read asks for: layers `first` .. `end` of a tray, `end` not included.
+#[derive(Clone, Copy, Debug, PartialEq, Eq)]
+pub struct Asked {
+    pub tray: Tray,
+    pub first: u32,
+    pub end: u32,
+}
+
+/// The part asked for, while groups 0 .. `groups` of the lost tray's repair
+/// stand in the spare.
+pub fn read_part(
+    layout: Layout,
+    codeword: &[u8],
+    spare: &[u8],
+    lost: Tray,
+    groups: u64,
+    asked: Asked,
+) -> Result<Part, Refusal> {
+    let numbers = layout.numbers()?;
+    let wrong_length =
+        codeword.len() != numbers.trays * numbers.layers || spare.len() != numbers.layers;
+    let outside = !numbers.has_tray(lost)
+        || !numbers.has_tray(asked.tray)
+        || !is_run(&numbers, asked)
+        || groups > numbers.groups as u64;
+    refuse(&[(Refusal::Length, wrong_length), (Refusal::Number, outside)])?;
+    let run = asked.first as usize..asked.end as usize;
+    let (source, buffer, start) = if asked.tray == lost {
+        (Source::Spare, spare, 0)
+    } else {
+        let start = asked.tray.0 as usize * numbers.layers;
+        (Source::Store, codeword, start)
+    };
+    let host = lost.0 as usize / numbers.size;
+    let done = |layer| (numbers.group(host, layer) as u64) < groups;
+    let missing = source == Source::Spare && !run.clone().all(done);
+    refuse(&[(Refusal::NotRepaired, missing)])?;
+    Ok(Part {
+        source,
+        offset: start + run.start,
+        bytes: buffer[start + run.start..start + run.end].to_vec(),
+    })
+}
+
+/// Whether the run lies in 0 .. L and doesn't end before it begins.
+fn is_run(numbers: &Numbers, asked: Asked) -> bool {
+    asked.first <= asked.end && asked.end as usize <= numbers.layers
+}
