@@ -1,7 +1,7 @@
 /*
  * A cabinet's life in one program: data are stored, a reset tray is refused, a lost tray is
  * repaired in pieces and read meanwhile, the codeword is tested some layers at a time, two erased
- * trays are recovered.
+ * trays are recovered. In a cabinet with less data, two lost trays of one rack are repaired.
  *
  * Every buffer is lent from one pool with guard bytes between, which must be untouched at the end.
  */
@@ -19,9 +19,13 @@ enum { LAYERS = 16, GROUPS = 8, IMAGE = 24 + LAYERS };
 enum { DATA_LENGTH = DATA * LAYERS, CODEWORD_LENGTH = TRAYS * LAYERS };
 enum { RACK_LENGTH = SIZE * LAYERS, SHARES_LENGTH = HELPERS * GROUPS };
 
+/* The same cabinet with less data, and so many trays of a rack lost together. */
+enum { LESS_DATA = 6, LOST = 2 };
+
 enum { ABSENT = 0, LIVE = 1, DEMONSTRATION = 2, VOLUME = 7 };
 
 static const gesarumbo_layout layout = { RACKS, SIZE, DATA, HELPERS };
+static const gesarumbo_layout less = { RACKS, SIZE, LESS_DATA, HELPERS };
 
 /* Ends the program if something is not as the library promises. */
 static void must(int holds, const char *what)
@@ -66,8 +70,8 @@ static int guards_untouched(void)
 }
 
 /* What the cabinet works with, all of it lent from the pool. */
-static uint8_t *data, *codeword, *images, *shares, *spare, *states;
-static uint32_t *helpers, *erased;
+static uint8_t *data, *codeword, *images, *shares, *spare, *states, *shares_of_two, *two_spares;
+static uint32_t *helpers, *erased, *lost;
 
 static void lend_all(void)
 {
@@ -80,6 +84,9 @@ static void lend_all(void)
     states = lend(TRAYS);
     helpers = lend(HELPERS * sizeof *helpers);
     erased = lend(2 * sizeof *erased);
+    lost = lend(LOST * sizeof *lost);
+    shares_of_two = lend(LOST * SHARES_LENGTH);
+    two_spares = lend(LOST * LAYERS);
 }
 
 static uint8_t *tray_at(size_t tray)
@@ -300,15 +307,69 @@ static void lend_nothing(void)
     printf(", share %u", gesarumbo_share(layout, 1, 0, NULL, 0, NULL, 0));
     printf(", repair %u",
            gesarumbo_repair(layout, 5, NULL, 0, NULL, 0, NULL, 0, NULL, 0, 0, 1).refusal);
+    printf(", of many %u %u", gesarumbo_share_many(layout, 1, 1, 0, NULL, 0, NULL, 0),
+           gesarumbo_repair_many(layout, NULL, 0, NULL, 0, NULL, 0, NULL, 0, NULL, 0, 0, 1)
+               .refusal);
     printf(", part %u",
            gesarumbo_read_part(layout, NULL, 0, NULL, 0, 5, 0, 5, 0, 0).refusal);
     printf(", write %u", gesarumbo_write_image(layout, 5, LIVE, VOLUME, NULL, 0, NULL, 0));
     printf(", read %u", gesarumbo_read_image(layout, VOLUME, NULL, 0).refusal);
     printf(", margin %u", gesarumbo_margin(layout, NULL, 0).refusal);
     printf(", scrub %u\n", gesarumbo_scrub(layout, NULL, 0, nothing_seen, 1).refusal);
-    printf("no tray erased: %u, no helpers: %u\n",
+    printf("no tray erased: %u, no helpers: %u, no tray lost: %u\n",
            gesarumbo_recover(layout, codeword, CODEWORD_LENGTH, NULL, 0),
-           repair_piece(0, 0, 1).refusal);
+           repair_piece(0, 0, 1).refusal,
+           gesarumbo_repair_many(layout, NULL, 0, helpers, HELPERS, NULL, 0, rack_at(1),
+                                 RACK_LENGTH, NULL, 0, 0, 1).refusal);
+}
+
+/* Racks 0, 2 and 3 each send two shares for rack 1, which has lost trays 3 and 5. */
+static void collect_shares_of_two(void)
+{
+    enum { EACH = LOST * GROUPS };
+    for (size_t i = 0; i < HELPERS; i++)
+        must(gesarumbo_share_many(less, LOST, 1, helpers[i], rack_at(helpers[i]), RACK_LENGTH,
+                                  shares_of_two + i * EACH, EACH) == 0,
+             "a rack's shares are worked out");
+    uint8_t built[EACH] = { 0 };
+    for (uint32_t x = 3; x-- > 0;)
+        must(gesarumbo_share_add_many(less, LOST, 1, x, tray_at(x), LAYERS, built, EACH) == 0,
+             "a tray's part is added");
+    must(memcmp(built, shares_of_two, EACH) == 0, "shares built up tray by tray are the rack's");
+    print_bytes("shares of rack 0:", shares_of_two, EACH);
+}
+
+static gesarumbo_repaired repair_two(gesarumbo_layout of, uint64_t first, uint64_t budget)
+{
+    return gesarumbo_repair_many(of, lost, LOST, helpers, HELPERS,
+                                 shares_of_two, LOST * SHARES_LENGTH, rack_at(1), RACK_LENGTH,
+                                 two_spares, LOST * LAYERS, first, budget);
+}
+
+/* A power strip takes trays 3 and 5. With more data they could be recovered, but not repaired. */
+static void repair_two_in_pieces(void)
+{
+    uint8_t kept[LOST * LAYERS], noise[LOST * LAYERS];
+    must(gesarumbo_store(less, data, LESS_DATA * LAYERS, codeword, CODEWORD_LENGTH) == 0,
+         "less data are stored");
+    collect_shares_of_two();
+    memset(noise, 0xEE, sizeof noise);
+    memcpy(two_spares, noise, sizeof noise);
+    for (uint32_t i = 0; i < LOST; i++) {
+        lost[i] = 3 + 2 * i;
+        memcpy(kept + i * LAYERS, tray_at(lost[i]), LAYERS);
+        memset(tray_at(lost[i]), 0xFF, LAYERS);
+    }
+    printf("two lost of one rack, with more data: refused %u\n", repair_two(layout, 0, 5).refusal);
+    must(memcmp(two_spares, noise, sizeof noise) == 0, "a refusal changes nothing");
+    for (uint64_t done = 0; done < GROUPS; done += 5) {
+        gesarumbo_repaired piece = repair_two(less, done, 5);
+        must(piece.refusal == 0, "a piece is done");
+        printf("two lost of one rack: crossed %u, still to come %u\n", (unsigned)piece.crossed,
+               (unsigned)piece.remaining);
+    }
+    printf("trays 3 and 5 are %s\n",
+           memcmp(two_spares, kept, sizeof kept) == 0 ? "as they were" : "wrong");
 }
 
 int main(void)
@@ -325,6 +386,7 @@ int main(void)
     recover();
     margin();
     lend_nothing();
+    repair_two_in_pieces();
     must(guards_untouched(), "no byte beside a buffer is written");
     return 0;
 }

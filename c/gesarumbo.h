@@ -2,10 +2,10 @@
  * gesarumbo: rack-aware erasure coding for packaged record stores, every call proved.
  *
  * The cabinet. It has B racks of u trays, n = B*u trays in all; tray x stands in rack x/u, at place
- * x mod u. k trays' worth of data are stored, and d racks help in the repair of one tray. Write
- * K = k/u (whole), r = n - k, s = d - K + 1 and L = s^B. A tray has L symbols of one byte, in
- * layers 0 to L-1. A codeword lies tray after tray, symbol j of tray x at x*L + j, so that the
- * trays of a rack lie side by side.
+ * x mod u. k trays' worth of data are stored, and d racks help in a repair. Write K = k/u (whole),
+ * v = k mod u, r = n - k, s = d - K + 1 and L = s^B. A tray has L symbols of one byte, in layers 0
+ * to L-1. A codeword lies tray after tray, symbol j of tray x at x*L + j, so that the trays of a
+ * rack lie side by side.
  *
  * A layout is admissible exactly when all of these hold: B >= 2; u is 1, 3, 5, 15 or 17; n <= 60;
  * u <= k; u <= n - k; K <= d; d <= B - 1; L <= 4096.
@@ -29,6 +29,7 @@
  *        outside 0 .. L or one that ends before it begins, or more groups done than there are
  *    4   a list is not strictly rising
  *    5   more than r trays erased, or not exactly d helpers
+ *   12   not 1 to u - v lost trays
  *    6   the host rack is a helper
  *    7   first group above L/s
  *    8   no codeword has these survivors
@@ -77,8 +78,8 @@ typedef struct {
 typedef struct {
     uint32_t refusal;
     uint64_t groups;    /* groups done */
-    uint64_t crossed;   /* symbols crossed: d for each group done */
-    uint64_t remaining; /* symbols still to come: d for each group after the last one done */
+    uint64_t crossed;   /* symbols crossed: d for each lost tray and group done */
+    uint64_t remaining; /* symbols still to come: as many for each group after the last one done */
 } gesarumbo_repaired;
 
 typedef struct {
@@ -159,15 +160,43 @@ uint32_t gesarumbo_share(gesarumbo_layout layout, uint32_t host, uint32_t helper
                          uint8_t *share, size_t share_length);
 
 /*
- * Adds one tray's part to the share of L/s bytes for a host rack, from the tray's L bytes. Clear the
- * share first and feed each of the rack's u trays once, in any order: it is then the rack's share.
+ * Adds one tray's part to the share of L/s bytes for a host rack, from the tray's L bytes. Clear
+ * the share first and feed each of the rack's u trays once, in any order: it is then the rack's
+ * share.
  * Grounds: 1; 2, either buffer; 3, the host rack or the tray; 6, the tray stands in the host rack.
- * Done: share holds what it held, plus this tray's part. Symbol p of the part is the exclusive or of
- * the tray's symbols in the s layers of group p. A tray fed twice cancels.
+ * Done: share holds what it held, plus this tray's part. Symbol p of the part is the exclusive or
+ * of the tray's symbols in the s layers of group p. A tray fed twice cancels.
  */
 uint32_t gesarumbo_share_add(gesarumbo_layout layout, uint32_t host, uint32_t tray,
                              const uint8_t *symbols, size_t symbols_length,
                              uint8_t *share, size_t share_length);
+
+/*
+ * Works out a helper rack's shares for a host rack with e = lost_count lost trays, from the
+ * helper's u*L bytes. They are shares m = 0 to e-1, L/s bytes each, one after another.
+ * Grounds: 1; 2, rack or the e*L/s bytes of share; 3, either rack; 12; 6, both racks are the same.
+ * Done: every byte of share is written, whatever it held. Symbol p of share m is the exclusive or
+ * of all the helper's symbols in the s layers of group p, those of the tray at place g each times
+ * 2 to the power g*m*(255/u). With e = 1 the bytes are those of gesarumbo_share.
+ */
+uint32_t gesarumbo_share_many(gesarumbo_layout layout, uint32_t lost_count,
+                              uint32_t host, uint32_t helper,
+                              const uint8_t *rack, size_t rack_length,
+                              uint8_t *share, size_t share_length);
+
+/*
+ * Adds one tray's part to the shares of e*L/s bytes for a host rack with e = lost_count lost trays,
+ * from the tray's L bytes. Clear the shares first and feed each of the rack's u trays once, in any
+ * order: they are then the rack's shares.
+ * Grounds: 1; 2, either buffer; 3, the host rack or the tray; 12; 6, the tray stands in the host
+ * rack.
+ * Done: share holds what it held, plus this tray's part. Part m is 2 to the power g*m*(255/u) times
+ * what gesarumbo_share_add adds, g being the tray's place. A tray fed twice cancels.
+ */
+uint32_t gesarumbo_share_add_many(gesarumbo_layout layout, uint32_t lost_count,
+                                  uint32_t host, uint32_t tray,
+                                  const uint8_t *symbols, size_t symbols_length,
+                                  uint8_t *share, size_t share_length);
 
 /*
  * Repairs a lost tray, or a piece of it. helpers are d racks, rising; shares are theirs in this
@@ -187,6 +216,28 @@ gesarumbo_repaired gesarumbo_repair(gesarumbo_layout layout, uint32_t lost,
                                     const uint8_t *host, size_t host_length,
                                     uint8_t *spare, size_t spare_length,
                                     uint64_t first, uint64_t budget);
+
+/*
+ * Repairs e lost trays of one rack, or a piece of them, e being the length of the list. lost and
+ * helpers rise; shares are the helpers' in this order, e*d*L/s bytes, those of one helper in order
+ * of m; host is the u*L bytes of the lost trays' rack, of which those of the lost trays are not
+ * looked at; spare has e*L bytes, tray after tray as listed.
+ * Grounds: 1; 2, shares, host or spare; 3, a lost tray, also one outside the first one's rack, or a
+ * helper; 4, either list; 5; 12; 6; 7.
+ * Done: the groups from first on, the smaller of budget and the groups left. Their layers of every
+ * tray in spare are written, and no other byte. From the shares and sound trays of a codeword these
+ * are its lost symbols; from any others they are fixed all the same, by the checks t = m, u + m,
+ * 2u + m and on for each m, summed over each group. e*d symbols cross for a group. A budget of 0,
+ * or a first group of L/s, does nothing.
+ * It may be cut as the repair of one tray may; with e = 1 answer and bytes are those of that call.
+ */
+gesarumbo_repaired gesarumbo_repair_many(gesarumbo_layout layout,
+                                         const uint32_t *lost, size_t lost_count,
+                                         const uint32_t *helpers, size_t helpers_count,
+                                         const uint8_t *shares, size_t shares_length,
+                                         const uint8_t *host, size_t host_length,
+                                         uint8_t *spare, size_t spare_length,
+                                         uint64_t first, uint64_t budget);
 
 /*
  * Reads layers first to end - 1 of a tray while the tray lost is being repaired in spare, where so

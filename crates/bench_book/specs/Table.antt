@@ -26,7 +26,7 @@ pub data Line : Type 0 where
 abbrev pub Holds : Line → Type 0
 Holds (measures l refusal total r cost) = numbersOf (measured l) ≡ record { refusal = refusal; layers = total; checks = r; traffic = cost }
 Holds (stores l given c) = Stores gf256 l given c
-Holds (shares l host rack share) = shareOf gf256 l host rack ≡ share
+Holds (shares l host rack share) = shareOf gf256 l 0 host rack ≡ share
 Holds (margins l states margin) = (marginRefusal l states ≡ 0) × (marginOf l states ≡ margin)
 
 abbrev pub AllHold : List Line → Type 0

@@ -7,7 +7,7 @@ use native.Mathlib.Nat.{mod-lt}
 use lib.ListN.{getD}
 use Rattle.algebra.specs.Field.{Ops}
 use Rattle.algebra.specs.Sum.{pow}
-use Rattle.algebra.specs.Points.{trayPoint, point}
+use Rattle.algebra.specs.Points.{trayPoint, point, place}
 use Rattle.algebra.specs.Layers.{digit}
 use Rattle.algebra.specs.Cabinet.{layerPoint}
 use Rattle.algebra.proofs.Pow.{pow-mul}
@@ -31,6 +31,11 @@ point-is l x j = refl
 pub point-power-is : (l : Layout) (x j t : ℕ) → elem (zpow (exponentAt l x j * t)) ≡ pow ops (pointAt gf256 l j x) t
 point-power-is l x j t =
     elem-zpow (exponentAt l x j * t) ∙ pow-mul ops laws z (exponentAt l x j) t ∙ ap (λ p. pow ops p t) (sym (point-is l x j))
+
+pub place-power-is : (l : Layout) (g m : ℕ) → elem (zpow (255 / l .size * g * m)) ≡ pow ops (place (shapeOf gf256 l) g) m
+unfolding place
+place-power-is l g m =
+    elem-zpow (255 / l .size * g * m) ∙ pow-mul ops laws z (255 / l .size * g) m ∙ ap (λ y. pow ops y m) (pow-mul ops laws z (255 / l .size) g)
 
 -- a tray's part in a check
 pub term-is : (l : Layout) (c : List ℕ) (total x j t p at r : ℕ) → elem p ≡ pow ops (pointAt gf256 l j x) t → at ≡ x * total + j → total ≡ layers l → r ≡ p ⊗ getD c at 0 →

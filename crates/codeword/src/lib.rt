@@ -8,9 +8,10 @@ ghost use Prim.Native.Nat.{_+_, _*_, _<_, _≤_};
 ghost use lib.ListN.{length};
 ghost use Rattle.algebra.specs.Field.{Ops};
 ghost use Rattle.algebra.specs.Sum.{pow};
+ghost use Rattle.algebra.specs.Points.{place};
 ghost use Rattle.symbol.specs.Elem.{elem, ops, gf256};
 ghost use Rattle.layout.specs.Layout.{trays, layers, trayLimit, layerLimit, Admissible};
-ghost use Rattle.codeword.specs.Codeword.{pointAt, symbolAt, checkAt};
+ghost use Rattle.codeword.specs.Codeword.{shapeOf, pointAt, symbolAt, checkAt};
 ghost use Rattle.codeword.specs.Test.{TestAnswer};
 ghost use Rattle.codeword.specs.Inner.{exponentAt, Placed, Scannable, Scanned};
 
@@ -38,6 +39,15 @@ pub fn point_power(l: Layout, x: u32, j: u32, t: u32) -> Symbol
     ensures { λ r. ⌜ elem (r .0) ≡ pow ops (pointAt gf256 l j x) t ⌝ }
 {
     Symbol::root_power(exponent(l, x, j) as usize * t as usize)
+}
+
+// The factor of place g, to the power m.
+pub fn place_power(l: Layout, g: u32, m: u32) -> Symbol
+    requires { ⌜ Admissible l × (g < l .size) × (m ≤ trayLimit) ⌝ }
+    ensures { λ r. ⌜ elem (r .0) ≡ pow ops (place (shapeOf gf256 l) g) m ⌝ }
+{
+    let u = l.size;
+    Symbol::root_power((255 / u * g * m) as usize)
 }
 
 // Where symbol j of tray x stands, in trays of so many layers.

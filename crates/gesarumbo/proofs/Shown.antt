@@ -2,7 +2,7 @@
 -- Assumes nothing.
 use mathlib.Core.Path.{_≡_, sym, ap, ap₂, _∙_, subst}
 use mathlib.Core.Bool.{cond}
-use mathlib.Core.List.{List, []}
+use mathlib.Core.List.{List, [], _∷_}
 use Prim.Native.Nat.{ℕ, _+_, _-_, _*_}
 use native.Mathlib.Nat.{le-refl}
 use borrow.Author.Tests.{eq-eqb, ne-eqb}
@@ -43,17 +43,16 @@ module _ (l : Layout) (volume : ℕ) (image : List ℕ) where
         part-is = ap (λ k. take k (drop headerLength image)) (ap length q) ∙ take-all _ (drop headerLength image) (le-refl _) ∙ simp r;
       }
 
--- a tray's number is all there is of it
-tray-is : (t : Tray) (n : ℕ) → t .0 ≡ n → t ≡ record { 0 = n }
-tray-is t n e = λ i. record { 0 = e i }
+module _ (l : Layout) (helpers shares host : List ℕ) (first budget : ℕ) (old new : List ℕ) (a : Repaired) (r : RepairNumbers) where
+  pub repair-many-shown : (lost : List ℕ) → RepairAnswer gf256 l lost helpers shares host first budget old new a → r ≡ repairNumbers a →
+      RepairShown l lost helpers shares host first budget old new r
+  repair-many-shown lost right shown = record { answer = a; right = right; shown = shown }
 
-pub repair-shown : (l : Layout) (lost : ℕ) (helpers shares host : List ℕ) (first budget : ℕ) (old new : List ℕ) (t : Tray) (a : Repaired) (r : RepairNumbers) → t .0 ≡ lost →
-    RepairAnswer gf256 l t helpers shares host first budget old new a → r ≡ repairNumbers a → RepairShown l lost helpers shares host first budget old new r
-repair-shown l lost helpers shares host first budget old new t a r e right shown = record {
-  answer = a;
-  right = subst (λ t. RepairAnswer gf256 l t helpers shares host first budget old new a) (tray-is t lost e) right;
-  shown = shown;
-}
+  -- one lost tray
+  pub repair-shown : (lost : ℕ) (t : Tray) → t .0 ≡ lost → RepairAnswer gf256 l (t .0 ∷ []) helpers shares host first budget old new a → r ≡ repairNumbers a →
+      RepairShown l (lost ∷ []) helpers shares host first budget old new r
+  repair-shown lost t e right shown =
+      repair-many-shown (lost ∷ []) (subst (λ x. RepairAnswer gf256 l (x ∷ []) helpers shares host first budget old new a) e right) shown
 
 -- a part is as long as it says
 own-length : (n : ℕ) (s part : List ℕ) → part ≡ take n s → take (length part) s ≡ part

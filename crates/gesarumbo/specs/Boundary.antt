@@ -60,9 +60,9 @@ pub record ReadShown (l : Layout) (volume : ℕ) (image : List ℕ) (r : ImageNu
   pub part-is : take (r .length) (drop (r .offset) image) ≡ readPart l volume image
 
 -- the numbers are those of an answer that the repair's contract allows
-pub record RepairShown (l : Layout) (lost : ℕ) (helpers shares host : List ℕ) (first budget : ℕ) (old new : List ℕ) (r : RepairNumbers) : Type 0 where
+pub record RepairShown (l : Layout) (lost helpers shares host : List ℕ) (first budget : ℕ) (old new : List ℕ) (r : RepairNumbers) : Type 0 where
   pub answer : Repaired
-  pub right : RepairAnswer gf256 l (record { 0 = lost }) helpers shares host first budget old new answer
+  pub right : RepairAnswer gf256 l lost helpers shares host first budget old new answer
   pub shown : r ≡ repairNumbers answer
 
 -- the place of the part that a read gives while a tray is being repaired: source is 1 for the codeword and 2 for the spare

@@ -11,6 +11,7 @@ use scrub::Report;
 use scrub::Scrubbed;
 use scrub::Walk;
 ghost use mathlib.Core.Path.{_≡_};
+ghost use mathlib.Core.List.{[], _∷_};
 ghost use lib.ListN.{length};
 ghost use Rattle.symbol.specs.Elem.{gf256};
 ghost use Rattle.layout.specs.Layout.{measured};
@@ -18,6 +19,7 @@ ghost use Rattle.recover.specs.Recover.{RecoverAnswer};
 ghost use Rattle.store.specs.Store.{StoreAnswer};
 ghost use Rattle.margin.specs.Margin.{marginRefusal, marginValue};
 ghost use Rattle.share.specs.Share.{shareRefusal, shareBuffer, addRefusal, addBuffer};
+ghost use Rattle.share.specs.Many.{manyRefusal, manyBuffer, addManyRefusal, addManyBuffer};
 ghost use Rattle.image.specs.Image.{writeRefusal, writeBuffer};
 ghost use Rattle.scrub.specs.Scrub.{scrubbed, begun};
 ghost use Rattle.gesarumbo.specs.Boundary.{measureNumbers, testNumbers, marginNumbers, repairNumbers, scrubNumbers, TestShown, ReadShown, RepairShown, PartShown};
@@ -243,6 +245,36 @@ pub extern "C" fn gesarumbo_share_add(
 }
 
 #[no_mangle]
+pub extern "C" fn gesarumbo_share_many(
+    l: Layout,
+    count: u32,
+    host: u32,
+    helper: u32,
+    rack: &[u8],
+    share: &mut [u8],
+) -> u32
+    ensures answer { λ r. ⌜ r ≡ manyRefusal l count host helper (length (now (rack .entry))) (length (now (share .entry))) ⌝ }
+    ensures buffer { λ _. ⌜ now (share .exit) ≡ manyBuffer gf256 l count host helper (now (rack .entry)) (now (share .entry)) ⌝ }
+{
+    share::share_many(l, count, Rack::of(host), Rack::of(helper), rack, share) as u32
+}
+
+#[no_mangle]
+pub extern "C" fn gesarumbo_share_add_many(
+    l: Layout,
+    count: u32,
+    host: u32,
+    tray: u32,
+    symbols: &[u8],
+    share: &mut [u8],
+) -> u32
+    ensures answer { λ r. ⌜ r ≡ addManyRefusal l count host tray (length (now (symbols .entry))) (length (now (share .entry))) ⌝ }
+    ensures buffer { λ _. ⌜ now (share .exit) ≡ addManyBuffer gf256 l count host tray (now (symbols .entry)) (now (share .entry)) ⌝ }
+{
+    share::share_add_many(l, count, Rack::of(host), Tray::of(tray), symbols, share) as u32
+}
+
+#[no_mangle]
 pub extern "C" fn gesarumbo_repair(
     l: Layout,
     lost: u32,
@@ -253,7 +285,7 @@ pub extern "C" fn gesarumbo_repair(
     first: u64,
     budget: u64,
 ) -> RepairNumbers
-    ensures { λ r. ⌜ RepairShown l lost (now (helpers .entry)) (now (shares .entry)) (now (host .entry)) first budget (now (spare .entry)) (now (spare .exit)) r ⌝ }
+    ensures { λ r. ⌜ RepairShown l (lost ∷ []) (now (helpers .entry)) (now (shares .entry)) (now (host .entry)) first budget (now (spare .entry)) (now (spare .exit)) r ⌝ }
 {
     repair_numbers(repair::repair(
         l,
@@ -265,6 +297,22 @@ pub extern "C" fn gesarumbo_repair(
         first,
         budget,
     ))
+}
+
+#[no_mangle]
+pub extern "C" fn gesarumbo_repair_many(
+    l: Layout,
+    lost: &[u32],
+    helpers: &[u32],
+    shares: &[u8],
+    host: &[u8],
+    spare: &mut [u8],
+    first: u64,
+    budget: u64,
+) -> RepairNumbers
+    ensures { λ r. ⌜ RepairShown l (now (lost .entry)) (now (helpers .entry)) (now (shares .entry)) (now (host .entry)) first budget (now (spare .entry)) (now (spare .exit)) r ⌝ }
+{
+    repair_numbers(repair::repair_many(l, lost, helpers, shares, host, spare, first, budget))
 }
 
 #[no_mangle]

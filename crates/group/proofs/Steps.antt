@@ -1,17 +1,18 @@
 -- The steps by which a group's points, right sides and sound sums are worked out.
 -- Assumes nothing.
 use mathlib.Core.Path.{_≡_, refl, sym, ap, ap₂, _∙_}
+use mathlib.Core.Bool.{true, false, false≢true}
 use mathlib.Core.List.{List}
-use Prim.Native.Nat.{ℕ, zero, suc, _+_, _-_, _*_, _%_, _<_, _≤_}
-use native.Mathlib.Nat.{mul-div-cancel, mul-mod-left, mod-lt}
+use Prim.Native.Nat.{ℕ, zero, suc, _+_, _-_, _*_, _/_, _%_, _<_, _≤_}
+use native.Mathlib.Nat.{mul-div-cancel, mul-mod-left, mod-lt, mul-assoc, mul-le-mul, mul-comm, div-add-mod'}
 use native.Mathlib.Numerals.{add-one}
 use native.Mathlib.Omega.{arith}
-use lib.Dec.{eqb}
-use lib.ListN.{getD}
-use Rattle.lists.proofs.Numbers.{cell-in}
-use Rattle.algebra.specs.Sum.{sum, pow}
-use Rattle.algebra.specs.Erasure.{choose}
-use Rattle.algebra.specs.Points.{point, trayPoint}
+use lib.ListN.{length, getD}
+use Rattle.lists.specs.Lists.{absent}
+use Rattle.lists.proofs.Numbered.{absent-true, absent-all}
+use Rattle.lists.proofs.Numbers.{cell-in, cell-same}
+use Rattle.algebra.specs.Sum.{pow}
+use Rattle.algebra.specs.Points.{point, place, trayPoint}
 use Rattle.algebra.specs.Layers.{digit, layerOf}
 use Rattle.algebra.specs.Cabinet.{layerPoint}
 use Rattle.algebra.specs.Group.{skip, free, groupPoint}
@@ -19,17 +20,19 @@ use Rattle.algebra.specs.Repair.{helperPlace}
 use Rattle.algebra.proofs.Skip.{skip-below, join-low, join-high}
 use Rattle.algebra.proofs.Free.{free-below}
 use Rattle.algebra.proofs.Layers.{layer-digit}
-use Rattle.algebra.proofs.Cabinet.{choose-same, choose-other}
+use Rattle.algebra.proofs.Erasure.{fill-same, fill-outside}
+use Rattle.algebra.proofs.Pow.{pow-one, pow-mul}
 use Rattle.symbol.specs.Arithmetic.{_⊗_}
-use Rattle.symbol.specs.Elem.{Elem, elem, ops, gf256}
-use Rattle.symbol.proofs.Elem.{elem-zero, elem-⊗}
+use Rattle.symbol.specs.Elem.{Elem, elem, ops, z, gf256}
+use Rattle.symbol.proofs.Elem.{elem-zero, elem-⊗, laws}
 use Rattle.layout.specs.declared.Layout.{Layout}
 use Rattle.layout.specs.Layout.{trays, digits, layers, groups, parityRacks, trayLimit, Admissible}
 use Rattle.layout.proofs.Facts.{bounds}
 use Rattle.layout.proofs.Numbers.{total, enough}
 use Rattle.codeword.specs.Codeword.{shapeOf, symbolAt, pointAt}
-use Rattle.rule.specs.Rule.{sharedSymbol, soundSum}
-use Rattle.group.specs.Inner.{helperAt, placePoint, unknownPoint, sideTerm}
+use Rattle.rule.specs.Rule.{rackSymbol}
+use Rattle.rule.specs.Lost.{lostPlace, sentSymbol}
+use Rattle.group.specs.Inner.{helperAt, placePoint, unknownPoint, sideTerm, soundSymbol, Losing}
 
 -- the unknowns' places, one helper after another
 pub free-first : (h : ℕ → ℕ) (i : ℕ) → i ≡ free h 0 i
@@ -43,13 +46,17 @@ free-next h d i q x r e f g = e ∙ ap₂ skip f g ∙ ap (λ n. free h n i) (sy
 pub free-high : (h : ℕ → ℕ) (d i x : ℕ) → x ≡ free h d i → x < suc i + d
 free-high h d i x e = rw e (free-below h (suc i) d i (omega arith))
 
+-- s is at most R
+pub digits-under : (l : Layout) → Admissible l → digits l ≤ parityRacks l
+digits-under l a = omega (arith, total l a, a .helpers-high)
+
 module _ (l : Layout) (a : Admissible l) where
   pub tray-in : (i : ℕ) → i < l .racks → i * l .size < trays l
   tray-in i h = omega (arith, cell-in (l .racks) (l .size) i 0 h (bounds l a .size-low))
 
-  -- a check t = u·w is one of the layer's, so t is within the limit
-  pub check-in : (w : ℕ) → w < parityRacks l → l .size * w ≤ trayLimit
-  check-in w h = omega (arith, enough l a w 0 h (omega (arith, mod-lt (l .dimension) (bounds l a .size-low))), a .trays-high)
+  -- a check t = u·w + m is one of the layer's, so t is within the limit
+  pub check-in : (w m : ℕ) → w < parityRacks l → m + l .dimension % l .size < l .size → l .size * w + m ≤ trayLimit
+  check-in w m h k = omega (arith, enough l a w m h k, a .trays-high)
 
   -- the point at place 0 of rack i in layer j
   pub rack-point : (i j : ℕ) → pointAt gf256 l j (i * l .size) ≡ point (shapeOf gf256 l) i (digit (digits l) j i) 0
@@ -83,22 +90,53 @@ module _ (l : Layout) (h p : ℕ) (helpers : List ℕ) where
   pub unknown-below : (x s n i : ℕ) → Admissible l → x ≡ free (helperPlace s h (helperAt helpers)) n i → n ≡ l .helpers → i < parityRacks l → x < digits l + (l .racks - 1)
   unknown-below x s n i a e en k = omega (arith, e, free-below (helperPlace s h (helperAt helpers)) (parityRacks l) n i k, en, total l a)
 
-  pub side-is : (shares : List ℕ) (w k j n q r at : ℕ) → j ≡ layerOf (digits l) h p 0 → elem q ≡ pow ops (pointAt gf256 l j (helperAt helpers k * l .size)) (l .size * w) →
-      n ≡ groups l → at ≡ k * n + p → r ≡ q ⊗ getD shares at 0 → elem r ≡ sideTerm l h p helpers shares w k
-  unfolding sideTerm sharedSymbol
-  side-is shares w k j n q r at ej eq en ea er =
+  pub side-is : (shares : List ℕ) (e m w k j n q r at x : ℕ) → j ≡ layerOf (digits l) h p 0 → elem q ≡ pow ops (pointAt gf256 l j (helperAt helpers k * l .size)) (l .size * w + m) →
+      n ≡ groups l → at ≡ x * n + p → x ≡ k * e + m → r ≡ q ⊗ getD shares at 0 → elem r ≡ sideTerm l h p helpers shares e m w k
+  unfolding sideTerm sentSymbol
+  side-is shares e m w k j n q r at x ej eq en ea ex er =
       ap elem er ∙ elem-⊗ q (getD shares at 0)
-      ∙ ap₂ (ops .mul) (eq ∙ ap (λ y. pow ops (pointAt gf256 l y (helperAt helpers k * l .size)) (l .size * w)) ej) (ap (λ i. elem (getD shares i 0)) (ea ∙ ap (λ m. k * m + p) en))
+      ∙ ap₂ (ops .mul) (eq ∙ ap (λ y. pow ops (pointAt gf256 l y (helperAt helpers k * l .size)) (l .size * w + m)) ej)
+      (ap (λ i. elem (getD shares i 0)) (ea ∙ ap₂ (λ y n. y * n + p) ex en))
 
--- the sound trays
-pub term-lost : (g lost : ℕ) (v : Elem) → g ≡ lost → elem 0 ≡ choose (eqb g lost) (ops .zero) v
-term-lost g lost v e = elem-zero ∙ sym (choose-same g lost (ops .zero) v e)
+-- where the k-th helper's share of weight m stands
+module _ (l : Layout) (a : Admissible l) (e m k : ℕ) (few : e + l .dimension % l .size ≤ l .size) (weight : m < e) (helper : k < l .helpers) where
+  pub row-in : k * e + m < trayLimit
+  row-in = omega (arith, cell-in (l .helpers) e k m helper weight, mul-le-mul (helpers-under l a) (size-over e few), a .trays-high)
+    where
+      helpers-under : (l : Layout) → Admissible l → l .helpers ≤ l .racks
+      helpers-under l a = omega (arith, a .helpers-high)
 
-pub term-sound : (g lost : ℕ) (e v : Elem) → (g ≡ lost → ⊥) → e ≡ v → e ≡ choose (eqb g lost) (ops .zero) v
-term-sound g lost e v d q = q ∙ sym (choose-other g lost (ops .zero) v d)
+      size-over : (e : ℕ) → e + l .dimension % l .size ≤ l .size → e ≤ l .size
+      size-over e h = omega arith
 
-pub sound-is : (l : Layout) (x total j n : ℕ) (host : List ℕ) (r : Elem) → total ≡ layers l → n ≡ l .size →
-    r ≡ sum ops n (λ g. choose (eqb g (x % l .size)) (ops .zero) (elem (getD host (g * total + j) 0))) → r ≡ soundSum gf256 l x host j
-unfolding soundSum symbolAt
-sound-is l x total j n host r et en e =
-    e ∙ ap₂ (λ m t. sum ops m (λ g. choose (eqb g (x % l .size)) (ops .zero) (elem (getD host (g * t + j) 0)))) en et
+  pub symbol-in : (p : ℕ) → p < groups l → (k * e + m) * groups l + p < l .helpers * (e * groups l)
+  symbol-in p h = rw (sym (mul-assoc (l .helpers) e (groups l))) (cell-in (l .helpers * e) (groups l) (k * e + m) p (cell-in (l .helpers) e k m helper weight) h)
+
+-- the host's sums of every weight are few
+pub sums-high : (l : Layout) → Admissible l → (e : ℕ) → e + l .dimension % l .size ≤ l .size → e * digits l ≤ trayLimit
+sums-high l a e few =
+    let h : e ≤ l .size = omega arith in
+    omega (arith, mul-le-mul h (bounds l a .digits-high), mul-comm (l .size) (l .racks), a .trays-high)
+
+pub place-once : (l : Layout) (g : ℕ) (r : Elem) → r ≡ pow ops (place (shapeOf gf256 l) g) 1 → r ≡ place (shapeOf gf256 l) g
+place-once l g r e = e ∙ pow-one ops laws _
+
+-- the symbols of the host rack in a layer, zero at the lost places
+module _ (l : Layout) (h : ℕ) (lost host : List ℕ) (q : Losing l h lost host) where
+  abbrev tray-at : (i : ℕ) → i < length lost → h * l .size + lostPlace l lost i ≡ getD lost i 0
+  tray-at i k = unfold lostPlace in ap (λ r. r * l .size + getD lost i 0 % l .size) (sym (q .one-rack i k)) ∙ div-add-mod' (getD lost i 0) (l .size)
+
+  pub sound-lost : (g j x : ℕ) → g < l .size → x ≡ h * l .size + g → absent lost x ≡ false → elem 0 ≡ soundSymbol l lost host j g
+  unfolding soundSymbol
+  sound-lost g j x hg ex e = fill-same (lostPlace l lost) (λ k. ops .zero) (λ y. rackSymbol gf256 l host y j) (length lost) (λ y. elem 0) g (λ k hk eg. elem-zero)
+      (λ out. absurd (false≢true (sym e ∙ sym (absent-true lost x (λ k hk t. out k hk (place-of k hk t))))))
+    where
+      place-of : (k : ℕ) → k < length lost → getD lost k 0 ≡ x → g ≡ lostPlace l lost k
+      place-of k hk t = cell-same (l .size) h h g (lostPlace l lost k) hg (unfold lostPlace in mod-lt (getD lost k 0) (bounds l (q .adm) .size-low)) (sym ex ∙ sym t ∙ sym (tray-at k hk)) .1
+
+  pub sound-there : (g j x at total : ℕ) (r : Elem) → x ≡ h * l .size + g → absent lost x ≡ true → total ≡ layers l → at ≡ g * total + j → r ≡ elem (getD host at 0) → r ≡ soundSymbol l lost host j g
+  unfolding soundSymbol symbolAt
+  sound-there g j x at total r ex e et ea er =
+      er ∙ ap (λ i. elem (getD host i 0)) (ea ∙ ap (λ n. g * n + j) et)
+      ∙ sym (fill-outside (lostPlace l lost) (λ k. ops .zero) (λ y. rackSymbol gf256 l host y j) (length lost) g
+      (λ k hk eg. absent-all lost x e k hk (sym (tray-at k hk) ∙ ap (λ y. h * l .size + y) (sym eg) ∙ sym ex)))

@@ -7,9 +7,9 @@ use native.Mathlib.Nat.{le-mul-of-pos-right, mul-comm, mul-one, one-le-pow, pow-
 use native.Mathlib.Omega.{arith}
 use lib.Dec.{leb, ltb, eqb}
 use borrow.Author.Tests.{leb-true, le-leb, eqb-true}
-use Rattle.lists.proofs.Bools.{both, and-true, either, not-true-false, told-true}
+use Rattle.lists.proofs.Bools.{both, and-true, not-both, either, not-true-false, told-true}
 use Rattle.layout.specs.declared.Layout.{Layout}
-use Rattle.layout.specs.Layout.{trays, wholeRacks, checks, digits, layers, groups, trayLimit, layerLimit, sizeAllowed, admissible, Admissible}
+use Rattle.layout.specs.Layout.{trays, wholeRacks, checks, digits, layers, groups, trayLimit, layerLimit, sizeAllowed, admissible, lostCountFits, Admissible}
 
 module _ (l : Layout) where
   pub admissible-facts : admissible l ≡ true → Admissible l
@@ -107,3 +107,17 @@ dimension-in l a = le-of-lt (bounds l a .dimension-high)
 
 pub size-pos : (l : Layout) → Admissible l → 0 < l .size
 size-pos l a = bounds l a .size-low
+
+-- how many lost trays can be repaired
+module _ (l : Layout) (e : ℕ) where
+  pub fits : 0 < e → e + l .dimension % l .size ≤ l .size → true ≡ lostCountFits l e
+  unfolding lostCountFits
+  fits s t = sym (and-true _ _ (le-leb _ _ s) (le-leb _ _ t))
+
+  pub fits-not : (0 < e → e + l .dimension % l .size ≤ l .size → ⊥) → false ≡ lostCountFits l e
+  unfolding lostCountFits
+  fits-not k = sym (not-both _ _ (λ s t. k (leb-true _ _ s) (leb-true _ _ t)))
+
+  pub fits-so : lostCountFits l e ≡ true → (0 < e) × (e + l .dimension % l .size ≤ l .size)
+  unfolding lostCountFits
+  fits-so h = let p = both _ _ h in (leb-true _ _ (p .0), leb-true _ _ (p .1))

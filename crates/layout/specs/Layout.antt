@@ -2,7 +2,7 @@
 -- Assumes nothing.
 use mathlib.Core.Bool.{Bool, true, false, cond, _&&_, _||_}
 use mathlib.Core.Path.{_≡_}
-use Prim.Native.Nat.{ℕ, _+_, _-_, _*_, _/_, _^_, _≤_}
+use Prim.Native.Nat.{ℕ, _+_, _-_, _*_, _/_, _%_, _^_, _≤_}
 use lib.Dec.{leb, eqb}
 use Rattle.layout.specs.declared.Layout.{Layout}
 use Rattle.layout.specs.declared.Measured.{Measured}
@@ -62,6 +62,10 @@ admissible l =
     && leb (wholeRacks l) (l .helpers)
     && leb (l .helpers) (l .racks - 1)
     && leb (layers l) layerLimit
+
+-- e lost trays of one rack can be repaired: 1 to u - v, where v = k mod u
+unfoldable pub lostCountFits : Layout → ℕ → Bool
+lostCountFits l e = leb 1 e && leb (e + l .dimension % l .size) (l .size)
 
 -- the same as facts, for the contracts of functions that want an admissible layout
 pub record Admissible (l : Layout) : Type 0 where

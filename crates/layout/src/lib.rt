@@ -6,7 +6,7 @@ use power::capped_power;
 ghost use mathlib.Core.Path.{_≡_};
 ghost use Prim.Native.Nat.{_+_, _*_, _/_, _%_, _^_, _<_, _≤_};
 ghost use Rattle.algebra.specs.Layers.{digit, groupOf, layerOf};
-ghost use Rattle.layout.specs.Layout.{sizeAllowed, admissible, trays, checks, digits, layers, groups, parityRacks, layerLimit, Admissible, measured};
+ghost use Rattle.layout.specs.Layout.{sizeAllowed, admissible, lostCountFits, trays, checks, digits, layers, groups, parityRacks, layerLimit, Admissible, measured};
 ghost use Rattle.layout.specs.Inner.{InGroup, HasLayer};
 
 // The limits on the trays of a cabinet and the layers of a tray (document 02, W4).
@@ -175,6 +175,22 @@ pub fn group_count(l: Layout) -> u32
     ensures { λ r. ⌜ r ≡ groups l ⌝ }
 {
     layer_count(l) / digit_count(l)
+}
+
+// Whether so many lost trays of one rack can be repaired: 1 to u - v.
+pub fn lost_count_fits(l: Layout, count: usize) -> bool
+    requires { ⌜ Admissible l ⌝ }
+    ensures { λ r. ⌜ r ≡ lostCountFits l count ⌝ }
+{
+    let u = l.size;
+    let k = l.dimension;
+    if count < 1 {
+        return false;
+    }
+    if ((u - k % u) as usize) < count {
+        return false;
+    }
+    true
 }
 
 // Digit i of layer j, in base s; digit 0 is the lowest.

@@ -22,8 +22,8 @@ use Rattle.codeword.proofs.Usable.{usable}
 use Rattle.codeword.proofs.Buffers.{layers-pos}
 use Rattle.rule.specs.Rule.{trayPart, groupAt}
 use Rattle.rule.proofs.Racks.{tray-long, tray-at}
-use Rattle.rule.proofs.Exact.{rule-exact}
-use Rattle.repair.proofs.Cutting.{cutting}
+use Rattle.rule.proofs.Single.{one-exact}
+use Rattle.repair.proofs.Single.{cutting-one}
 use Rattle.reading.specs.Reading.{allDone, available, partRefusal, run, partGiven}
 use Rattle.reading.specs.Repairing.{Repairing}
 use Rattle.reading.proofs.Ranges.{done-facts}
@@ -49,11 +49,11 @@ module _ {A : Type 0} (f : Field A) (l : Layout) (ok : Usable f l) (x : Tray) (c
   lost-run a e =
       let long : length (trayPart l c tray) ≡ layers l = tray-long l c (trays l) tray (layers-pos f l ok) (r .of .codeword .long) (a .readable .tray-in) in
       let ready = done-facts l (x .0) done first end (all-of-it l (x .0) done tray first end e (a .given)) in
-      let cut = cutting f l ok (a .readable .adm) x (r .helpers) (r .chosen) (r .shares) (r .host) (r .start) (r .calls) in
+      let cut = cutting-one f l ok (x .0) (r .helpers) (r .shares) (r .host) (a .readable .adm) (r .chosen) (r .start) (r .calls) in
       same-run spare (trayPart l c tray) first first (end - first) (omega (arith, a .spare-long, a .readable .end-in, a .readable .rises)) (omega (arith, long, a .readable .end-in, a .readable .rises)) (λ i h.
       let j : first + i < end = omega arith in
       let g : groupAt l (x .0) (first + i) < r .G = omega (arith, ready (first + i) (omega arith) j, r .far-enough) in
-      rule-exact f l ok (x .0) (r .helpers) (r .chosen) (r .shares) (r .host) c (r .of) (groupAt l (x .0) (first + i)) (omega (arith, g, cut .within)) spare (cut .ruled (groupAt l (x .0) (first + i)) g) (first + i)
+      one-exact f l ok (x .0) (r .helpers) (r .chosen) (r .shares) (r .host) c (r .of) (groupAt l (x .0) (first + i)) (omega (arith, g, cut .within)) spare (cut .ruled (groupAt l (x .0) (first + i)) g) (first + i)
       (omega (arith, j, a .readable .end-in)) refl
       ∙ ap (λ y. getD (trayPart l c y) (first + i) 0) (sym e))
 

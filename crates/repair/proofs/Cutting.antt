@@ -2,20 +2,23 @@
 -- Assumes nothing.
 use mathlib.Core.Path.{_≡_, refl, sym, _∙_, ap, ap₂, subst}
 use mathlib.Core.List.{List}
-use Prim.Native.Nat.{ℕ, _+_, _-_, _*_, _/_, _<_, _≤_}
+use Prim.Native.Nat.{ℕ, _+_, _-_, _*_, _/_, _%_, _<_, _≤_}
 use native.Mathlib.Decide.{decLt}
-use native.Mathlib.Nat.{mul-add, mul-zero, zero-add}
+use native.Mathlib.Nat.{mul-add, mul-zero, zero-add, mod-lt, div-add-mod', div-lt-iff-lt-mul}
 use native.Mathlib.Omega.{arith}
 use lib.ListN.{length, getD}
 use Rattle.algebra.specs.Shape.{Field}
+use Rattle.algebra.specs.Points.{place}
 use Rattle.algebra.proofs.Layers.{power-pos}
+use Rattle.algebra.proofs.Erasure.{fill-congr, check-congr}
 use Rattle.layout.specs.declared.Layout.{Layout}
-use Rattle.layout.specs.declared.Tray.{Tray}
-use Rattle.layout.specs.Layout.{digits, layers, groups, Admissible}
-use Rattle.codeword.specs.Codeword.{Usable}
-use Rattle.rule.specs.Rule.{groupAt, Helpers, sharedSymbol, SoundAlike, Ruled}
-use Rattle.rule.proofs.Racks.{sound-same}
-use Rattle.rule.proofs.Rule.{group-below, rule-one, ruled-same}
+use Rattle.layout.specs.Layout.{digits, layers, groups, traffic, Admissible}
+use Rattle.codeword.specs.Codeword.{shapeOf, Usable}
+use Rattle.codeword.proofs.Buffers.{layers-pos}
+use Rattle.rule.specs.Rule.{groupAt}
+use Rattle.rule.specs.Lost.{firstLost, lostPlace, Losses, sentSymbol, mended, SoundAlike, Ruled}
+use Rattle.rule.proofs.Rule.{group-below}
+use Rattle.rule.proofs.Lost.{lost-high, lost-places, rule-one, ruled-same}
 use Rattle.rule.proofs.Exact.{rule-whole}
 use Rattle.repair.specs.declared.Repaired.the-variants.{Done}
 use Rattle.repair.specs.Repair.{report, RepairDone}
@@ -23,110 +26,131 @@ use Rattle.repair.specs.Calls.{Calls, none, done, refused, Uncut, Cut, D
 use Rattle.repair.proofs.Refusals.{repairable, accepted}
 use Rattle.repair.proofs.Pieces.{ruled-kept}
 
-module _ {A : Type 0} (f : Field A) (l : Layout) (ok : Usable f l) (adm : Admissible l) (x : Tray) (helpers : List ℕ) (help : Helpers l (x .0) helpers) (shares host start : List ℕ) where
+module _ {A : Type 0} (f : Field A) (l : Layout) (ok : Usable f l) (adm : Admissible l) (lost helpers : List ℕ) (given : Losses l lost helpers) (shares host start : List ℕ) where
   -- what the rule fixes for a host rack it fixes for one that is alike in the sound trays
-  ruled-host : (host′ : List ℕ) (p : ℕ) (spare : List ℕ) → ((j : ℕ) → j < layers l → SoundAlike f l (x .0) j host host′) → Ruled f l (x .0) helpers shares host′ p spare →
-      Ruled f l (x .0) helpers shares host p spare
+  ruled-host : (host′ : List ℕ) (p : ℕ) (spare : List ℕ) → ((j : ℕ) → j < layers l → SoundAlike f l lost j host host′) → Ruled f l lost helpers shares host′ p spare →
+      Ruled f l lost helpers shares host p spare
+  unfolding mended
   ruled-host host′ p spare alike r = record {
     sums = r .sums;
     solution = r .solution;
-    holds = λ j h e. r .holds j h e ∙ ap (λ y. f .coding .val (f .ops .add (r .sums (x .0 / l .size) j) (f .ops .neg y))) (sym (sound-same f l (x .0) j host host′ (alike j h)));
+    holds = λ j hj e m hm.
+        check-congr (f .ops) (ok .field .laws) (place (shapeOf f l)) (l .size) (lostPlace l lost) _ _ m
+        (λ g hg. fill-congr (f .ops) (place (shapeOf f l)) (l .size) (lostPlace l lost) (length lost) (lost-places f l ok lost helpers given) _ _ _
+        (record { at = λ y hy out. alike j hj y hy out }) g hg)
+        ∙ r .holds j hj e m hm;
+    symbols = r .symbols;
   }
+
+  -- a place of a spare of e·L symbols, by tray and layer
+  kept-at : (n : ℕ) (old new : List ℕ) → n < length lost * layers l →
+      ((i : ℕ) → i < length lost → (j : ℕ) → j < layers l → j ≡ n % layers l → getD new (i * layers l + j) 0 ≡ getD old (i * layers l + j) 0) → getD new n 0 ≡ getD old n 0
+  kept-at n old new hn same =
+      subst (λ y. getD new y 0 ≡ getD old y 0) (div-add-mod' n (layers l))
+      (same (n / layers l) (div-lt-iff-lt-mul (layers-pos f l ok) .1 hn) (n % layers l) (mod-lt n (layers-pos f l ok)) refl)
 
   -- what is shown by going through the list
   record Sofar (G crossed toCome : ℕ) (spare : List ℕ) : Type 0 where
     within : G ≤ groups l
     long : length spare ≡ length start
-    sized : 0 < G → length spare ≡ layers l
-    ruled : (p : ℕ) → p < G → Ruled f l (x .0) helpers shares host p spare
-    kept : (j : ℕ) → j < length start → ¬ (groupAt l (x .0) j < G) → getD spare j 0 ≡ getD start j 0
-    crossed-is : crossed ≡ l .helpers * G
-    toCome-is : toCome ≡ l .helpers * (groups l - G)
+    sized : 0 < G → length spare ≡ length lost * layers l
+    ruled : (p : ℕ) → p < G → Ruled f l lost helpers shares host p spare
+    kept : (n : ℕ) → n < length start → ¬ (groupAt l (firstLost l lost) (n % layers l) < G) → getD spare n 0 ≡ getD start n 0
+    crossed-is : crossed ≡ length lost * (l .helpers * G)
+    toCome-is : toCome ≡ length lost * (l .helpers * (groups l - G))
 
-  more : (G crossed toCome : ℕ) (spare : List ℕ) (budget : ℕ) (host′ spare′ : List ℕ) (g c t : ℕ) → ((j : ℕ) → j < layers l → SoundAlike f l (x .0) j host host′) →
-      RepairDone f l (x .0) helpers shares host′ G budget spare spare′ (report (Done g c t)) → Sofar G crossed toCome spare → Sofar (G + g) (crossed + c) t spare′
+  -- d symbols a group for each of the e weights
+  counts-add : (a b : ℕ) → length lost * (l .helpers * a) + length lost * (l .helpers * b) ≡ length lost * (l .helpers * (a + b))
+  counts-add a b = sym (mul-add (length lost) (l .helpers * a) (l .helpers * b)) ∙ ap (λ n. length lost * n) (sym (mul-add (l .helpers) a b))
+
+  more : (G crossed toCome : ℕ) (spare : List ℕ) (budget : ℕ) (host′ spare′ : List ℕ) (g c t : ℕ) → ((j : ℕ) → j < layers l → SoundAlike f l lost j host host′) →
+      RepairDone f l lost helpers shares host′ G budget spare spare′ (report (Done g c t)) → Sofar G crossed toCome spare → Sofar (G + g) (crossed + c) t spare′
   more G crossed toCome spare budget host′ spare′ g c t alike r s =
-      let given = repairable l (x .0) helpers (length shares) (length host′) (length spare) G (r .accepted) in
+      let made = repairable l lost helpers (length shares) (length host′) (length spare) G (r .accepted) in
       record {
         within = omega (arith, r .done-is, s .within);
         long = r .piece .long ∙ s .long;
-        sized = λ _. r .piece .long ∙ given .spare-long;
-        ruled = λ p h. elim (decLt p G) [
-          | yes k ↦ ruled-kept f l (x .0) helpers shares host p spare spare′ (λ j i e. r .piece .kept j i (λ w. omega arith)) (s .ruled p k)
-          | no k ↦ ruled-host host′ p spare′ alike (r .piece .done p (omega arith) h)
+        sized = λ _. r .piece .long ∙ made .spare-long;
+        ruled = λ p hp. elim (decLt p G) [
+          | yes k ↦ ruled-kept f l lost helpers shares host p spare spare′ (λ i hi j hj e. r .piece .kept i hi j hj (λ w. omega arith)) (s .ruled p k)
+          | no k ↦ ruled-host host′ p spare′ alike (r .piece .done p (omega arith) hp)
         ];
-        kept = λ j h out. r .piece .kept j (omega (arith, h, s .long, given .spare-long)) (λ w. out (w .1)) ∙ s .kept j h (λ w. out (omega arith));
-        crossed-is = ap₂ _+_ (s .crossed-is) (r .crossed-is) ∙ sym (mul-add (l .helpers) G g);
+        kept = λ n hn out.
+            kept-at n spare spare′ (omega (arith, hn, s .long, made .spare-long))
+            (λ i hi j hj e. r .piece .kept i hi j hj (λ w. out (subst (λ y. groupAt l (firstLost l lost) y < G + g) e (w .1))))
+            ∙ s .kept n hn (λ w. out (omega arith));
+        crossed-is = ap₂ _+_ (s .crossed-is) (r .crossed-is) ∙ counts-add G g;
         toCome-is = r .remaining-is;
       }
 
-  sofar : {G crossed toCome : ℕ} {spare : List ℕ} → Calls f l x helpers shares host start G crossed toCome spare → Sofar G crossed toCome spare
+  sofar : {G crossed toCome : ℕ} {spare : List ℕ} → Calls f l lost helpers shares host start G crossed toCome spare → Sofar G crossed toCome spare
   sofar none = record {
     within = omega arith;
     long = refl;
     sized = λ k. absurd (omega arith);
     ruled = λ p k. absurd (omega arith);
-    kept = λ j h out. refl;
-    crossed-is = sym (mul-zero (l .helpers));
-    toCome-is = ap (λ n. l .helpers * n) (omega arith);
+    kept = λ n hn out. refl;
+    crossed-is = sym (ap (λ n. length lost * n) (mul-zero (l .helpers)) ∙ mul-zero (length lost));
+    toCome-is = ap (λ n. length lost * (l .helpers * n)) (omega arith);
   }
   sofar (done {G = G} {crossed = k} {toCome = m} {spare = spare} before budget host′ spare′ g c t alike r) = more G k m spare budget host′ spare′ g c t alike r (sofar before)
-  sofar (refused {G = G} {crossed = k} {toCome = m} {spare = spare} before l′ x′ helpers′ shares′ host′ first budget spare′ e r) = subst (λ y. Sofar G k m y) (sym (r .kept)) (sofar before)
+  sofar (refused {G = G} {crossed = k} {toCome = m} {spare = spare} before l′ lost′ helpers′ shares′ host′ first budget spare′ e r) = subst (λ y. Sofar G k m y) (sym (r .kept)) (sofar before)
 
   some-group : 0 < groups l
   some-group = rw (ok .groups-are) (power-pos (digits l) (l .racks - 1) (ok .fits .some-digits))
 
-  -- one uncut call over a spare of L symbols, with the rule's own outcome
-  uncut-call : length shares ≡ l .helpers * groups l → length host ≡ l .size * layers l → (other : List ℕ) → length other ≡ layers l → Uncut f l x helpers shares host other
+  -- one uncut call over a spare of e·L symbols, with the rule's own outcome
+  uncut-call : length shares ≡ length lost * traffic l → length host ≡ l .size * layers l → (other : List ℕ) → length other ≡ length lost * layers l → Uncut f l lost helpers shares host other
   uncut-call es eh other eo =
-      let one = rule-one f l ok (x .0) helpers help shares host in
+      let one = rule-one f l ok lost helpers given shares host in
       record {
         written = one .outcome;
         done = groups l;
-        crossed = l .helpers * groups l;
-        toCome = l .helpers * (groups l - groups l);
+        crossed = length lost * (l .helpers * groups l);
+        toCome = length lost * (l .helpers * (groups l - groups l));
         answer = record {
-          accepted = accepted l (x .0) helpers _ _ _ 0 (record { adm = adm; shares-long = es; host-long = eh; spare-long = eo; help = help; first-in = omega arith });
+          accepted = accepted l lost helpers _ _ _ 0 (lost-high f l ok lost helpers given)
+              (record { adm = adm; shares-long = es; host-long = eh; spare-long = eo; losses = given; first-in = omega arith });
           done-is = omega arith;
           crossed-is = refl;
-          remaining-is = ap (λ n. l .helpers * (groups l - n)) (sym (zero-add (groups l)));
+          remaining-is = ap (λ n. length lost * (l .helpers * (groups l - n))) (sym (zero-add (groups l)));
           piece = record {
             long = one .long ∙ sym eo;
-            done = λ p h k. one .ruled p (omega arith);
-            kept = λ j h out. absurd (out (omega arith, omega (arith, group-below f l ok (x .0) helpers help j h)));
+            done = λ p hp k. one .ruled p (omega arith);
+            kept = λ i hi j hj out. absurd (out (omega arith, omega (arith, group-below f l ok (firstLost l lost) helpers (given .help) j hj)));
           };
         };
       }
 
   -- the cutting claim, for every list of calls
-  pub cutting : {G crossed toCome : ℕ} {spare : List ℕ} → Calls f l x helpers shares host start G crossed toCome spare → Cut f l x helpers shares host start G crossed toCome spare
+  pub cutting : {G crossed toCome : ℕ} {spare : List ℕ} → Calls f l lost helpers shares host start G crossed toCome spare → Cut f l lost helpers shares host start G crossed toCome spare
   cutting {G} {crossed} {toCome} {spare} calls =
       let s = sofar calls in
       record {
         within = s .within;
         long = s .long;
         ruled = s .ruled;
-        uncut = λ other one j h k.
+        uncut = λ other one i hi j hj k.
             let r = one .answer in
-            ruled-same f l ok (x .0) helpers help (groupAt l (x .0) j) (omega (arith, s .within)) shares shares host host spare (one .written) (s .ruled _ k)
-            (r .piece .done (groupAt l (x .0) j) (omega arith) (omega (arith, r .done-is, s .within, k))) (λ i hi. refl) (λ i hi e g hg d. refl) j h refl;
+            ruled-same f l ok lost helpers given (groupAt l (firstLost l lost) j) (omega (arith, s .within)) shares shares host host spare (one .written) (s .ruled _ k)
+            (r .piece .done (groupAt l (firstLost l lost) j) (omega arith) (omega (arith, r .done-is, s .within, k))) (λ m q hm hq. refl) (λ q hq e g hg d. refl) i hi j hj refl;
         uncut-is = uncut-call;
         kept = s .kept;
         whole = λ e c of.
-            rule-whole f l ok (x .0) helpers help shares host c of spare (s .sized (omega (arith, e, some-group))) (λ p h. s .ruled p (omega (arith, e, h)));
+            rule-whole f l ok lost helpers given shares host c of spare (s .sized (omega (arith, e, some-group))) (λ p hp. s .ruled p (omega (arith, e, hp)));
         crossed-is = s .crossed-is;
         toCome-is = s .toCome-is;
-        adds-up = ap₂ _+_ (s .crossed-is) (s .toCome-is) ∙ sym (mul-add (l .helpers) G (groups l - G)) ∙ ap (λ n. l .helpers * n) (omega (arith, s .within));
+        adds-up = ap₂ _+_ (s .crossed-is) (s .toCome-is) ∙ counts-add G (groups l - G) ∙ ap (λ n. length lost * (l .helpers * n)) (omega (arith, s .within));
       }
 
--- Any two done calls, whatever their first groups, over the same layout, lost tray and helpers, that both do group p and are alike in its d share symbols and in
--- the symbols of the host rack's sound trays at its layers, write the same symbols at its layers.
-pub same-group : {A : Type 0} (f : Field A) (l : Layout) → Usable f l → (x : Tray) (helpers : List ℕ) (one two : DoneCall f l x helpers) (p : ℕ) → Does one p → Does two p →
-    ((k : ℕ) → k < l .helpers → sharedSymbol f l (one .shares) p k ≡ sharedSymbol f l (two .shares) p k) →
-    ((j : ℕ) → j < layers l → groupAt l (x .0) j ≡ p → SoundAlike f l (x .0) j (one .host) (two .host)) →
-    (j : ℕ) → j < layers l → groupAt l (x .0) j ≡ p → getD (one .new) j 0 ≡ getD (two .new) j 0
-same-group f l ok x helpers one two p d e alike sound j h k =
+-- Any two done calls, whatever their first groups, over the same layout, lost trays and helpers, that both do group p and are alike in its e·d share symbols and
+-- in the symbols of the host rack's sound trays at its layers, write the same symbols at its layers.
+pub same-group : {A : Type 0} (f : Field A) (l : Layout) → Usable f l → (lost helpers : List ℕ) (one two : DoneCall f l lost helpers) (p : ℕ) → Does one p → Does two p →
+    ((m k : ℕ) → m < length lost → k < l .helpers → sentSymbol f l (length lost) (one .shares) m p k ≡ sentSymbol f l (length lost) (two .shares) m p k) →
+    ((j : ℕ) → j < layers l → groupAt l (firstLost l lost) j ≡ p → SoundAlike f l lost j (one .host) (two .host)) →
+    (i : ℕ) → i < length lost → (j : ℕ) → j < layers l → groupAt l (firstLost l lost) j ≡ p → getD (one .new) (i * layers l + j) 0 ≡ getD (two .new) (i * layers l + j) 0
+same-group f l ok lost helpers one two p d e alike sound i hi j hj k =
     let r = one .answer in
-    let given = repairable l (x .0) helpers (length (one .shares)) (length (one .host)) (length (one .old)) (one .first) (r .accepted) in
-    ruled-same f l ok (x .0) helpers (given .help) p (omega (arith, r .done-is, given .first-in)) (one .shares) (two .shares) (one .host) (two .host) (one .new) (two .new)
-    (r .piece .done p (d .0) (d .1)) (two .answer .piece .done p (e .0) (e .1)) alike sound j h k
+    let made = repairable l lost helpers (length (one .shares)) (length (one .host)) (length (one .old)) (one .first) (r .accepted) in
+    ruled-same f l ok lost helpers (made .losses) p (omega (arith, r .done-is, made .first-in)) (one .shares) (two .shares) (one .host) (two .host) (one .new) (two .new)
+    (r .piece .done p (d .0) (d .1)) (two .answer .piece .done p (e .0) (e .1)) alike sound i hi j hj k

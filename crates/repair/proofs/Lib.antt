@@ -2,4 +2,5 @@ pub mod Refusals
 pub mod Pieces
 pub mod Cutting
 pub mod Exact
+pub mod Single
 pub mod Instances

@@ -1,94 +1,80 @@
--- On a codeword's shares and sound trays the rule gives the codeword's lost tray.
+-- On a codeword's shares and sound trays the rule gives the codeword's lost trays.
 -- Assumes nothing.
-use mathlib.Core.Path.{_≡_, refl, sym, _∙_, ap, ap₂}
+use mathlib.Core.Path.{_≡_, refl, sym, _∙_, ap, ap₂, subst}
 use mathlib.Core.List.{List}
-use Prim.Native.Nat.{ℕ, _+_, _-_, _*_, _/_, _%_, _<_}
-use native.Mathlib.Nat.{mod-lt, div-add-mod'}
+use Prim.Native.Nat.{ℕ, _+_, _*_, _/_, _%_, _<_}
+use native.Mathlib.Nat.{div-add-mod', div-lt-iff-lt-mul, mod-lt}
 use native.Mathlib.Omega.{arith}
-use lib.Dec.{eqb}
+use lib.Arith.{digits-div, digits-mod}
 use lib.ListN.{length, getD}
 use lib.Seq.{ext-getD}
 use Rattle.lists.proofs.Numbers.{cell-in}
-use Rattle.algebra.specs.Field.{Ops}
-use Rattle.algebra.specs.Sum.{sum}
-use Rattle.algebra.specs.Erasure.{choose}
-use Rattle.algebra.specs.Shape.{Field, FieldLaws}
-use Rattle.algebra.specs.Points.{rackSum}
-use Rattle.algebra.proofs.Ring.{ring}
-use Rattle.algebra.proofs.Sum.{sum-congr}
-use Rattle.algebra.proofs.Cabinet.{codeword-solution}
+use Rattle.lists.proofs.Tables.{table-at, table-length}
+use Rattle.algebra.specs.Shape.{Field}
+use Rattle.algebra.specs.Points.{place, rackSum}
+use Rattle.algebra.proofs.Erasure.{fill-same, check-congr}
+use Rattle.algebra.proofs.Cabinet.{codeword-solution, sums-check}
 use Rattle.layout.specs.declared.Layout.{Layout}
 use Rattle.layout.specs.Layout.{trays, checks, layers, groups, parityRacks}
 use Rattle.codeword.specs.Codeword.{shapeOf, symbolAt, Usable}
 use Rattle.codeword.proofs.Buffers.{to-word, layers-pos}
-use Rattle.rule.specs.Rule.{rackPart, trayPart, groupAt, Helpers, soundSum, Ruled, Of}
-use Rattle.rule.proofs.Racks.{tray-at, tray-long, no-weight, sum-out, rack-at, share-word, sound-same}
-use Rattle.rule.proofs.Rule.{host-in, rule-one, group-below}
+use Rattle.rule.specs.Rule.{groupAt}
+use Rattle.rule.specs.Lost.{firstLost, lostPlace, lostPart, Losses, mended, Ruled, Of}
+use Rattle.rule.proofs.Racks.{rack-at, share-word}
+use Rattle.rule.proofs.Rule.{host-in, group-below}
+use Rattle.rule.proofs.Lost.{tray-is, lost-high, lost-places, rule-one}
 
-module _ {A : Type 0} (f : Field A) (l : Layout) (ok : Usable f l) (x : ℕ) (helpers : List ℕ) (help : Helpers l x helpers) (shares host c : List ℕ)
-    (of : Of f l x helpers shares host c) where
-  open Field f using (ops as o)
-  open FieldLaws (ok .field) using (laws as L)
-  open Ops (f .ops) using (add as _⊕_, neg, zero as 𝟘)
+-- symbol j of the i-th lost tray
+pub lost-at : (l : Layout) (lost c : List ℕ) (i j : ℕ) → i < length lost → j < layers l → getD (lostPart l lost c) (i * layers l + j) 0 ≡ getD c (getD lost i 0 * layers l + j) 0
+unfolding lostPart
+lost-at l lost c i j k hj =
+    table-at _ (length lost * layers l) (i * layers l + j) (cell-in (length lost) (layers l) i j k hj)
+    ∙ ap₂ (λ a b. getD c (getD lost a 0 * layers l + b) 0) (digits-div i hj) (digits-mod i hj)
 
-  infixl 60 _⊕_
-  -- the symbols of the host rack in layer j, and the rack's sum
-  symbols : ℕ → ℕ → A
-  symbols j g = symbolAt f l c (x / l .size * l .size + g) j
+pub lost-long : (l : Layout) (lost c : List ℕ) → length (lostPart l lost c) ≡ length lost * layers l
+unfolding lostPart
+lost-long l lost c = table-length _ (length lost * layers l)
 
-  sums : ℕ → ℕ → A
-  sums i j = rackSum (shapeOf f l) (λ y. symbolAt f l c y j) 0 i
+module _ {A : Type 0} (f : Field A) (l : Layout) (ok : Usable f l) (lost helpers : List ℕ) (given : Losses l lost helpers) (shares host c : List ℕ)
+    (of : Of f l lost helpers shares host c) where
+  abbrev h : ℕ
+  h = firstLost l lost / l .size
 
-  others : ℕ → A
-  others j = sum o (l .size) (λ g. choose (eqb g (x % l .size)) 𝟘 (symbols j g))
+  -- the host rack with the codeword's lost trays is the codeword's rack
+  mended-is : (j : ℕ) → j < layers l → (g : ℕ) → g < l .size → mended f l lost (lostPart l lost c) host j g ≡ symbolAt f l c (h * l .size + g) j
+  unfolding mended symbolAt
+  mended-is j hj g hg = sym (fill-same (lostPlace l lost) _ _ (length lost) (λ y. symbolAt f l c (h * l .size + y) j) g
+      (λ i k e. ap (f .coding .elem) (ap (λ y. getD c (y * layers l + j) 0) (ap (λ y. h * l .size + y) e ∙ tray-is f l ok lost helpers given i k) ∙ sym (lost-at l lost c i j k hj)))
+      (λ out. sym (of .sound j hj g hg out ∙ rack-at f l c h g j hg hj)))
 
-  others-are : (j : ℕ) → j < layers l → soundSum f l x host j ≡ others j
-  unfolding others soundSum symbols
-  others-are j h =
-      sound-same f l x j host (rackPart l c (x / l .size)) (of .sound j h)
-      ∙ sum-congr o (l .size) _ _ (λ g k. ap (choose (eqb g (x % l .size)) 𝟘) (rack-at f l c (x / l .size) g j k h))
+  -- the codeword's lost trays are as the rule fixes them
+  pub lost-ruled : (p : ℕ) → p < groups l → Ruled f l lost helpers shares host p (lostPart l lost c)
+  lost-ruled p inside = record {
+    sums = λ m i j. rackSum (shapeOf f l) (λ y. symbolAt f l c y j) m i;
+    solution = λ m hm.
+        let sol = codeword-solution (shapeOf f l) (ok .fits) h (host-in f l ok (firstLost l lost) helpers (given .help)) p (rw (ok .groups-are) at inside) m (λ k. getD helpers k 0)
+        (l .helpers) (parityRacks l) (checks l) (λ w hw. ok .enough w m hw (omega (arith, given .few))) (symbolAt f l c) (to-word f l c (of .codeword)) in
+        record { given = λ k hk. sol .given k hk ∙ sym (of .share m k p hm hk inside ∙ share-word f l m h c (getD helpers k 0) p); checks = sol .checks };
+    holds = λ j hj e m hm.
+        check-congr (f .ops) (ok .field .laws) (place (shapeOf f l)) (l .size) (lostPlace l lost) _ _ m (mended-is j hj)
+        ∙ sym (sums-check (shapeOf f l) (ok .fits) (lostPlace l lost) (length lost) (lost-places f l ok lost helpers given) (λ y. symbolAt f l c y j) m h);
+    symbols = λ i k j hj e. subst (λ n. n < f .coding .size) (sym (lost-at l lost c i j k hj))
+        (of .codeword .symbols .at _ (rw (of .codeword .long) (cell-in (trays l) (layers l) (getD lost i 0) j (lost-high f l ok lost helpers given i k) hj)));
+  }
 
-  sum-is : (j : ℕ) → sums (x / l .size) j ≡ symbols j (x % l .size) ⊕ others j
-  unfolding sums rackSum others symbols
-  sum-is j =
-      sum-congr o (l .size) _ (symbols j) (λ g k. no-weight o L _ _)
-      ∙ sum-out o L (l .size) (x % l .size) (symbols j) (mod-lt x (ok .fits .some-places))
+  -- on a codeword's shares and sound trays the rule gives the codeword's lost trays
+  pub rule-exact : (p : ℕ) → p < groups l → (spare : List ℕ) → Ruled f l lost helpers shares host p spare →
+      (i : ℕ) → i < length lost → (j : ℕ) → j < layers l → groupAt l (firstLost l lost) j ≡ p → getD spare (i * layers l + j) 0 ≡ getD (lostPart l lost c) (i * layers l + j) 0
+  rule-exact p inside spare r i k j hj e =
+      let one = rule-one f l ok lost helpers given shares host in
+      one .only p inside spare r i k j hj e ∙ sym (one .only p inside (lostPart l lost c) (lost-ruled p inside) i k j hj e)
 
-  less : (a b : A) → a ⊕ b ⊕ neg b ≡ a
-  less a b = simp (ring, L)
-
-  -- the host's sum less the sound symbols is the lost symbol
-  lost-is : (j : ℕ) → j < layers l → getD (trayPart l c x) j 0 ≡ f .coding .val (sums (x / l .size) j ⊕ neg (soundSum f l x host j))
-  unfolding symbols symbolAt
-  lost-is j h =
-      tray-at l c x j h
-      ∙ sym (ok .field .coded .val-elem _ (of .codeword .symbols .at (x * layers l + j) (rw (of .codeword .long) (cell-in (trays l) (layers l) x j (help .lost-in) h))))
-      ∙ ap (λ y. f .coding .val (f .coding .elem (getD c (y * layers l + j) 0))) (sym (div-add-mod' x (l .size)))
-      ∙ ap (f .coding .val) (sym (ap₂ (λ a b. a ⊕ neg b) (sum-is j) (others-are j h) ∙ less (symbols j (x % l .size)) (others j)))
-
-  -- the codeword's lost tray is as the rule fixes it
-  pub lost-ruled : (p : ℕ) → p < groups l → Ruled f l x helpers shares host p (trayPart l c x)
-  unfolding sums
-  lost-ruled p inside =
-      let sol = codeword-solution (shapeOf f l) (ok .fits) (x / l .size) (host-in f l ok x helpers help) p (rw (ok .groups-are) at inside) 0 (λ k. getD helpers k 0) (l .helpers) (parityRacks l)
-      (checks l) (λ w h. ok .enough w 0 h (omega (arith, mod-lt (l .dimension) (ok .fits .some-places)))) (symbolAt f l c) (to-word f l c (of .codeword)) in
-      record {
-        sums = sums;
-        solution = record { given = λ k h. sol .given k h ∙ sym (of .share k p h inside ∙ share-word f l 0 (x / l .size) c (getD helpers k 0) p); checks = sol .checks };
-        holds = λ j h e. lost-is j h;
-      }
-
-  -- on a codeword's shares and sound trays the rule gives the codeword's lost tray
-  pub rule-exact : (p : ℕ) → p < groups l → (spare : List ℕ) → Ruled f l x helpers shares host p spare →
-      (j : ℕ) → j < layers l → groupAt l x j ≡ p → getD spare j 0 ≡ getD (trayPart l c x) j 0
-  rule-exact p h spare r j k e =
-      let one = rule-one f l ok x helpers help shares host in
-      one .only p h spare r j k e ∙ sym (one .only p h (trayPart l c x) (lost-ruled p h) j k e)
-
-  -- so a spare that the rule fixes in every group is that tray
-  pub rule-whole : (spare : List ℕ) → length spare ≡ layers l → ((p : ℕ) → p < groups l → Ruled f l x helpers shares host p spare) → spare ≡ trayPart l c x
+  -- so a spare that the rule fixes in every group holds those trays
+  pub rule-whole : (spare : List ℕ) → length spare ≡ length lost * layers l → ((p : ℕ) → p < groups l → Ruled f l lost helpers shares host p spare) → spare ≡ lostPart l lost c
   rule-whole spare long ruled =
-      ext-getD 0 spare (trayPart l c x) (long ∙ sym (tray-long l c (trays l) x (layers-pos f l ok) (of .codeword .long) (help .lost-in))) (λ j h.
-      let k : j < layers l = rw long at h in
-      let g = group-below f l ok x helpers help j k in
-      rule-exact (groupAt l x j) g spare (ruled (groupAt l x j) g) j k refl)
+      ext-getD 0 spare (lostPart l lost c) (long ∙ sym (lost-long l lost c)) (λ n hn.
+      let k : n / layers l < length lost = div-lt-iff-lt-mul (layers-pos f l ok) .1 (rw long at hn) in
+      let m : n % layers l < layers l = mod-lt n (layers-pos f l ok) in
+      let g = group-below f l ok (firstLost l lost) helpers (given .help) (n % layers l) m in
+      subst (λ y. getD spare y 0 ≡ getD (lostPart l lost c) y 0) (div-add-mod' n (layers l))
+      (rule-exact _ g spare (ruled _ g) (n / layers l) k (n % layers l) m refl))

@@ -3,9 +3,8 @@
 use mathlib.Core.Path.{_≡_, refl, sym, _∙_, ap}
 use mathlib.Core.Bool.{Bool, true, false}
 use mathlib.Core.List.{List}
-use Prim.Native.Nat.{ℕ, _+_, _-_, _*_, _%_, _<_}
+use Prim.Native.Nat.{ℕ, _+_, _-_, _*_, _<_}
 use native.Mathlib.Nat.{mul-assoc, add-mul, add-assoc as plus-assoc}
-use native.Mathlib.Decide.{ℕ-discrete}
 use native.Mathlib.Omega.{arith}
 use lib.Dec.{eqb}
 use lib.ListN.{length, getD, drop, length-drop}
@@ -25,7 +24,7 @@ use Rattle.algebra.proofs.Cabinet.{choose-same, choose-other}
 use Rattle.layout.specs.declared.Layout.{Layout}
 use Rattle.layout.specs.Layout.{digits, layers}
 use Rattle.codeword.specs.Codeword.{shapeOf, symbolAt}
-use Rattle.rule.specs.Rule.{rackPart, trayPart, rackSymbol, weightedSum, shareSymbol, soundSum, SoundAlike}
+use Rattle.rule.specs.Rule.{rackPart, trayPart, rackSymbol, weightedSum, shareSymbol}
 
 cells : (i u n g j : ℕ) → i * (u * n) + (g * n + j) ≡ (i * u + g) * n + j
 cells i u n g j = ap (λ y. y + (g * n + j)) (sym (mul-assoc i u n)) ∙ sym (plus-assoc (i * u * n) (g * n) j) ∙ ap (λ y. y + j) (sym (add-mul (i * u) g n))
@@ -85,13 +84,3 @@ module _ {A : Type 0} (f : Field A) (l : Layout) where
   unfolding shareSymbol wordShare weightedSum rackSum
   share-word m h c i p =
       group-congr h p _ _ (λ j hj. sum-congr (f .ops) (l .size) _ _ (λ g hg. ap (mul (pow (f .ops) (place (shapeOf f l) g) m)) (rack-at c i g j hg hj)))
-
-  -- the sum of the sound trays hangs on them alone
-  pub sound-same : (x j : ℕ) (host host′ : List ℕ) → SoundAlike f l x j host host′ → soundSum f l x host j ≡ soundSum f l x host′ j
-  unfolding soundSum
-  sound-same x j host host′ alike = sum-congr (f .ops) (l .size) _ _ (λ g h. go g h (ℕ-discrete g (x % l .size)))
-    where
-      go : (g : ℕ) → g < l .size → Dec (g ≡ x % l .size) →
-          choose (eqb g (x % l .size)) zero (rackSymbol f l host g j) ≡ choose (eqb g (x % l .size)) zero (rackSymbol f l host′ g j)
-      go g h (yes e) = choose-same g (x % l .size) zero _ e ∙ sym (choose-same g (x % l .size) zero _ e)
-      go g h (no d) = ap (choose (eqb g (x % l .size)) zero) (alike g h d)

@@ -1,31 +1,26 @@
--- What inner functions are told, and the formula of what the rule fixes. Nothing here has to be believed.
+-- The formula of what the rule fixes. Nothing here has to be believed.
 -- Assumes nothing.
-use mathlib.Core.Path.{_≡_}
 use mathlib.Core.List.{List}
-use Prim.Native.Nat.{ℕ, _*_, _/_, _<_}
+use Prim.Native.Nat.{ℕ, _/_}
 use lib.ListN.{length, getD}
+use Rattle.algebra.specs.Erasure.{erased}
 use Rattle.algebra.specs.Shape.{Field}
+use Rattle.algebra.specs.Points.{place}
 use Rattle.algebra.specs.Layers.{digit, layerOf}
 use Rattle.algebra.specs.Repair.{hostSum}
 use Rattle.layout.specs.declared.Layout.{Layout}
-use Rattle.layout.specs.Layout.{digits, layers, parityRacks, Admissible}
+use Rattle.layout.specs.Layout.{digits, parityRacks}
 use Rattle.codeword.specs.Codeword.{shapeOf}
-use Rattle.rule.specs.Rule.{groupAt, sharedSymbol, soundSum}
+use Rattle.rule.specs.Rule.{groupAt, rackSymbol}
+use Rattle.rule.specs.Lost.{firstLost, lostPlace, sentSymbol}
 
--- a layer of a rack that lies in trays of so many layers
-pub record InRack (l : Layout) (total : ℕ) (rack : List ℕ) (j : ℕ) : Type 0 where
-  pub adm : Admissible l
-  pub total-is : total ≡ layers l
-  pub long : length rack ≡ l .size * layers l
-  pub layer-in : j < layers l
+-- the host's rack sum of weight m in layer j, and the number of the i-th lost tray there
+module _ {A : Type 0} (f : Field A) (l : Layout) (lost helpers shares : List ℕ) where
+  unfoldable pub layerSum : ℕ → ℕ → A
+  layerSum j m =
+      hostSum (shapeOf f l) (firstLost l lost / l .size) (digit (digits l) (layerOf (digits l) (firstLost l lost / l .size) (groupAt l (firstLost l lost) j) 0)) (λ k. getD helpers k 0)
+      (l .helpers) (parityRacks l) m (sentSymbol f l (length lost) shares m (groupAt l (firstLost l lost) j)) (digit (digits l) j (firstLost l lost / l .size))
 
-module _ {A : Type 0} (f : Field A) (l : Layout) (x : ℕ) (helpers shares : List ℕ) where
-  -- the host's rack sum in the layer of group p with digit a
-  unfoldable pub ruledSum : ℕ → ℕ → A
-  ruledSum p a =
-      hostSum (shapeOf f l) (x / l .size) (digit (digits l) (layerOf (digits l) (x / l .size) p 0)) (λ k. getD helpers k 0) (l .helpers) (parityRacks l) 0
-      (sharedSymbol f l shares p) a
-
-  -- what the rule fixes for layer j
-  unfoldable pub ruledSymbol : List ℕ → ℕ → ℕ
-  ruledSymbol host j = f .coding .val (f .ops .add (ruledSum (groupAt l x j) (digit (digits l) j (x / l .size))) (f .ops .neg (soundSum f l x host j)))
+  unfoldable pub lostSymbol : List ℕ → ℕ → ℕ → ℕ
+  lostSymbol host i j =
+      f .coding .val (erased (f .ops) (place (shapeOf f l)) (l .size) (lostPlace l lost) (length lost) (layerSum j) (λ g. rackSymbol f l host g j) i)

@@ -1,2 +1,3 @@
 pub mod Rule
+pub mod Lost
 pub mod Inner

@@ -1,4 +1,5 @@
--- Shares, groups and the rule of repair, as document 01 gives them, over any field. A rack's u·L numbers lie tray after tray.
+-- Shares, groups and document 01's rule of repair for one lost tray, over any field. A rack's u·L numbers lie tray after tray.
+-- The rule for several lost trays, which everything else here speaks of, is in Lost.antt; for one tray the two are the same (proofs/Single.antt).
 -- Assumes nothing.
 use mathlib.Core.Path.{_≡_}
 use mathlib.Core.List.{List}
@@ -14,7 +15,7 @@ use Rattle.algebra.specs.Layers.{groupOf}
 use Rattle.algebra.specs.Cabinet.{groupSum, Solution}
 use Rattle.layout.specs.declared.Layout.{Layout}
 use Rattle.layout.specs.Layout.{trays, digits, layers, groups, parityRacks}
-use Rattle.codeword.specs.Codeword.{shapeOf, symbolAt, Codeword}
+use Rattle.codeword.specs.Codeword.{shapeOf, symbolAt}
 
 -- rack i of a codeword, and tray x
 unfoldable pub rackPart : Layout → List ℕ → ℕ → List ℕ
@@ -54,7 +55,7 @@ module _ {A : Type 0} (f : Field A) (l : Layout) where
   unfoldable pub shareSymbol : ℕ → ℕ → List ℕ → ℕ → A
   shareSymbol m h rack p = groupSum (shapeOf f l) h p (weightedSum m rack)
 
-  -- symbol p of the k-th of several shares that lie one after another
+  -- symbol p of the k-th of several helpers' shares that lie one after another
   unfoldable pub sharedSymbol : List ℕ → ℕ → ℕ → A
   sharedSymbol shares p k = f .coding .elem (getD shares (k * groups l + p) 0)
 
@@ -64,31 +65,7 @@ module _ {A : Type 0} (f : Field A) (l : Layout) where
 
   -- the layers of group p in the spare hold what the rule fixes for the lost tray x: there are rack sums, by rack and layer, that solve the R checks
   -- t = u·w summed over the group and agree with the shares, and each symbol is the host rack's sum less the rack's other symbols
-  pub record Ruled (x : ℕ) (helpers shares host : List ℕ) (p : ℕ) (spare : List ℕ) : Type 0 where
+  pub record RuledOne (x : ℕ) (helpers shares host : List ℕ) (p : ℕ) (spare : List ℕ) : Type 0 where
     pub sums : ℕ → ℕ → A
     pub solution : Solution (shapeOf f l) 0 (x / l .size) p (λ k. getD helpers k 0) (l .helpers) (parityRacks l) (sharedSymbol shares p) sums
     pub holds : (j : ℕ) → j < layers l → groupAt l x j ≡ p → getD spare j 0 ≡ f .coding .val (add (sums (x / l .size) j) (neg (soundSum x host j)))
-
-  -- for every group there is an outcome, and only one
-  pub record One (x : ℕ) (helpers shares host : List ℕ) : Type 0 where
-    pub outcome : List ℕ
-    pub long : length outcome ≡ layers l
-    pub ruled : (p : ℕ) → p < groups l → Ruled x helpers shares host p outcome
-    pub only : (p : ℕ) → p < groups l → (spare : List ℕ) → Ruled x helpers shares host p spare →
-        (j : ℕ) → j < layers l → groupAt l x j ≡ p → getD spare j 0 ≡ getD outcome j 0
-
-  -- a piece of a repair has turned the spare old into new: the layers of its groups by the rule, every other layer as it was
-  pub record Piece (x : ℕ) (helpers shares host : List ℕ) (first count : ℕ) (old new : List ℕ) : Type 0 where
-    pub long : length new ≡ length old
-    pub done : (p : ℕ) → first ≤ p → p < first + count → Ruled x helpers shares host p new
-    pub kept : (j : ℕ) → j < layers l → Outside l x first count j → getD new j 0 ≡ getD old j 0
-
-  -- two host racks are alike in the symbols of the trays other than x in layer j
-  abbrev pub SoundAlike : ℕ → ℕ → List ℕ → List ℕ → Type 0
-  SoundAlike x j host host′ = (g : ℕ) → g < l .size → ¬ (g ≡ x % l .size) → rackSymbol host g j ≡ rackSymbol host′ g j
-
-  -- the shares and the sound trays of the host rack are those of the codeword c
-  pub record Of (x : ℕ) (helpers shares host c : List ℕ) : Type 0 where
-    pub codeword : Codeword f l c
-    pub share : (k p : ℕ) → k < l .helpers → p < groups l → sharedSymbol shares p k ≡ shareSymbol 0 (x / l .size) (rackPart l c (getD helpers k 0)) p
-    pub sound : (j : ℕ) → j < layers l → SoundAlike x j host (rackPart l c (x / l .size))

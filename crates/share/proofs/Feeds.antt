@@ -1,14 +1,13 @@
--- A share built up tray by tray: in any order, each tray fed once, it is document 01's share; a tray fed twice counts twice, and among bytes cancels.
+-- Shares built up tray by tray: in any order, each tray fed once, they are the rack's e shares; a tray fed twice counts twice, and among bytes cancels.
 -- Assumes nothing.
 use mathlib.Core.Bool.{Bool, true, false, cond}
 use mathlib.Core.Path.{_≡_, refl, sym, ap, ap₂, _∙_}
 use mathlib.Core.List.{List, [], _∷_}
-use Prim.Native.Nat.{ℕ, zero, suc, _+_, _*_, _<_}
+use Prim.Native.Nat.{ℕ, zero, suc, _+_, _*_, _%_, _≤_, _<_}
 use native.Mathlib.Nat.{one-mul}
 use native.Mathlib.Decide.{ℕ-discrete}
 use lib.Dec.{eqb}
 use lib.ListN.{length, getD}
-use borrow.Author.Tests.{eq-eqb, ne-eqb}
 use Rattle.lists.specs.Lists.{table}
 use Rattle.lists.proofs.Tables.{table-at, table-length, table-same, is-table}
 use Rattle.algebra.specs.Field.{Ops, Laws}
@@ -26,10 +25,10 @@ use Rattle.layout.specs.Layout.{layers, groups, Admissible}
 use Rattle.layout.proofs.Facts.{bounds}
 use Rattle.rule.specs.Rule.{trayPart}
 use Rattle.rule.proofs.Racks.{tray-long}
-use Rattle.share.specs.Share.{shareOf, partSymbol, fed, addRefusal, addBuffer}
+use Rattle.share.specs.Many.{sharesOf, manyRefusal, manyBuffer, partAt, fedMany, addManyRefusal, addManyBuffer}
 use Rattle.share.specs.Feeds.{count, cleared, Feeds, none, feed, refused}
-use Rattle.share.proofs.Refusals.{Shareable, tray-done, tray-shareable, add-refused, add-done}
-use Rattle.share.proofs.Parts.{parts-make}
+use Rattle.share.proofs.Refusals.{shareable, rack-grounds, tray-done, tray-shareable, buffer-done, add-refused, add-done}
+use Rattle.share.proofs.Parts.{all-parts}
 
 -- one tray more among those counted
 count-more : {A : Type 0} (o : Ops A) → Laws o → (places : List ℕ) (x g : ℕ) (a : A) →
@@ -41,126 +40,146 @@ count-more o L places x g a = go (eqb g x)
     go true = sum-suc o (count g places) (λ n. a)
     go false = sym (add-zero o L _)
 
-module _ {A : Type 0} (f : Field A) (laws : FieldLaws f) (l : Layout) where
+module _ {A : Type 0} (f : Field A) (laws : FieldLaws f) (l : Layout) (e : ℕ) where
   open Field f using (ops as o)
   open Ops (f .ops) using (add, zero)
 
   module _ (host x : ℕ) (symbols held : List ℕ) where
-    once-long : length (fed f l 0 host x symbols held) ≡ groups l
-    unfolding fed
-    once-long = table-length _ (groups l)
+    once-long : length (fedMany f l e host x symbols held) ≡ e * groups l
+    unfolding fedMany
+    once-long = table-length _ (e * groups l)
 
-    twice : fed f l 0 host x symbols (fed f l 0 host x symbols held)
-        ≡ table (λ p. f .coding .val (add (f .coding .elem (getD held p 0)) (add (partSymbol f l 0 host x symbols p) (partSymbol f l 0 host x symbols p)))) (groups l)
-    unfolding fed
-    twice = table-same _ _ (groups l) (λ p k.
-        ap (f .coding .val) (ap (λ y. add y (partSymbol f l 0 host x symbols p)) (ap (f .coding .elem) (table-at _ (groups l) p k) ∙ laws .coded .elem-val _)
+    twice : fedMany f l e host x symbols (fedMany f l e host x symbols held)
+        ≡ table (λ n. f .coding .val (add (f .coding .elem (getD held n 0)) (add (partAt f l host x symbols n) (partAt f l host x symbols n)))) (e * groups l)
+    unfolding fedMany
+    twice = table-same _ _ (e * groups l) (λ n k.
+        ap (f .coding .val) (ap (λ y. add y (partAt f l host x symbols n)) (ap (f .coding .elem) (table-at _ (e * groups l) n k) ∙ laws .coded .elem-val _)
         ∙ add-assoc o (laws .laws) _ _ _))
 
-    -- feeding a tray twice adds its part twice
-    pub fed-twice : addRefusal l host x (length symbols) (length held) ≡ 0 →
-        addBuffer f l host x symbols (addBuffer f l host x symbols held)
-        ≡ table (λ p. f .coding .val (add (f .coding .elem (getD held p 0)) (add (partSymbol f l 0 host x symbols p) (partSymbol f l 0 host x symbols p)))) (groups l)
-    fed-twice e =
-        ap (addBuffer f l host x symbols) (sym (add-done f l host x symbols held e))
-        ∙ sym (add-done f l host x symbols (fed f l 0 host x symbols held)
-        (ap (addRefusal l host x (length symbols)) (once-long ∙ sym (tray-shareable l host x _ _ e .room-long)) ∙ e))
+    -- feeding a tray twice adds its parts twice
+    pub fed-twice : addManyRefusal l e host x (length symbols) (length held) ≡ 0 →
+        addManyBuffer f l e host x symbols (addManyBuffer f l e host x symbols held)
+        ≡ table (λ n. f .coding .val (add (f .coding .elem (getD held n 0)) (add (partAt f l host x symbols n) (partAt f l host x symbols n)))) (e * groups l)
+    fed-twice q =
+        ap (addManyBuffer f l e host x symbols) (sym (add-done f l e host x symbols held q))
+        ∙ sym (add-done f l e host x symbols (fedMany f l e host x symbols held)
+        (ap (addManyRefusal l e host x (length symbols)) (once-long ∙ sym (tray-shareable l e host x _ _ q .room-long)) ∙ q))
         ∙ twice
 
-  module _ (a : Admissible l) (host i : ℕ) (host-in : host < l .racks) (rack-in : i < l .racks) (differ : ¬ (host ≡ i)) (rack : List ℕ) (long : length rack ≡ l .size * layers l)
-      (start : List ℕ) (room : length start ≡ groups l) (range : InRange (f .coding) start) where
-    -- symbol p of the part of the tray at place g
+  module _ (a : Admissible l) (host i : ℕ) (host-in : host < l .racks) (rack-in : i < l .racks) (some : 0 < e) (few : e + l .dimension % l .size ≤ l .size) (differ : ¬ (host ≡ i))
+      (rack : List ℕ) (long : length rack ≡ l .size * layers l) (start : List ℕ) (room : length start ≡ e * groups l) (range : InRange (f .coding) start) where
+    -- number n of the parts of the tray at place g
     part : ℕ → ℕ → A
-    part g p = partSymbol f l 0 host (i * l .size + g) (trayPart l rack g) p
+    part g n = partAt f l host (i * l .size + g) (trayPart l rack g) n
 
-    -- symbol p of what has been fed: each tray's part as often as it was fed
+    -- number n of what has been fed: each tray's part as often as it was fed
     total : List ℕ → ℕ → A
-    total places p = sum o (l .size) (λ g. sum o (count g places) (λ n. part g p))
+    total places n = sum o (l .size) (λ g. sum o (count g places) (λ k. part g n))
 
     after : List ℕ → List ℕ
-    after places = table (λ p. f .coding .val (add (f .coding .elem (getD start p 0)) (total places p))) (groups l)
+    after places = table (λ n. f .coding .val (add (f .coding .elem (getD start n 0)) (total places n))) (e * groups l)
 
-    total-none : (p : ℕ) → total [] p ≡ zero
+    total-none : (n : ℕ) → total [] n ≡ zero
     unfolding total count
-    total-none p = sum-is-zero o (laws .laws) (l .size) _ (λ g h. sum-zero o _)
+    total-none n = sum-is-zero o (laws .laws) (l .size) _ (λ g h. sum-zero o _)
 
-    total-more : (places : List ℕ) (g p : ℕ) → g < l .size → total (g ∷ places) p ≡ add (total places p) (part g p)
+    total-more : (places : List ℕ) (g n : ℕ) → g < l .size → total (g ∷ places) n ≡ add (total places n) (part g n)
     unfolding total
-    total-more places g p h =
-        sum-congr o (l .size) _ _ (λ y k. count-more o (laws .laws) places g y (part y p))
+    total-more places g n h =
+        sum-congr o (l .size) _ _ (λ y k. count-more o (laws .laws) places g y (part y n))
         ∙ sum-add o (laws .laws) (l .size) _ _
-        ∙ ap (add (sum o (l .size) (λ y. sum o (count y places) (λ n. part y p))))
+        ∙ ap (add (sum o (l .size) (λ y. sum o (count y places) (λ k. part y n))))
         (sum-single o (laws .laws) (l .size) g _ h (λ y k d. choose-other y g _ _ d) ∙ choose-same g g _ _ refl)
 
     after-none : start ≡ after []
     unfolding after
-    after-none = is-table start _ (groups l) room (λ p k.
-        sym (laws .coded .val-elem _ (range .at p (rw room k)))
-        ∙ ap (f .coding .val) (sym (add-zero o (laws .laws) _) ∙ ap (add (f .coding .elem (getD start p 0))) (sym (total-none p))))
+    after-none = is-table start _ (e * groups l) room (λ n k.
+        sym (laws .coded .val-elem _ (range .at n (rw room k)))
+        ∙ ap (f .coding .val) (sym (add-zero o (laws .laws) _) ∙ ap (add (f .coding .elem (getD start n 0))) (sym (total-none n))))
 
-    after-long : (places : List ℕ) → length (after places) ≡ groups l
+    after-long : (places : List ℕ) → length (after places) ≡ e * groups l
     unfolding after
-    after-long places = table-length _ (groups l)
+    after-long places = table-length _ (e * groups l)
 
-    after-more : (places : List ℕ) (g : ℕ) → g < l .size → fed f l 0 host (i * l .size + g) (trayPart l rack g) (after places) ≡ after (g ∷ places)
-    unfolding after fed part
-    after-more places g h = table-same _ _ (groups l) (λ p k.
+    after-more : (places : List ℕ) (g : ℕ) → g < l .size → fedMany f l e host (i * l .size + g) (trayPart l rack g) (after places) ≡ after (g ∷ places)
+    unfolding after fedMany part
+    after-more places g h = table-same _ _ (e * groups l) (λ n k.
         ap (f .coding .val) (
-        ap (λ y. add y (part g p)) (ap (f .coding .elem) (table-at _ (groups l) p k) ∙ laws .coded .elem-val _)
+        ap (λ y. add y (part g n)) (ap (f .coding .elem) (table-at _ (e * groups l) n k) ∙ laws .coded .elem-val _)
         ∙ add-assoc o (laws .laws) _ _ _
-        ∙ ap (add (f .coding .elem (getD start p 0))) (sym (total-more places g p h))))
+        ∙ ap (add (f .coding .elem (getD start n 0))) (sym (total-more places g n h))))
 
-    done : (places : List ℕ) (g : ℕ) → g < l .size → addRefusal l host (i * l .size + g) (length (trayPart l rack g)) (length (after places)) ≡ 0
-    done places g h = tray-done l host i g _ _ (record {
+    done : (places : List ℕ) (g : ℕ) → g < l .size → addManyRefusal l e host (i * l .size + g) (length (trayPart l rack g)) (length (after places)) ≡ 0
+    done places g h = tray-done l e host i g _ _ (record {
       adm = a;
       long = tray-long l rack (l .size) g (bounds l a .layers-low) long h ∙ sym (one-mul (layers l));
       room-long = after-long places;
       host-in = host-in;
       helper-in = rack-in;
+      some = some;
+      few = few;
       differ = differ;
     }) h
 
-    is-after : (places held : List ℕ) → Feeds f l host i rack start places held → held ≡ after places
+    is-after : (places held : List ℕ) → Feeds f l e host i rack start places held → held ≡ after places
     is-after _ _ none = after-none
     is-after _ _ (feed {places} {held} before g h) =
-        ap (addBuffer f l host (i * l .size + g) (trayPart l rack g)) (is-after places held before)
-        ∙ sym (add-done f l host (i * l .size + g) (trayPart l rack g) (after places) (done places g h))
+        ap (addManyBuffer f l e host (i * l .size + g) (trayPart l rack g)) (is-after places held before)
+        ∙ sym (add-done f l e host (i * l .size + g) (trayPart l rack g) (after places) (done places g h))
         ∙ after-more places g h
-    is-after places _ (refused {held = held} before l′ host′ x symbols e) = sym (add-refused f l′ host′ x symbols held e) ∙ is-after places held before
+    is-after places _ (refused {held = held} before l′ e′ host′ x symbols q) = sym (add-refused f l′ e′ host′ x symbols held q) ∙ is-after places held before
 
-    -- after any feeds the buffer holds what it held at first, plus each tray's part as often as it was fed
-    pub feeds-sum : (places held : List ℕ) → Feeds f l host i rack start places held →
-        held ≡ table (λ p. f .coding .val (add (f .coding .elem (getD start p 0))
-        (sum o (l .size) (λ g. sum o (count g places) (λ n. partSymbol f l 0 host (i * l .size + g) (trayPart l rack g) p))))) (groups l)
+    -- after any feeds the buffer holds what it held at first, plus each tray's parts as often as it was fed
+    pub feeds-sum : (places held : List ℕ) → Feeds f l e host i rack start places held →
+        held ≡ table (λ n. f .coding .val (add (f .coding .elem (getD start n 0))
+        (sum o (l .size) (λ g. sum o (count g places) (λ k. partAt f l host (i * l .size + g) (trayPart l rack g) n))))) (e * groups l)
     unfolding after total part
     feeds-sum = is-after
 
-    -- so from a cleared buffer, with each tray fed once, in any order, it is document 01's share
-    pub feeds-share : start ≡ cleared f l → (places held : List ℕ) → Feeds f l host i rack start places held → ((g : ℕ) → g < l .size → count g places ≡ 1) → held ≡ shareOf f l host rack
-    unfolding after cleared shareOf total part
-    feeds-share e places held feeds once = is-after places held feeds ∙ table-same _ _ (groups l) (λ p k.
+    -- so from a cleared buffer, with each tray fed once, in any order, it holds the rack's e shares
+    pub feeds-shares : start ≡ cleared f l e → (places held : List ℕ) → Feeds f l e host i rack start places held → ((g : ℕ) → g < l .size → count g places ≡ 1) →
+        held ≡ sharesOf f l e host rack
+    unfolding after cleared sharesOf total part
+    feeds-shares clear places held feeds once = is-after places held feeds ∙ table-same _ _ (e * groups l) (λ n k.
         ap (f .coding .val) (
-        ap₂ add (ap (λ s. f .coding .elem (getD s p 0)) e ∙ ap (f .coding .elem) (table-at _ (groups l) p k) ∙ laws .coded .elem-val zero)
-        (sum-congr o (l .size) _ _ (λ g h. ap (λ n. sum o n (λ m. part g p)) (once g h) ∙ one-term (part g p)) ∙ parts-make f laws l 0 host i rack p)
+        ap₂ add (ap (λ s. f .coding .elem (getD s n 0)) clear ∙ ap (f .coding .elem) (table-at _ (e * groups l) n k) ∙ laws .coded .elem-val zero)
+        (sum-congr o (l .size) _ _ (λ g h. ap (λ y. sum o y (λ m. part g n)) (once g h) ∙ one-term (part g n)) ∙ all-parts f laws l host i rack n)
         ∙ zero-add o (laws .laws) _))
       where
         one-term : (y : A) → sum o 1 (λ m. y) ≡ y
         one-term y = sum-suc o 0 _ ∙ ap (λ s. add s y) (sum-zero o _) ∙ zero-add o (laws .laws) y
+
+module _ {A : Type 0} (f : Field A) (laws : FieldLaws f) (l : Layout) (e : ℕ) where
+  cleared-long : length (cleared f l e) ≡ e * groups l
+  unfolding cleared
+  cleared-long = table-length _ (e * groups l)
+
+  cleared-range : InRange (f .coding) (cleared f l e)
+  unfolding cleared
+  cleared-range = record { at = λ n h. rw (table-at (λ n. f .coding .val (f .ops .zero)) (e * groups l) n (rw cleared-long at h)) (laws .coded .val-below _) }
+
+  -- and that is what the call for the whole rack writes, into whatever room of the right length
+  pub feeds-call : (host i : ℕ) (rack out : List ℕ) → manyRefusal l e host i (length rack) (length out) ≡ 0 →
+      (places held : List ℕ) → Feeds f l e host i rack (cleared f l e) places held → ((g : ℕ) → g < l .size → count g places ≡ 1) → held ≡ manyBuffer f l e host i rack out
+  feeds-call host i rack out h places held feeds once =
+      let p = shareable l e (l .size) host i _ _ (rack-grounds l e host i (length rack) (length out) ∙ h) in
+      feeds-shares f laws l e (p .adm) host i (p .host-in) (p .helper-in) (p .some) (p .few) (p .differ) rack (p .long) (cleared f l e) cleared-long cleared-range refl places held feeds once
+      ∙ buffer-done f l e host i rack out h
 
 both-cancel : (x y : Elem) → x ≡ ops .add x (ops .add y y)
 unfolding ops
 both-cancel x y = sym (add-zero ops (gf256-laws .laws) x) ∙ ap (ops .add x) (sym (gf256-laws .laws .neg-add y))
 
 -- among bytes a tray fed twice cancels: for any call, refused or done
-pub twice-cancels : (l : Layout) (host x : ℕ) (symbols held : List ℕ) → InRange (gf256 .coding) held →
-    addBuffer gf256 l host x symbols (addBuffer gf256 l host x symbols held) ≡ held
-twice-cancels l host x symbols held range = go (ℕ-discrete (addRefusal l host x (length symbols) (length held)) 0)
+pub twice-cancels : (l : Layout) (e host x : ℕ) (symbols held : List ℕ) → InRange (gf256 .coding) held →
+    addManyBuffer gf256 l e host x symbols (addManyBuffer gf256 l e host x symbols held) ≡ held
+twice-cancels l e host x symbols held range = go (ℕ-discrete (addManyRefusal l e host x (length symbols) (length held)) 0)
   where
-    go : Dec (addRefusal l host x (length symbols) (length held) ≡ 0) → addBuffer gf256 l host x symbols (addBuffer gf256 l host x symbols held) ≡ held
-    go (yes e) =
-        let room : length held ≡ groups l = tray-shareable l host x _ _ e .room-long in
-        fed-twice gf256 gf256-laws l host x symbols held e
-        ∙ sym (is-table held _ (groups l) room (λ p k.
-        sym (gf256-laws .coded .val-elem _ (range .at p (rw room k)))
-        ∙ ap (λ y. y .val) (both-cancel (gf256 .coding .elem (getD held p 0)) (partSymbol gf256 l 0 host x symbols p))))
-    go (no d) = ap (addBuffer gf256 l host x symbols) (sym (add-refused gf256 l host x symbols held d)) ∙ sym (add-refused gf256 l host x symbols held d)
+    go : Dec (addManyRefusal l e host x (length symbols) (length held) ≡ 0) → addManyBuffer gf256 l e host x symbols (addManyBuffer gf256 l e host x symbols held) ≡ held
+    go (yes q) =
+        let room : length held ≡ e * groups l = tray-shareable l e host x _ _ q .room-long in
+        fed-twice gf256 gf256-laws l e host x symbols held q
+        ∙ sym (is-table held _ (e * groups l) room (λ n k.
+        sym (gf256-laws .coded .val-elem _ (range .at n (rw room k)))
+        ∙ ap (λ y. y .val) (both-cancel (gf256 .coding .elem (getD held n 0)) (partAt gf256 l host x symbols n))))
+    go (no d) = ap (addManyBuffer gf256 l e host x symbols) (sym (add-refused gf256 l e host x symbols held d)) ∙ sym (add-refused gf256 l e host x symbols held d)

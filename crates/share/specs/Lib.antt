@@ -1,3 +1,4 @@
 pub mod Share
+pub mod Many
 pub mod Inner
 pub mod Feeds

@@ -37,13 +37,13 @@ addRefusal l host x given room =
 module _ {A : Type 0} (f : Field A) (l : Layout) where
   open Ops (f .ops) using (add, mul)
 
-  -- a helper's share for the host rack h
-  unfoldable pub shareOf : ℕ → List ℕ → List ℕ
-  shareOf h rack = table (λ p. f .coding .val (shareSymbol f l 0 h rack p)) (groups l)
+  -- a helper's share of weight m for the host rack h; document 01's has m = 0
+  unfoldable pub shareOf : ℕ → ℕ → List ℕ → List ℕ
+  shareOf m h rack = table (λ p. f .coding .val (shareSymbol f l m h rack p)) (groups l)
 
   -- what the room for the share holds after the call
   unfoldable pub shareBuffer : ℕ → ℕ → List ℕ → List ℕ → List ℕ
-  shareBuffer host helper rack out = cond (eqb (shareRefusal l host helper (length rack) (length out)) 0) (shareOf host rack) out
+  shareBuffer host helper rack out = cond (eqb (shareRefusal l host helper (length rack) (length out)) 0) (shareOf 0 host rack) out
 
   -- symbol p of tray x's part in its rack's share for the host rack h: the sum over the layers of group p of the tray's symbols, each times the m-th power
   -- of its place's factor; document 01's share has m = 0

@@ -6,6 +6,7 @@ use crate::files::{self, Page};
 use crate::numbers::Numbers;
 use crate::plate::Plate;
 use crate::screen::{Paint, Screen};
+use crate::words;
 use gesarumbo::{Rack, Refusal, Tested, Tray, ABSENT, DEMONSTRATION, LIVE};
 use std::path::{Path, PathBuf};
 
@@ -90,6 +91,11 @@ impl Folder {
         })
     }
 
+    /// A file of the folder.
+    pub fn file(&self, name: &str) -> PathBuf {
+        self.path.join(name)
+    }
+
     /// A tray's image file.
     pub fn image_path(&self, tray: Tray) -> PathBuf {
         image_path(&self.path, tray)
@@ -128,16 +134,16 @@ impl Folder {
         }
     }
 
-    /// The symbols of these trays one after another. All must be live but for one, which is left
+    /// The symbols of these trays one after another. All must be live but for some, which are left
     /// as zeros.
     pub fn joined(
         &self,
         trays: impl Iterator<Item = Tray>,
-        but: Option<Tray>,
+        but: &[Tray],
     ) -> Result<Vec<u8>, Failure> {
         let mut bytes = Vec::new();
         for tray in trays {
-            if Some(tray) == but {
+            if but.contains(&tray) {
                 bytes.resize(bytes.len() + self.numbers.layers, 0);
             } else {
                 bytes.extend_from_slice(self.symbols(tray)?);
@@ -148,7 +154,7 @@ impl Folder {
 
     /// The whole codeword; every tray must be live.
     pub fn codeword(&self) -> Result<Vec<u8>, Failure> {
-        self.joined(self.numbers.all_trays(), None)
+        self.joined(self.numbers.all_trays(), &[])
     }
 
     /// The codeword as far as it is there, with zeros for the other trays.
@@ -162,32 +168,41 @@ impl Folder {
         codeword
     }
 
-    /// The codeword with these symbols for one tray; nothing if another tray is missing too.
-    pub fn codeword_with(&self, tray: Tray, symbols: &[u8]) -> Option<Vec<u8>> {
-        let mut codeword = self.joined(self.numbers.all_trays(), Some(tray)).ok()?;
-        let start = tray.number() as usize * self.numbers.layers;
-        drop(codeword.splice(start..start + self.numbers.layers, symbols.iter().copied()));
+    /// The codeword with these symbols for some trays, one after another; nothing if another tray
+    /// is missing too.
+    pub fn codeword_with(&self, trays: &[Tray], symbols: &[u8]) -> Option<Vec<u8>> {
+        let layers = self.numbers.layers;
+        let mut codeword = self.joined(self.numbers.all_trays(), trays).ok()?;
+        for (tray, symbols) in trays.iter().zip(symbols.chunks(layers)) {
+            let start = tray.number() as usize * layers;
+            codeword[start..start + layers].copy_from_slice(symbols);
+        }
         Some(codeword)
     }
 
-    /// Tests the codeword with these symbols for one tray; nothing if another tray is missing too.
-    pub fn test_with(&self, tray: Tray, symbols: &[u8]) -> Result<Option<Tested>, Failure> {
+    /// Tests the codeword with these symbols for some trays; nothing if another tray is missing
+    /// too.
+    pub fn test_with(&self, trays: &[Tray], symbols: &[u8]) -> Result<Option<Tested>, Failure> {
         let test = |codeword: Vec<u8>| gesarumbo::test(self.plate.layout, &codeword);
-        let tested = self.codeword_with(tray, symbols).map(test);
+        let tested = self.codeword_with(trays, symbols).map(test);
         tested.transpose().map_err(Failure::refused("test"))
     }
 
-    /// The share of a helper rack for a host rack, worked out from the helper's trays.
-    pub fn share(&self, host: Rack, helper: Rack) -> Result<Vec<u8>, Failure> {
-        let mut share = vec![0; self.numbers.groups()];
+    /// What a helper rack sends for the repair of so many trays of a host rack, worked out from the
+    /// helper's trays: as many shares, one after another.
+    pub fn share(&self, count: u32, host: Rack, helper: Rack) -> Result<Vec<u8>, Failure> {
+        let trays = words::count(count as usize, "tray");
+        let about = format!("share of rack {helper} for {trays} of rack {host}");
+        // Any count above a rack's trays is refused as one more than these is.
+        let count = count.min(self.plate.layout.size + 1);
+        let mut share = vec![0; count as usize * self.numbers.groups()];
         let mut call = |rack: &[u8]| {
-            gesarumbo::share(self.plate.layout, host, helper, rack, &mut share).map_err(
-                Failure::refused(format!("share of rack {helper} for rack {host}")),
-            )
+            gesarumbo::share_many(self.plate.layout, count, host, helper, rack, &mut share)
+                .map_err(Failure::refused(&about))
         };
-        // The library judges the two numbers first, over zeros; then there is a rack to read.
+        // The library judges the numbers first, over zeros; then there is a rack to read.
         call(&vec![0; self.numbers.size * self.numbers.layers])?;
-        call(&self.joined(self.numbers.trays_of(helper), None)?)?;
+        call(&self.joined(self.numbers.trays_of(helper), &[])?)?;
         Ok(share)
     }
 

@@ -1,22 +1,23 @@
 //! The label of a repair: everything that its pieces must have in common, in a line.
 
 use crate::plate::Plate;
+use crate::words::trays;
 use gesarumbo::{Rack, Tray};
 
 /// What makes a repair this one.
 #[derive(PartialEq, Eq)]
 pub struct Label {
     pub plate: Plate,
-    pub lost: Tray,
+    pub lost: Vec<Tray>,
     pub helpers: Vec<Rack>,
-    /// Of the shares and the sound trays beside the lost one.
+    /// Of the shares and the sound trays beside the lost ones.
     pub fingerprint: u64,
 }
 
 impl Label {
     /// The label as a line.
     pub fn line(&self) -> String {
-        let subject = subject(self.plate, self.lost);
+        let subject = subject(self.plate, &self.lost);
         let helpers: Vec<String> = self.helpers.iter().map(Rack::to_string).collect();
         format!(
             "{subject}{} over {:016x}",
@@ -25,8 +26,8 @@ impl Label {
         )
     }
 
-    /// The label in a line, if it is of a repair of this tray of this cabinet.
-    pub fn parse(line: &str, plate: Plate, lost: Tray) -> Option<Label> {
+    /// The label in a line, if it is of a repair of just these trays of this cabinet.
+    pub fn parse(line: &str, plate: Plate, lost: &[Tray]) -> Option<Label> {
         let rest = line.strip_prefix(&subject(plate, lost))?;
         let (helpers, fingerprint) = rest.split_once(" over ")?;
         let helpers: Option<_> = helpers
@@ -35,19 +36,17 @@ impl Label {
             .collect();
         Some(Label {
             plate,
-            lost,
+            lost: lost.to_vec(),
             helpers: helpers?,
             fingerprint: u64::from_str_radix(fingerprint, 16).ok()?,
         })
     }
 }
 
-/// The line up to the helpers: what anyone knows who knows the lost tray and its cabinet.
-fn subject(plate: Plate, lost: Tray) -> String {
-    format!(
-        "repair of tray {lost} of {} volume {} by racks ",
-        plate.layout, plate.volume
-    )
+/// The line up to the helpers: what anyone knows who knows the lost trays and their cabinet.
+fn subject(plate: Plate, lost: &[Tray]) -> String {
+    let (lost, Plate { layout, volume }) = (trays(lost), plate);
+    format!("repair of {lost} of {layout} volume {volume} by racks ")
 }
 
 #[cfg(test)]
@@ -63,27 +62,34 @@ mod tests {
 
     #[test]
     fn a_label_is_read_as_it_is_written() {
-        let label = Label {
-            plate: PLATE,
-            lost: Tray::new(4),
-            helpers: [0, 2, 3].map(Rack::new).to_vec(),
-            fingerprint: 0xBEEF,
-        };
-        let line = label.line();
-        assert_eq!(
-            line,
-            "repair of tray 4 of (4, 3, 8, 3) volume 7 by racks 0 2 3 over 000000000000beef"
-        );
-        assert!(Label::parse(&line, PLATE, label.lost) == Some(label));
+        for (lost, words) in [(&[4][..], "tray 4"), (&[3, 4, 5], "trays 3, 4, 5")] {
+            let label = Label {
+                plate: PLATE,
+                lost: lost.iter().copied().map(Tray::new).collect(),
+                helpers: [0, 2, 3].map(Rack::new).to_vec(),
+                fingerprint: 0xBEEF,
+            };
+            let line = label.line();
+            assert_eq!(
+                line,
+                format!(
+                    "repair of {words} of (4, 3, 8, 3) volume 7 by racks 0 2 3 over \
+                     000000000000beef"
+                )
+            );
+            assert!(Label::parse(&line, PLATE, &label.lost) == Some(label));
+        }
     }
 
     #[test]
     fn labels_of_other_repairs_are_none() {
         let line = "repair of tray 4 of (4, 3, 8, 3) volume 7 by racks 0 2 3 over beef";
-        let reads = |line: &str, plate, lost| Label::parse(line, plate, Tray::new(lost)).is_some();
+        let reads =
+            |line: &str, plate, lost| Label::parse(line, plate, &[Tray::new(lost)]).is_some();
         assert!(reads(line, PLATE, 4));
         assert!(!reads(line, PLATE, 40));
         assert!(!reads(&line.replace("tray 4", "tray 40"), PLATE, 4));
+        assert!(!reads(&line.replace("tray 4", "trays 4, 5"), PLATE, 4));
         assert!(!reads(line, Plate { volume: 8, ..PLATE }, 4));
         let layout = Layout::new(4, 3, 7, 3);
         assert!(!reads(line, Plate { layout, ..PLATE }, 4));

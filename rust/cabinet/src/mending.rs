@@ -1,39 +1,41 @@
-//! Bringing back a lost tray: shares, pieces over a spare, and the test at the end.
+//! Bringing back lost trays of one rack: shares, pieces over a spare, and the test at the end.
 
 use crate::arguments::{Arguments, Setting};
 use crate::failure::Failure;
-use crate::files;
+use crate::files::{self, Page};
 use crate::folder::Folder;
 use crate::progress;
 use crate::screen::{Paint, Screen};
 use crate::spare::Spare;
 use crate::task::Task;
+use crate::words::trays;
 use gesarumbo::{Rack, Tested, Tray};
 use std::path::PathBuf;
 
 pub const SPARE: Setting = Setting::with(
     "--spare",
     "FILE",
-    "the work file, DIR/tray-XX.spare if not given",
+    "the work file; if not given, DIR/tray-XX.spare with the lost trays' numbers",
 );
 
-/// The work file that is named, or the one beside the tray's image.
-pub fn work_file(arguments: &Arguments, folder: &Folder, lost: Tray) -> PathBuf {
+/// The work file that is named, or the one beside the trays' images.
+pub fn work_file(arguments: &Arguments, folder: &Folder, lost: &[Tray]) -> PathBuf {
     let named = arguments.value(SPARE).map(PathBuf::from);
     named.unwrap_or_else(|| spare_path(folder, lost))
 }
 
-/// The work file beside the tray's image.
-pub fn spare_path(folder: &Folder, lost: Tray) -> PathBuf {
-    folder.image_path(lost).with_extension("spare")
+/// The work file beside the trays' images.
+pub fn spare_path(folder: &Folder, lost: &[Tray]) -> PathBuf {
+    let numbers: String = lost.iter().map(|tray| format!("-{tray:02}")).collect();
+    folder.file(&format!("tray{numbers}.spare"))
 }
 
 /// All helpers' shares, from the folder's own trays.
-pub fn shares(folder: &Folder, lost: Tray, helpers: &[Rack]) -> Result<Vec<u8>, Failure> {
-    let host = folder.numbers.rack_of(lost);
+pub fn shares(folder: &Folder, lost: &[Tray], helpers: &[Rack]) -> Result<Vec<u8>, Failure> {
+    let (count, host) = (lost.len() as u32, folder.numbers.host_of(lost));
     let shares: Result<Vec<_>, _> = helpers
         .iter()
-        .map(|helper| folder.share(host, *helper))
+        .map(|helper| folder.share(count, host, *helper))
         .collect();
     Ok(shares?.concat())
 }
@@ -61,18 +63,20 @@ pub fn work(
     }
 }
 
-/// Tests the finished tray with the others, writes its image and removes the work file.
+/// Tests the finished trays with the others, writes their images and removes the work file.
 pub fn finish(
     folder: &Folder,
-    lost: Tray,
+    lost: &[Tray],
     spare: Spare,
     screen: &mut Screen,
 ) -> Result<(), Failure> {
+    let names = trays(lost);
+    let are = if lost.len() == 1 { "is" } else { "are" };
     match folder.test_with(lost, &spare.symbols)? {
         Some(Tested::Bad { layer, check }) => {
             let place = spare.path().display();
             return Err(Failure::Contents(format!(
-                "tray {lost} and the others do not fit together (layer {layer}, check {check}): \
+                "{names} and the others do not fit together (layer {layer}, check {check}): \
                  some tray or share holds wrong symbols; no image is written, the spare is kept \
                  in {place}"
             )));
@@ -80,14 +84,17 @@ pub fn finish(
         Some(Tested::Sound) => {
             let sound = screen.paint(Paint::Good, "sound");
             screen.line(format!(
-                "  tray {lost} is whole; all trays together are {sound}"
+                "  {names} {are} whole; all trays together are {sound}"
             ));
         }
         None => screen.line(format!(
-            "  tray {lost} is whole; not tested, other trays are missing"
+            "  {names} {are} whole; not tested, other trays are missing"
         )),
     }
-    let (path, image) = folder.page(lost, &spare.symbols)?;
-    files::write_one(&path, image)?;
+    let whole = lost.iter().zip(spare.symbols.chunks(folder.numbers.layers));
+    let images: Result<Vec<Page>, _> = whole
+        .map(|(tray, symbols)| folder.page(*tray, symbols))
+        .collect();
+    files::write(&images?)?;
     spare.discard()
 }

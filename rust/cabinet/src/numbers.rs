@@ -133,6 +133,11 @@ impl Numbers {
         Rack::new(tray.number() / self.layout.size)
     }
 
+    /// The rack that the lost trays of a repair stand in, of which there is one at least.
+    pub fn host_of(&self, lost: &[Tray]) -> Rack {
+        self.rack_of(lost[0])
+    }
+
     /// The trays of a rack; none for a rack outside the layout.
     pub fn trays_of(self, rack: Rack) -> impl Iterator<Item = Tray> {
         self.all_trays()

@@ -37,8 +37,9 @@ pub fn piece(piece: &Piece) -> String {
         remaining,
     } = *piece;
     let which = run("group", first, end);
-    let bar = bar(end, groups, 16);
     let wide = (crossed + remaining).to_string().len();
+    // Numbers of six digits and more take their room from the bar.
+    let bar = bar(end, groups, 16 - 2 * wide.saturating_sub(5).min(8) as u64);
     let traffic = format!("{crossed:>wide$} crossed, {remaining:>wide$} to come");
     format!("  {which:<16} {bar} {end:>3} of {groups}: {traffic}")
 }

@@ -41,16 +41,16 @@ pub enum Source {
 }
 
 impl<'a> Reading<'a> {
-    /// Reading while a tray is under repair. Its work file must be of this tray and cabinet, and of
-    /// these shares and trays if they are all here.
+    /// Reading while one tray is under repair. Its work file must be of this tray alone and of this
+    /// cabinet, and of these shares and trays if they are all here.
     pub fn open(
         folder: &'a Folder,
         lost: Tray,
         path: &Path,
     ) -> Result<(Reading<'a>, Origin), Failure> {
-        let found = Spare::find(path, &folder.numbers, folder.plate, lost)?;
+        let found = Spare::find(path, &folder.numbers, folder.plate, &[lost])?;
         let (spare, origin) = match found {
-            None => (Spare::fresh(path, &folder.numbers), Origin::NoFile),
+            None => (Spare::fresh(path, &folder.numbers, 1), Origin::NoFile),
             Some((label, spare)) => (spare, compare(folder, &label, path)?),
         };
         Ok((Reading::of(folder, lost, spare), origin))
@@ -59,7 +59,8 @@ impl<'a> Reading<'a> {
     /// Reading a tray while none is under repair: another one, not asked for, stands in as lost.
     pub fn of_store(folder: &'a Folder, tray: Tray) -> Reading<'a> {
         let other = Tray::new(u32::from(tray.number() == 0));
-        Reading::of(folder, other, Spare::fresh(Path::new(""), &folder.numbers))
+        let spare = Spare::fresh(Path::new(""), &folder.numbers, 1);
+        Reading::of(folder, other, spare)
     }
 
     fn of(folder: &'a Folder, lost: Tray, spare: Spare) -> Reading<'a> {
@@ -112,7 +113,7 @@ impl<'a> Reading<'a> {
     /// Tests these layers of the spare with the other trays, by a walk over no others.
     fn test(&self, layers: Range<Layer>) -> Result<Source, Failure> {
         let (folder, lost) = (self.folder, self.lost);
-        let Some(codeword) = folder.codeword_with(lost, &self.spare.symbols) else {
+        let Some(codeword) = folder.codeword_with(&[lost], &self.spare.symbols) else {
             return Ok(Source::Untested);
         };
         let [first, end] = [layers.start, layers.end].map(Layer::number);
@@ -134,9 +135,9 @@ impl<'a> Reading<'a> {
 /// Holds a label against the folder's own shares and trays, if they are all here.
 fn compare(folder: &Folder, label: &Label, path: &Path) -> Result<Origin, Failure> {
     let Label { lost, helpers, .. } = label;
-    judge(&folder.numbers, *lost, helpers, 0).map_err(|_| foreign(path))?;
-    let task = mending::shares(folder, *lost, helpers)
-        .and_then(|shares| Task::new(folder, *lost, helpers.clone(), shares));
+    judge(&folder.numbers, lost, helpers, 0).map_err(|_| foreign(path))?;
+    let task = mending::shares(folder, lost, helpers)
+        .and_then(|shares| Task::new(folder, lost.clone(), helpers.clone(), shares));
     match task {
         Ok(task) if task.label() == label => Ok(Origin::Compared),
         Ok(_) => Err(foreign(path)),

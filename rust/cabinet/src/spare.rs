@@ -19,17 +19,18 @@ const DONE: &str = ", groups done ";
 /// A spare and how far its repair is.
 pub struct Spare {
     path: PathBuf,
+    /// Tray after tray, as they are listed.
     pub symbols: Vec<u8>,
     /// Groups done, from group 0.
     pub done: u64,
 }
 
 impl Spare {
-    /// A spare in which no group is done.
-    pub fn fresh(path: &Path, numbers: &Numbers) -> Spare {
+    /// A spare of so many trays in which no group is done.
+    pub fn fresh(path: &Path, numbers: &Numbers, trays: usize) -> Spare {
         Spare {
             path: path.to_path_buf(),
-            symbols: vec![0; numbers.layers],
+            symbols: vec![0; trays * numbers.layers],
             done: 0,
         }
     }
@@ -37,20 +38,20 @@ impl Spare {
     /// The spare of this repair as its work file has it; a fresh one if there is no such file.
     pub fn open(path: &Path, task: &Task) -> Result<Spare, Failure> {
         let label = task.label();
-        match Spare::find(path, task.numbers(), label.plate, label.lost)? {
-            None => Ok(Spare::fresh(path, task.numbers())),
+        match Spare::find(path, task.numbers(), label.plate, &label.lost)? {
+            None => Ok(Spare::fresh(path, task.numbers(), label.lost.len())),
             Some((found, spare)) if found == *label => Ok(spare),
             Some(_) => Err(foreign(path)),
         }
     }
 
-    /// The spare that the work file holds, with its label, which must be of this tray and cabinet;
-    /// nothing if there is no such file.
+    /// The spare that the work file holds, with its label, which must be of just these trays and of
+    /// this cabinet; nothing if there is no such file.
     pub fn find(
         path: &Path,
         numbers: &Numbers,
         plate: Plate,
-        lost: Tray,
+        lost: &[Tray],
     ) -> Result<Option<(Label, Spare)>, Failure> {
         let Some(bytes) = files::read(path).map_err(Failure::file(path))? else {
             return Ok(None);
@@ -83,8 +84,8 @@ impl Spare {
     }
 }
 
-/// The label, the groups done and the symbols of a work file of this tray and cabinet.
-fn parse(bytes: &[u8], plate: Plate, lost: Tray) -> Option<(Label, u64, &[u8])> {
+/// The label, the groups done and the symbols of a work file of these trays and this cabinet.
+fn parse<'a>(bytes: &'a [u8], plate: Plate, lost: &[Tray]) -> Option<(Label, u64, &'a [u8])> {
     let end = bytes.iter().position(|byte| *byte == b'\n')?;
     let (label, done) = str::from_utf8(&bytes[..end]).ok()?.split_once(DONE)?;
     let label = Label::parse(label, plate, lost)?;
@@ -94,7 +95,7 @@ fn parse(bytes: &[u8], plate: Plate, lost: Tray) -> Option<(Label, u64, &[u8])> 
 /// A work file that must not be used here.
 pub fn foreign(path: &Path) -> Failure {
     Failure::Contents(format!(
-        "{}: no work file of this repair; if it is of another repair (another tray or cabinet, \
+        "{}: no work file of this repair; if it is of another repair (other lost trays or cabinet, \
          other helpers, shares or trays), name a file for this one by --spare",
         path.display()
     ))

@@ -1,4 +1,4 @@
-//! The repair of one lost tray, done in pieces over a spare.
+//! The repair of lost trays of one rack, done in pieces over a spare.
 
 use crate::failure::Failure;
 use crate::fingerprint;
@@ -6,6 +6,7 @@ use crate::folder::Folder;
 use crate::label::Label;
 use crate::numbers::Numbers;
 use crate::progress;
+use crate::words::trays;
 use gesarumbo::{Rack, Tray};
 
 /// What stays fixed over all pieces of a repair.
@@ -13,7 +14,7 @@ pub struct Task {
     numbers: Numbers,
     label: Label,
     shares: Vec<u8>,
-    /// The host rack's trays, with zeros for the lost one.
+    /// The host rack's trays, with zeros for the lost ones.
     host: Vec<u8>,
 }
 
@@ -32,11 +33,16 @@ pub struct Piece {
 
 /// Lets the library judge the numbers of a repair before any share is needed: a repair of no group
 /// over zeros.
-pub fn judge(numbers: &Numbers, lost: Tray, helpers: &[Rack], first: u64) -> Result<(), Failure> {
-    let shares = vec![0; numbers.traffic()];
+pub fn judge(
+    numbers: &Numbers,
+    lost: &[Tray],
+    helpers: &[Rack],
+    first: u64,
+) -> Result<(), Failure> {
+    let shares = vec![0; lost.len() * numbers.traffic()];
     let host = vec![0; numbers.size * numbers.layers];
-    let mut spare = vec![0; numbers.layers];
-    gesarumbo::repair(
+    let mut spare = vec![0; lost.len() * numbers.layers];
+    gesarumbo::repair_many(
         numbers.layout,
         lost,
         helpers,
@@ -47,20 +53,20 @@ pub fn judge(numbers: &Numbers, lost: Tray, helpers: &[Rack], first: u64) -> Res
         0,
     )
     .map(|_| ())
-    .map_err(Failure::refused(format!("repair of tray {lost}")))
+    .map_err(Failure::refused(format!("repair of {}", trays(lost))))
 }
 
 impl Task {
-    /// The repair of a tray of this folder by these helpers' shares, of numbers already judged.
+    /// The repair of trays of this folder by these helpers' shares, of numbers already judged.
     pub fn new(
         folder: &Folder,
-        lost: Tray,
+        lost: Vec<Tray>,
         helpers: Vec<Rack>,
         shares: Vec<u8>,
     ) -> Result<Task, Failure> {
         let numbers = folder.numbers;
-        let rack = numbers.trays_of(numbers.rack_of(lost));
-        let host = folder.joined(rack, Some(lost))?;
+        let rack = numbers.trays_of(numbers.host_of(&lost));
+        let host = folder.joined(rack, &lost)?;
         let label = Label {
             plate: folder.plate,
             lost,
@@ -103,13 +109,15 @@ impl Task {
             ..
         } = &self.label;
         let (layout, shares, host) = (plate.layout, &self.shares, &self.host);
-        let done = gesarumbo::repair(layout, *lost, helpers, shares, host, spare, first, budget)
-            .map_err(Failure::refused(format!("repair of tray {lost}")))?;
+        let done =
+            gesarumbo::repair_many(layout, lost, helpers, shares, host, spare, first, budget)
+                .map_err(Failure::refused(format!("repair of {}", trays(lost))))?;
+        let of_group = (lost.len() * self.numbers.helpers) as u64;
         Ok(Piece {
             first,
             end: first + done.groups,
             groups: self.groups(),
-            crossed: first * self.numbers.helpers as u64 + done.crossed,
+            crossed: first * of_group + done.crossed,
             remaining: done.remaining,
         })
     }

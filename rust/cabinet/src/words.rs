@@ -1,5 +1,7 @@
 //! Numbers and words as people read them.
 
+use gesarumbo::Tray;
+
 /// Columns of a terminal.
 const WIDTH: usize = 80;
 
@@ -9,6 +11,13 @@ pub fn count(number: usize, thing: &str) -> String {
         1 => format!("1 {thing}"),
         _ => format!("{} {thing}s", grouped(number)),
     }
+}
+
+/// Trays by their numbers, tray 4 or trays 3, 4.
+pub fn trays(trays: &[Tray]) -> String {
+    let numbers: Vec<String> = trays.iter().map(Tray::to_string).collect();
+    let thing = if trays.len() == 1 { "tray" } else { "trays" };
+    format!("{thing} {}", numbers.join(", "))
 }
 
 /// A number as people read it, 24576 as 24,576.
@@ -48,7 +57,8 @@ pub fn hanging(head: &str, words: &str) -> String {
 
 #[cfg(test)]
 mod tests {
-    use super::{count, grouped, hanging};
+    use super::{count, grouped, hanging, trays};
+    use gesarumbo::Tray;
 
     #[test]
     fn long_words_hang() {
@@ -58,6 +68,12 @@ mod tests {
         let lines: Vec<&str> = text.lines().collect();
         assert_eq!(lines[0], format!("head {}", "word ".repeat(15).trim_end()));
         assert_eq!(lines[1], format!("     {}", "word ".repeat(5).trim_end()));
+    }
+
+    #[test]
+    fn trays_in_words() {
+        assert_eq!(trays(&[Tray::new(4)]), "tray 4");
+        assert_eq!(trays(&[3, 4, 5].map(Tray::new)), "trays 3, 4, 5");
     }
 
     #[test]

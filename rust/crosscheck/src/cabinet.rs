@@ -38,6 +38,32 @@ impl Cabinet {
         tray / self.layout[1]
     }
 
+    pub fn trays_of(&self, rack: u32) -> Vec<u32> {
+        let size = self.layout[1];
+        (rack * size..(rack + 1) * size).collect()
+    }
+
+    /// A number of lost trays that one repair can do.
+    pub fn lost_count(&self, random: &mut Random) -> usize {
+        1 + random.below(self.numbers.most_lost())
+    }
+
+    /// So many lost trays of some rack.
+    pub fn lost(&self, random: &mut Random, count: usize) -> Vec<u32> {
+        let rack = random.below(self.numbers.racks) as u32;
+        random.some_of(count, self.trays_of(rack))
+    }
+
+    /// So many lost trays of a tray's rack, this one among them.
+    pub fn lost_with(&self, random: &mut Random, tray: u32, count: usize) -> Vec<u32> {
+        let mut others = self.trays_of(self.rack_of(tray));
+        others.retain(|&other| other != tray);
+        let mut lost = random.some_of(count - 1, others);
+        lost.push(tray);
+        lost.sort();
+        lost
+    }
+
     /// The codeword of random data, by the second program.
     pub fn codeword(&self, random: &mut Random) -> Vec<u8> {
         let data = random.bytes(self.numbers.dimension * self.numbers.layers);

@@ -2,27 +2,30 @@
 
 use crate::answer::Answer;
 use crate::cabinet::Cabinet;
-use crate::calls::share;
+use crate::calls::repair::budget;
+use crate::calls::{share_many, Call};
 use crate::inputs::{Inputs, Value};
+use crate::pair;
 use crate::random::Random;
 
 #[derive(Clone, Debug)]
 pub struct Given {
     pub cabinet: Cabinet,
-    pub lost: u32,
+    /// Trays of one rack, rising.
+    pub lost: Vec<u32>,
     pub helpers: Vec<u32>,
     pub shares: Vec<u8>,
     pub host: Vec<u8>,
 }
 
 impl Given {
-    /// A random lost tray and random helpers, with the shares and sound trays
-    /// of a codeword or with any others.
-    pub fn draw(random: &mut Random, cabinet: &Cabinet) -> Given {
-        let lost = random.below(cabinet.numbers.trays) as u32;
+    /// Random helpers for these lost trays, with the shares and sound trays of a
+    /// codeword or with any others.
+    pub fn draw(random: &mut Random, cabinet: &Cabinet, lost: Vec<u32>) -> Given {
         if random.one_in(2) {
             let codeword = cabinet.codeword(random);
-            Given::of_codeword(random, cabinet, &codeword, lost, share::CALL.reference)
+            let answer = |call: &Call, inputs: &Inputs| (call.reference)(inputs);
+            Given::of_codeword(random, cabinet, &codeword, lost, answer)
         } else {
             Given::of_no_codeword(random, cabinet, lost)
         }
@@ -33,17 +36,18 @@ impl Given {
         random: &mut Random,
         cabinet: &Cabinet,
         codeword: &[u8],
-        lost: u32,
-        mut answer: impl FnMut(&Inputs) -> Answer,
+        lost: Vec<u32>,
+        mut answer: impl FnMut(&Call, &Inputs) -> Answer,
     ) -> Given {
-        let host = cabinet.rack_of(lost);
+        let host = host_of(cabinet, &lost);
         let helpers = helpers(random, cabinet, host);
         let mut shares = vec![];
         for &helper in &helpers {
             let rack = &codeword[cabinet.rack(helper)];
-            let noise = random.bytes(cabinet.numbers.groups);
-            let share = answer(&share::inputs(cabinet, host, helper, rack, noise));
-            shares.extend(share.buffer());
+            let noise = random.bytes(lost.len() * cabinet.numbers.groups);
+            let inputs = share_many::inputs(cabinet, lost.len(), host, helper, rack, noise);
+            let (call, inputs) = pair::SHARE.either(random, inputs);
+            shares.extend(answer(call, &inputs).buffer());
         }
         let host = codeword[cabinet.rack(host)].to_vec();
         Given {
@@ -55,9 +59,9 @@ impl Given {
         }
     }
 
-    fn of_no_codeword(random: &mut Random, cabinet: &Cabinet, lost: u32) -> Given {
-        let helpers = helpers(random, cabinet, cabinet.rack_of(lost));
-        let shares = random.bytes(cabinet.numbers.helpers * cabinet.numbers.groups);
+    fn of_no_codeword(random: &mut Random, cabinet: &Cabinet, lost: Vec<u32>) -> Given {
+        let helpers = helpers(random, cabinet, host_of(cabinet, &lost));
+        let shares = random.bytes(lost.len() * cabinet.numbers.helpers * cabinet.numbers.groups);
         let host = random.bytes(cabinet.rack(0).len());
         Given {
             cabinet: *cabinet,
@@ -68,15 +72,60 @@ impl Given {
         }
     }
 
-    /// The inputs of a piece. The host rack's bytes at the lost tray, which
-    /// nobody looks at, are noise of its own.
-    pub fn piece(&self, random: &mut Random, spare: &[u8], first: u64, budget: u64) -> Inputs {
-        let place = self.lost % self.cabinet.layout[1];
+    /// A spare that holds anything.
+    pub fn spare(&self, random: &mut Random) -> Vec<u8> {
+        random.bytes(self.lost.len() * self.cabinet.numbers.layers)
+    }
+
+    /// The group of a place in the spare or in the host rack.
+    pub fn group(&self, at: usize) -> usize {
+        let numbers = &self.cabinet.numbers;
+        let host = host_of(&self.cabinet, &self.lost);
+        numbers.group(host as usize, at % numbers.layers)
+    }
+
+    /// The symbols that cross for each group.
+    pub fn symbols(&self) -> i128 {
+        (self.lost.len() * self.cabinet.numbers.helpers) as i128
+    }
+
+    /// A piece by the call for several lost trays, or at random by the one for
+    /// one tray where one is lost.
+    pub fn piece(
+        &self,
+        random: &mut Random,
+        spare: &[u8],
+        first: u64,
+        budget: u64,
+    ) -> (&'static Call, Inputs) {
+        let inputs = self.inputs(random, spare, first, budget);
+        pair::REPAIR.either(random, inputs)
+    }
+
+    /// The inputs of some piece by the call for several lost trays.
+    pub fn some_piece(&self, random: &mut Random) -> Inputs {
+        let groups = self.cabinet.numbers.groups;
+        let first = match random.below(4) {
+            0 => 0,
+            1 => groups,
+            _ => random.below(groups),
+        };
+        let budget = budget(random, (groups - first) as u64);
+        let spare = self.spare(random);
+        self.inputs(random, &spare, first as u64, budget)
+    }
+
+    /// The host rack's bytes at the lost trays, which nobody looks at, are noise
+    /// of each piece's own.
+    fn inputs(&self, random: &mut Random, spare: &[u8], first: u64, budget: u64) -> Inputs {
         let mut host = self.host.clone();
-        host[self.cabinet.tray(place)].copy_from_slice(&random.bytes(self.cabinet.numbers.layers));
+        for tray in &self.lost {
+            let place = self.cabinet.tray(tray % self.cabinet.layout[1]);
+            host[place].copy_from_slice(&random.bytes(self.cabinet.numbers.layers));
+        }
         Inputs(vec![
             Value::Layout(self.cabinet.layout),
-            Value::Small(self.lost),
+            Value::List(self.lost.clone()),
             Value::List(self.helpers.clone()),
             Value::Bytes(self.shares.clone()),
             Value::Bytes(host),
@@ -85,6 +134,11 @@ impl Given {
             Value::Wide(budget),
         ])
     }
+}
+
+/// The rack of lost trays, any where there are none.
+fn host_of(cabinet: &Cabinet, lost: &[u32]) -> u32 {
+    lost.first().map_or(0, |&tray| cabinet.rack_of(tray))
 }
 
 fn helpers(random: &mut Random, cabinet: &Cabinet, host: u32) -> Vec<u32> {

@@ -23,6 +23,7 @@ pub mod given;
 pub mod inputs;
 pub mod lent;
 pub mod options;
+pub mod pair;
 pub mod random;
 pub mod run;
 pub mod source;

@@ -34,6 +34,11 @@ impl Source {
         }
     }
 
+    /// The layouts that are not large.
+    pub fn up_to_small(&self) -> impl Iterator<Item = &Cabinet> {
+        self.flat.iter().chain(&self.small)
+    }
+
     /// A random layout: mostly small, and most of these with several layers.
     pub fn cabinet(&mut self) -> Cabinet {
         let pool = if self.random.one_in(LARGE_ONE_IN) {

@@ -65,7 +65,7 @@ fn many_layers(random: &mut Random) -> [u32; 4] {
 }
 
 /// Numbers of a layout that something is measured by.
-fn landmarks(cabinet: &Cabinet) -> [usize; 12] {
+fn landmarks(cabinet: &Cabinet) -> [usize; 13] {
     let numbers = &cabinet.numbers;
     [
         0,
@@ -77,6 +77,7 @@ fn landmarks(cabinet: &Cabinet) -> [usize; 12] {
         numbers.checks,
         numbers.base,
         numbers.groups,
+        numbers.most_lost(),
         numbers.layers,
         numbers.helpers * numbers.groups,
         256,

@@ -103,9 +103,44 @@ extern "C" {
         share: *mut u8,
         share_length: usize,
     ) -> u32;
+    fn gesarumbo_share_many(
+        layout: Layout,
+        lost_count: u32,
+        host: Rack,
+        helper: Rack,
+        rack: *const u8,
+        rack_length: usize,
+        share: *mut u8,
+        share_length: usize,
+    ) -> u32;
+    fn gesarumbo_share_add_many(
+        layout: Layout,
+        lost_count: u32,
+        host: Rack,
+        tray: Tray,
+        symbols: *const u8,
+        symbols_length: usize,
+        share: *mut u8,
+        share_length: usize,
+    ) -> u32;
     fn gesarumbo_repair(
         layout: Layout,
         lost: Tray,
+        helpers: *const Rack,
+        count: usize,
+        shares: *const u8,
+        shares_length: usize,
+        host: *const u8,
+        host_length: usize,
+        spare: *mut u8,
+        spare_length: usize,
+        first: u64,
+        budget: u64,
+    ) -> Repaired;
+    fn gesarumbo_repair_many(
+        layout: Layout,
+        lost: *const Tray,
+        lost_count: usize,
         helpers: *const Rack,
         count: usize,
         shares: *const u8,
@@ -217,6 +252,52 @@ pub fn share_add(layout: Layout, host: Rack, tray: Tray, symbols: &[u8], share: 
     }
 }
 
+pub fn share_many(
+    layout: Layout,
+    lost_count: u32,
+    host: Rack,
+    helper: Rack,
+    rack: &[u8],
+    share: &mut [u8],
+) -> u32 {
+    // SAFETY: both slices are lent for the call, the written one alone.
+    unsafe {
+        gesarumbo_share_many(
+            layout,
+            lost_count,
+            host,
+            helper,
+            rack.as_ptr(),
+            rack.len(),
+            share.as_mut_ptr(),
+            share.len(),
+        )
+    }
+}
+
+pub fn share_add_many(
+    layout: Layout,
+    lost_count: u32,
+    host: Rack,
+    tray: Tray,
+    symbols: &[u8],
+    share: &mut [u8],
+) -> u32 {
+    // SAFETY: both slices are lent for the call, the written one alone.
+    unsafe {
+        gesarumbo_share_add_many(
+            layout,
+            lost_count,
+            host,
+            tray,
+            symbols.as_ptr(),
+            symbols.len(),
+            share.as_mut_ptr(),
+            share.len(),
+        )
+    }
+}
+
 #[allow(clippy::too_many_arguments)] // a repair has as many
 pub fn repair(
     layout: Layout,
@@ -233,6 +314,38 @@ pub fn repair(
         gesarumbo_repair(
             layout,
             lost,
+            helpers.as_ptr(),
+            helpers.len(),
+            shares.as_ptr(),
+            shares.len(),
+            host.as_ptr(),
+            host.len(),
+            spare.as_mut_ptr(),
+            spare.len(),
+            first,
+            budget,
+        )
+    }
+}
+
+#[allow(clippy::too_many_arguments)] // a repair has as many
+pub fn repair_many(
+    layout: Layout,
+    lost: &[Tray],
+    helpers: &[Rack],
+    shares: &[u8],
+    host: &[u8],
+    spare: &mut [u8],
+    first: u64,
+    budget: u64,
+) -> Repaired {
+    // SAFETY: all slices are lent for the call, the written one alone; trays and racks are 32-bit
+    // numbers.
+    unsafe {
+        gesarumbo_repair_many(
+            layout,
+            lost.as_ptr(),
+            lost.len(),
             helpers.as_ptr(),
             helpers.len(),
             shares.as_ptr(),

@@ -2,7 +2,8 @@
 
 use std::{error, fmt};
 
-/// Why a call was refused: the first ground that applies to it, in the order of their numbers.
+/// Why a call was refused: the first ground that applies to it, in the order of their numbers but
+/// for [`Refusal::LostCount`], which is tried right after [`Refusal::Count`].
 ///
 /// A refused call has changed no byte of any buffer it was lent.
 ///
@@ -43,12 +44,14 @@ pub enum Refusal {
     Demonstration = 10,
     /// The image is of another layout or volume.
     Other = 11,
+    /// The lost trays are not 1 to u − v, with v = k mod u.
+    LostCount = 12,
     /// A layer asked for of the lost tray is not in a group that is done.
     NotRepaired = 13,
 }
 
 /// Every ground with its words, in the order of their numbers.
-const GROUNDS: [(Refusal, &str); 12] = [
+const GROUNDS: [(Refusal, &str); 13] = [
     (Refusal::Layout, "the layout is not admissible"),
     (
         Refusal::Length,
@@ -73,6 +76,10 @@ const GROUNDS: [(Refusal, &str); 12] = [
     (Refusal::Malformed, "the image is malformed"),
     (Refusal::Demonstration, "the image is marked demonstration"),
     (Refusal::Other, "the image is of another layout or volume"),
+    (
+        Refusal::LostCount,
+        "there is no lost tray, or there are more of one rack than shares can repair",
+    ),
     (
         Refusal::NotRepaired,
         "a layer asked for is not yet repaired in the spare",
@@ -134,7 +141,7 @@ mod tests {
 
     #[test]
     fn no_other_number_is_a_ground() {
-        for number in [0, 12, 14, 255, 256 + 1, u32::MAX] {
+        for number in [0, 14, 255, 256 + 1, u32::MAX] {
             assert_eq!(Refusal::from_number(number), None);
         }
     }

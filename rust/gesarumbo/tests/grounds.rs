@@ -6,6 +6,7 @@ use std::fmt::Debug;
 
 const BAD: Layout = Layout::new(4, 4, 8, 3);
 const GOOD: Layout = Layout::new(4, 3, 8, 3); // 12 trays, 16 layers, 4 checks, 8 groups
+const LESS: Layout = Layout::new(4, 3, 7, 3); // the same, but 5 checks: two of a rack may be lost
 
 /// Asserts that a call is refused on this ground and leaves a buffer of this length.
 fn refused<T, F>(ground: Refusal, length: usize, call: F)
@@ -96,6 +97,48 @@ fn sharing_tray_by_tray() {
 }
 
 #[test]
+fn sharing_for_several() {
+    for (ground, layout, count, host, helper, rack, length) in [
+        (Refusal::Layout, BAD, 3, 4, 4, 47, 23),
+        (Refusal::Length, LESS, 3, 4, 4, 47, 24),
+        (Refusal::Length, LESS, 3, 4, 4, 48, 23),
+        (Refusal::Length, LESS, 1 << 29, 4, 4, 48, 0), // 2^32 bytes
+        (Refusal::Number, LESS, 3, 4, 4, 48, 24),
+        (Refusal::Number, LESS, 3, 0, 4, 48, 24),
+        (Refusal::LostCount, LESS, 3, 3, 3, 48, 24),
+        (Refusal::LostCount, LESS, 0, 3, 3, 48, 0),
+        (Refusal::LostCount, GOOD, 2, 3, 3, 48, 16),
+        (Refusal::Host, LESS, 2, 3, 3, 48, 16),
+    ] {
+        let (host, helper) = (Rack::new(host), Rack::new(helper));
+        refused(ground, length, |out| {
+            share_many(layout, count, host, helper, &vec![0; rack], out)
+        });
+    }
+}
+
+#[test]
+fn sharing_tray_by_tray_for_several() {
+    for (ground, layout, count, host, tray, symbols, length) in [
+        (Refusal::Layout, BAD, 3, 4, 12, 15, 23),
+        (Refusal::Length, LESS, 3, 4, 12, 15, 24),
+        (Refusal::Length, LESS, 3, 4, 12, 16, 23),
+        (Refusal::Length, LESS, 1 << 29, 4, 12, 16, 0),
+        (Refusal::Number, LESS, 3, 4, 11, 16, 24),
+        (Refusal::Number, LESS, 3, 3, 12, 16, 24),
+        (Refusal::LostCount, LESS, 3, 3, 11, 16, 24),
+        (Refusal::LostCount, LESS, 0, 3, 11, 16, 0),
+        (Refusal::LostCount, GOOD, 2, 3, 11, 16, 16),
+        (Refusal::Host, LESS, 2, 3, 11, 16, 16),
+    ] {
+        let (host, tray) = (Rack::new(host), Tray::new(tray));
+        refused(ground, length, |share| {
+            share_add_many(layout, count, host, tray, &vec![1; symbols], share)
+        });
+    }
+}
+
+#[test]
 fn repairing() {
     for (ground, layout, lost, helpers, shares, host, length) in [
         (Refusal::Layout, BAD, 12, &[1, 0, 4, 3][..], 25, 49, 15),
@@ -113,6 +156,38 @@ fn repairing() {
         let (shares, host) = (vec![0; shares], vec![0; host]);
         refused(ground, length, |spare| {
             repair(layout, lost, &helpers, &shares, &host, spare, 9, 0)
+        });
+    }
+}
+
+#[test]
+fn repairing_several() {
+    let outside = &[1, 0, 4, 3][..];
+    let [falling, four, own] = [&[1, 0, 2, 3][..], &[0, 1, 2, 3], &[0, 1, 3]];
+    for (ground, layout, lost, helpers, longer) in [
+        (Refusal::Layout, BAD, &[12, 9, 11][..], outside, [1, 1, 1]),
+        (Refusal::Length, LESS, &[12, 9, 11], outside, [1, 0, 0]),
+        (Refusal::Length, LESS, &[12, 9, 11], outside, [0, 1, 0]),
+        (Refusal::Length, LESS, &[12, 9, 11], outside, [0, 0, 1]),
+        (Refusal::Number, LESS, &[12, 9, 11], falling, [0; 3]),
+        (Refusal::Number, LESS, &[11, 8, 10], falling, [0; 3]),
+        (Refusal::Number, LESS, &[10, 9, 11], outside, [0; 3]),
+        (Refusal::Order, LESS, &[10, 9, 11], four, [0; 3]),
+        (Refusal::Order, LESS, &[9, 11, 11], four, [0; 3]),
+        (Refusal::Order, LESS, &[9, 10, 11], falling, [0; 3]),
+        (Refusal::Count, LESS, &[9, 10, 11], four, [0; 3]),
+        (Refusal::Count, LESS, &[], four, [0; 3]),
+        (Refusal::LostCount, LESS, &[9, 10, 11], own, [0; 3]),
+        (Refusal::LostCount, LESS, &[], own, [0; 3]),
+        (Refusal::LostCount, GOOD, &[9, 11], own, [0; 3]),
+        (Refusal::Host, LESS, &[9, 11], own, [0; 3]),
+        (Refusal::FirstGroup, LESS, &[9, 11], &[0, 1, 2], [0; 3]),
+    ] {
+        let (lost, helpers) = (trays(lost), racks(helpers));
+        let [shares, host, spare] = [24 * lost.len(), 48, 16 * lost.len()];
+        let (shares, host) = (vec![0; shares + longer[0]], vec![0; host + longer[1]]);
+        refused(ground, spare + longer[2], |spare| {
+            repair_many(layout, &lost, &helpers, &shares, &host, spare, 9, 0)
         });
     }
 }
@@ -267,7 +342,14 @@ fn nothing_lent_is_a_wrong_length() {
     refused(length, 0, |codeword| test(GOOD, codeword));
     refused(length, 0, |codeword| recover(GOOD, codeword, &[]));
     refused(length, 0, |out| share(GOOD, rack, rack, &[], out));
+    refused(length, 0, |out| share_many(GOOD, 1, rack, rack, &[], out));
+    refused(length, 0, |out| {
+        share_add_many(GOOD, 1, rack, tray, &[], out)
+    });
     refused(length, 0, |s| repair(GOOD, tray, &[], &[], &[], s, 0, 0));
+    refused(length, 0, |s| {
+        repair_many(GOOD, &[], &[], &[], &[], s, 0, 0)
+    });
     let none = Layer::new(0)..Layer::new(0);
     let read = read_part(GOOD, &[], &[], tray, 0, tray, none);
     assert_eq!(read, Err(length));

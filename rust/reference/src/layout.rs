@@ -114,6 +114,16 @@ impl Numbers {
         (tray.0 as usize) < self.trays
     }
 
+    /// The most lost trays that one repair can do: u − v.
+    pub fn most_lost(&self) -> usize {
+        self.size - self.dimension % self.size
+    }
+
+    /// Whether one repair can do so many lost trays.
+    pub fn can_lose(&self, count: usize) -> bool {
+        (1..=self.most_lost()).contains(&count)
+    }
+
     /// Digit `rack` of a layer in base s, digit 0 the lowest.
     pub fn digit(&self, layer: usize, rack: usize) -> usize {
         layer / self.base.pow(rack as u32) % self.base

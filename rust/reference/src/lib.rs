@@ -31,9 +31,9 @@ pub use margin::margin;
 pub use part::{read_part, Asked, Part, Source};
 pub use recover::recover;
 pub use refusal::Refusal;
-pub use repair::{repair, Given, Repaired};
+pub use repair::{repair, repair_many, Given, GivenMany, Repaired};
 pub use scrub::{bad_layers, scrub, scrub_reset, Report, ScrubRecord};
-pub use share::{share, share_add};
+pub use share::{share, share_add, share_add_many, share_many};
 pub use store::store;
 pub use test::{test, Tested};
 

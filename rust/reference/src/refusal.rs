@@ -1,6 +1,6 @@
 //! When a call says no.
 
-/// The grounds of refusal, with the numbers of documents 01 and 02.
+/// The grounds of refusal, with the documents' numbers.
 #[derive(Clone, Copy, Debug, PartialEq, Eq)]
 pub enum Refusal {
     Layout = 1,
@@ -14,6 +14,8 @@ pub enum Refusal {
     Malformed = 9,
     Demonstration = 10,
     Other = 11,
+    /// Tried right after `Count`.
+    LostCount = 12,
     NotRepaired = 13,
 }
 

@@ -1,66 +1,185 @@
-//! A walk over a codeword's layers, whole and in pieces.
+//! W6: the walk against the test of the whole codeword.
 
 mod common;
 
-use common::{codeword, SHAPES};
+use common::{codeword, seen_by_one, Dice, SHAPES};
+use reference::checks::Checks;
 use reference::*;
 
-/// The record after the calls of these budgets, from a reset on, and the last report.
-fn walk(layout: Layout, codeword: &[u8], budgets: &[u64]) -> (Report, ScrubRecord) {
+/// A codeword with so many symbols damaged.
+fn damaged(layout: Layout, count: usize, dice: &mut Dice) -> Vec<u8> {
+    let mut symbols = codeword(layout, u64::from(dice.byte()));
+    for _ in 0..count {
+        let at = dice.below(symbols.len());
+        symbols[at] ^= dice.byte() | 1;
+    }
+    symbols
+}
+
+/// The bad layers below a layer, each found by testing the whole with all
+/// other layers taken as zero, which is sound.
+fn bad_below(layout: Layout, symbols: &[u8], below: usize) -> Vec<u32> {
+    let numbers = layout.numbers().unwrap();
+    let alone = |layer: usize| -> Vec<u8> {
+        let keep = |(at, &symbol): (usize, &u8)| {
+            if at % numbers.layers == layer {
+                symbol
+            } else {
+                0
+            }
+        };
+        symbols.iter().enumerate().map(keep).collect()
+    };
+    (0..below)
+        .filter(|&layer| test(layout, &alone(layer)) != Ok(Tested::Sound))
+        .map(|layer| layer as u32)
+        .collect()
+}
+
+/// A walk in random steps, tried after each of them.
+fn walk(layout: Layout, symbols: &[u8], dice: &mut Dice) {
+    let numbers = layout.numbers().unwrap();
+    let all = bad_below(layout, symbols, numbers.layers);
     let mut record = scrub_reset(layout).unwrap();
     let mut report = Report::Unfinished;
-    for &budget in budgets {
-        (report, record) = scrub(layout, codeword, record, budget).unwrap();
+    while report == Report::Unfinished {
+        let budget = dice.below(numbers.layers / 2 + 2);
+        let before = record;
+        (report, record) = scrub(layout, symbols, record, budget as u64).unwrap();
+        let left = numbers.layers - before.next as usize;
+        assert_eq!(
+            record.next as usize,
+            before.next as usize + budget.min(left)
+        );
+        let bad: Vec<u32> = all
+            .iter()
+            .copied()
+            .filter(|&layer| layer < record.next)
+            .collect();
+        assert_eq!(record.bad as usize, bad.len());
+        let none = numbers.layers as u32;
+        assert_eq!(record.first, bad.first().copied().unwrap_or(none));
+        let finished = record.next == none;
+        assert_eq!(report != Report::Unfinished, finished);
     }
-    (report, record)
+    match test(layout, symbols).unwrap() {
+        Tested::Sound => assert_eq!((report, record.bad), (Report::Sound, 0)),
+        Tested::Bad { layer, .. } => assert_eq!((report, record.first), (Report::Bad, layer.0)),
+    }
+    // At the end nothing is left to look at, and the report stays.
+    let again = scrub(layout, symbols, record, u64::MAX);
+    assert_eq!(again, Ok((report, record)));
 }
 
 #[test]
-fn a_sound_codeword_and_one_with_two_bad_layers() {
+fn walks_find_what_the_test_finds() {
+    let mut dice = Dice::new(31);
+    for shape in SHAPES {
+        let layout = Layout::from(shape);
+        for count in [0, 1, 2, 5, 20] {
+            let symbols = damaged(layout, count, &mut dice);
+            walk(layout, &symbols, &mut dice);
+        }
+    }
+    let single = Layout::from([2, 17, 17, 1]);
+    walk(single, &damaged(single, 0, &mut dice), &mut dice);
+    walk(single, &damaged(single, 1, &mut dice), &mut dice);
+}
+
+/// In (10, 3, 24, 9) too, where the whole takes longer.
+#[test]
+fn a_walk_of_the_large_cabinet() {
+    let mut dice = Dice::new(32);
+    let layout = Layout::from([10, 3, 24, 9]);
+    let symbols = damaged(layout, 3, &mut dice);
+    let record = scrub_reset(layout).unwrap();
+    let (report, at_once) = scrub(layout, &symbols, record, u64::MAX).unwrap();
+    assert_eq!(report, Report::Bad);
+    let mut in_pieces = record;
+    while in_pieces.next < 1024 {
+        let budget = dice.below(400) as u64;
+        (_, in_pieces) = scrub(layout, &symbols, in_pieces, budget).unwrap();
+    }
+    assert_eq!(in_pieces, at_once);
+    let first = test(layout, &symbols).unwrap();
+    assert!(matches!(first, Tested::Bad { layer, .. } if layer.0 == at_once.first));
+}
+
+/// Each layer is looked at by all r checks.
+#[test]
+fn a_damage_that_one_check_sees() {
     for shape in SHAPES {
         let layout = Layout::from(shape);
         let numbers = layout.numbers().unwrap();
-        let layers = numbers.layers as u32;
-        let mut codeword = codeword(layout, 7);
-        let whole = [u64::MAX];
-        let none = ScrubRecord {
-            next: layers,
-            bad: 0,
-            first: layers,
-        };
-        assert_eq!(walk(layout, &codeword, &whole), (Report::Sound, none));
-        let [early, late] = [layers / 3, layers - 1];
-        codeword[early as usize] ^= 1;
-        codeword[numbers.layers + late as usize] ^= 9;
-        let two = ScrubRecord {
-            next: layers,
-            bad: 2,
-            first: early,
-        };
-        assert_eq!(walk(layout, &codeword, &whole), (Report::Bad, two));
-        assert_eq!(
-            walk(layout, &codeword, &[0, 1, 2, u64::MAX]),
-            (Report::Bad, two)
-        );
-        let before = [u64::from(late)];
-        let one = ScrubRecord {
-            next: late,
-            bad: 1,
-            first: early,
-        };
-        assert_eq!(walk(layout, &codeword, &before), (Report::Unfinished, one));
+        let checks = Checks::new(numbers);
+        let whole = codeword(layout, 36);
+        for seen in 0..numbers.checks {
+            let layer = seen % numbers.layers;
+            let mut symbols = whole.clone();
+            let damage = seen_by_one(&checks, numbers.checks, layer, seen);
+            for (tray, symbol) in damage.iter().enumerate() {
+                symbols[tray * numbers.layers + layer] ^= symbol;
+            }
+            assert_eq!(bad_layers(numbers, &symbols, 0..numbers.layers), [layer]);
+        }
     }
 }
 
-/// The report goes by the record, also where a record tells of no walk over the codeword.
 #[test]
-fn a_finished_record_is_believed() {
-    let layout = Layout::from([2, 1, 1, 1]);
-    let sound = ScrubRecord {
-        next: 1,
+fn bad_layers_are_those_with_a_broken_check() {
+    let layout = Layout::from([4, 3, 5, 2]);
+    let numbers = layout.numbers().unwrap();
+    let mut symbols = codeword(layout, 33);
+    for layer in [3, 4, 15] {
+        symbols[layer % 12 * 16 + layer] ^= 0x80;
+    }
+    assert_eq!(bad_layers(numbers, &symbols, 0..16), [3, 4, 15]);
+    assert_eq!(bad_layers(numbers, &symbols, 4..15), [4]);
+    assert_eq!(bad_layers(numbers, &symbols, 5..5), [0; 0]);
+}
+
+/// The report is about the record: one that says sound at L is sound, and one
+/// that counts more bad layers than can be is none of W6's refusals.
+#[test]
+fn the_record_is_believed() {
+    let layout = Layout::from([3, 1, 1, 2]);
+    let bad = [0, 1, 2, 3, 4, 5, 6, 7].repeat(3);
+    let over = ScrubRecord {
+        next: 8,
         bad: 0,
+        first: 8,
+    };
+    assert_eq!(scrub(layout, &bad, over, 5), Ok((Report::Sound, over)));
+    let impossible = ScrubRecord {
+        next: 2,
+        bad: 2,
         first: 1,
     };
-    let answer = scrub(layout, &[0xA7, 0xA6], sound, 5);
-    assert_eq!(answer, Ok((Report::Sound, sound)));
+    let unmoved = scrub(layout, &bad, impossible, 0);
+    assert_eq!(unmoved, Ok((Report::Unfinished, impossible)));
+    let reset = scrub_reset(layout).unwrap();
+    let unmoved = scrub(layout, &bad, reset, 0);
+    assert_eq!(unmoved, Ok((Report::Unfinished, reset)));
+}
+
+/// Only the layers of a step are looked at.
+#[test]
+fn other_layers_do_not_matter() {
+    let layout = Layout::from([4, 3, 8, 3]);
+    let mut dice = Dice::new(34);
+    let symbols = codeword(layout, 35);
+    let record = ScrubRecord {
+        next: 5,
+        bad: 0,
+        first: 16,
+    };
+    let mut elsewhere = dice.bytes(symbols.len());
+    for tray in 0..12 {
+        for layer in 5..9 {
+            elsewhere[tray * 16 + layer] = symbols[tray * 16 + layer];
+        }
+    }
+    let after = scrub(layout, &elsewhere, record, 4).unwrap();
+    assert_eq!(after, scrub(layout, &symbols, record, 4).unwrap());
+    assert_eq!((after.1.next, after.1.bad), (9, 0));
 }

@@ -2,9 +2,8 @@
 
 mod common;
 
-use common::{codeword, rack_of, scattered, shares, SHAPES};
+use common::{codeword, rack_of, scattered, seen_by_one, shares, SHAPES};
 use reference::checks::{point, Checks};
-use reference::elimination::solve;
 use reference::field::power;
 use reference::*;
 
@@ -96,16 +95,6 @@ fn lost_bytes_are_not_looked_at() {
         erased[..numbers.layers].copy_from_slice(&scattered(6, numbers.layers));
         assert_eq!(recover(layout, &erased, &[Tray(0)]), Ok(whole));
     }
-}
-
-/// What to add in a layer to the first r trays so that, of all checks, just one
-/// sees it.
-fn seen_by_one(checks: &Checks, count: usize, layer: usize, seen: usize) -> Vec<u8> {
-    let equation = |t| {
-        let coefficients = (0..count).map(|tray| checks.coefficient(tray, layer, t));
-        coefficients.chain([u8::from(t == seen)]).collect()
-    };
-    solve((0..count).map(equation).collect(), count).unwrap()
 }
 
 /// Slip 5: with fewer than r trays erased, survivors left untested. Survivors

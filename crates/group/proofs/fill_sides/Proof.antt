@@ -11,16 +11,16 @@ use Rattle.group.proofs.fill_sides.Statement.{statement}
 use Rattle.group.proofs.fill_sides.Tie as tie
 
 abbrev Inv-loop : tie.InvT-loop
-Inv-loop l h helpers shares p out₀ w₀ out w = (w ≤ length out₀) × Upto (λ k. (rightSide l h p helpers shares k) .val) out₀ out w
+Inv-loop l h helpers shares e m p out₀ w₀ out w = (w ≤ length out₀) × Upto (λ k. (rightSide l h p helpers shares e m k) .val) out₀ out w
 
 abbrev μ-loop : tie.MeasureT-loop
-μ-loop l h helpers shares p out₀ w₀ out w = length out₀ - w
+μ-loop l h helpers shares e m p out₀ w₀ out w = length out₀ - w
 
 pub fill-sides-spec : {M : Type 1} → statement M
 fill-sides-spec =
     tie.close (tie.spec Inv-loop μ-loop
     (λ c. (omega arith, upto-none _ _))
-    (λ c. let p = c .before .before .before .before .before .pre in let b = bounds _ (p .0 .chosen .frame .adm) in omega (arith, p .1))
+    (λ c. let p = c .before .before .before .before .before .pre in let b = bounds _ (p .0 .sent .chosen .frame .adm) in omega (arith, p .1))
     (λ c κs. let p = c .before .before .before .before .before .pre in let u = c .before .loop .inv .1 .same in (p .0, omega (arith, p .1)))
     (λ c. let u = c .before .before .loop .inv .1 .same in omega arith)
     (λ c. let u = c .before .before .loop .inv .1 .same in omega arith)

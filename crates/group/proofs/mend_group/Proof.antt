@@ -1,99 +1,80 @@
-use mathlib.Core.Path.{_≡_, sym, ap, subst, _∙_}
-use mathlib.Core.List.{List, _++_}
-use Prim.Native.Nat.{ℕ, _+_, _/_, _≤_}
-use native.Mathlib.Omega.{arith}
-use lib.ListN.{length, take, drop, replicate, length-append}
-use lib.Seq.{take-at, length-take-le}
 use borrow.Author.Needs.{needs}
-use Rattle.layout.specs.Layout.{trayLimit, parityRacks}
-use Rattle.layout.proofs.Facts.{bounds, rack-in, size-pos}
-use Rattle.group.specs.Inner.{unknownPoint, rightSide, Chosen, Holding}
+use mathlib.Core.Path.{_≡_, sym, ap, subst, _∙_}
+use mathlib.Core.List.{_++_}
+use Prim.Native.Nat.{_*_, _/_, _≤_}
+use native.Mathlib.Omega.{arith}
+use lib.ListN.{length, take, drop}
+use Rattle.layout.specs.Layout.{trayLimit, digits}
+use Rattle.layout.proofs.Facts.{rack-in, size-pos}
+use Rattle.rule.specs.Lost.{firstLost}
+use Rattle.group.specs.Inner.{sumsAt, Holding}
+use Rattle.group.proofs.Steps.{sums-high}
 use Rattle.group.proofs.Mend.{layered-piece}
+use Rattle.group.proofs.Arrays.{nil, whole, front, room}
 use Rattle.group.proofs.mend_group.Statement.{statement}
 use Rattle.group.proofs.mend_group.Tie as tie
 
-abbrev nil : List ℕ
-nil = replicate trayLimit 0
+n-high : (c : tie.After-digit-count) → length (c .before .before .before .before .before .before .before .before .args .lost .now) * c .digit-count .result ≤ trayLimit
+n-high c = rw (c .digit-count .ensures) (sums-high _ (c .before .before .before .before .before .before .before .before .pre .adm) _ (c .before .before .before .before .before .before .before .before .pre .losses .few))
 
--- the first n of a lent array, and that array afterwards
-whole : (n : ℕ) → n ≤ trayLimit → length (take n nil) ≡ n
-whole n h = length-take-le n nil h
+sums-long : (c : tie.After-find-sums) → length (c .find-sums .last .1 .1 .1 .1 .1 .1 .0) ≡ length (c .before .before .before .before .before .before .before .before .before .before .args .lost .now) * c .before .before .digit-count .result
+sums-long c = c .find-sums .ensures .long ∙ ap (λ n. length (c .before .before .before .before .before .before .before .before .before .before .args .lost .now) * n) (sym (c .before .before .digit-count .ensures))
 
-front : (n : ℕ) (part : List ℕ) → length part ≡ n → take n (part ++ drop n nil) ≡ part
-front n part e = take-at part (drop n nil) n e
-
-room : (n : ℕ) (part : List ℕ) → length part ≡ n → n ≤ length (part ++ drop n nil)
-room n part e = omega (arith, length-append part (drop n nil))
-
-few : (c : tie.After-unknown-count) → c .unknown-count .result ≤ trayLimit
-few c = let b = bounds _ (c .before .before .before .before .before .pre .adm) in omega (arith, c .unknown-count .ensures)
-
-chosen : (c : tie.Start) → Chosen (c .args .l) (c .args .x / c .args .l .size) (c .args .p) (c .args .helpers .now)
-chosen c =
-    let p = c .pre in
-    let h = p .help in
-    record {
-      frame = record { adm = p .adm; host-in = rack-in _ (p .adm) _ (h .lost-in); group-in = p .group-in };
-      many = h .many;
-      inside = h .inside;
-      other = h .other;
-    }
-
-points-long : (c : tie.After-fill-points) → length (c .fill-points .last .1 .1 .1 .1 .0) ≡ c .before .before .before .unknown-count .result
-points-long c = c .fill-points .ensures .long ∙ sym (c .before .before .before .unknown-count .ensures)
-
-points-are : (c : tie.After-fill-points) →
-    take (c .before .before .before .unknown-count .result) (c .fill-points .last .1 .1 .1 .1 .0 ++ drop (c .before .before .before .unknown-count .result) nil) ≡ c .fill-points .last .1 .1 .1 .1 .0
-points-are c = front _ (c .fill-points .last .1 .1 .1 .1 .0) (points-long c)
-
-sides-long : (c : tie.After-fill-sides) → length (c .fill-sides .last .1 .1 .1 .1 .1 .0) ≡ c .before .before .before .before .before .before .unknown-count .result
-sides-long c = c .fill-sides .ensures .long ∙ sym (c .before .before .before .before .before .before .unknown-count .ensures)
-
-sides-are : (c : tie.After-fill-sides) →
-    take (c .before .before .before .before .before .before .unknown-count .result) (c .fill-sides .last .1 .1 .1 .1 .1 .0 ++ drop (c .before .before .before .before .before .before .unknown-count .result) nil) ≡ c .fill-sides .last .1 .1 .1 .1 .1 .0
-sides-are c = front _ (c .fill-sides .last .1 .1 .1 .1 .1 .0) (sides-long c)
-
-layering : tie.Need-mend-layers-requires
-layering c κs =
-    let p = c .before .before .before .before .before .before .before .before .before .before .before .before .before .before .before .before .pre in
-    record {
-      adm = p .adm;
-      lost-in = p .help .lost-in;
-      group-in = p .group-in;
-      host-long = p .host-long;
-      spare-long = p .spare-long;
-      points-long = ap length (points-are (c .before .before .before .before .before .before .before .before)) ∙ c .before .before .before .before .before .before .before .before .fill-points .ensures .long;
-      sides-long = ap length (sides-are (c .before .before .before .before .before)) ∙ c .before .before .before .before .before .fill-sides .ensures .long;
-      scratch-long = whole _ (few (c .before .before .before .before .before .before .before .before .before .before .before)) ∙ c .before .before .before .before .before .before .before .before .before .before .before .unknown-count .ensures;
-    }
-
-returns : tie.Need-returns
-returns c =
-    let a = c .before .before .before .before .before .before .before .before .before .before .before .before .before .before .before .before .before .before .before .before .args in
-    let p = c .before .before .before .before .before .before .before .before .before .before .before .before .before .before .before .before .before .before .before .before .pre in
-    layered-piece (a .l) (a .x) (a .host .now) (a .p) _ _ (a .helpers .now) (a .shares .now) (p .adm) (p .help) (p .group-in)
-    (subst (Holding (unknownPoint (a .l) (a .x / a .l .size) (a .p) (a .helpers .now)) (parityRacks (a .l))) (sym (points-are (c .before .before .before .before .before .before .before .before .before .before .before .before))) (c .before .before .before .before .before .before .before .before .before .before .before .before .fill-points .ensures))
-    (subst (Holding (rightSide (a .l) (a .x / a .l .size) (a .p) (a .helpers .now) (a .shares .now)) (parityRacks (a .l))) (sym (sides-are (c .before .before .before .before .before .before .before .before .before))) (c .before .before .before .before .before .before .before .before .before .fill-sides .ensures))
-    (a .spare .now) _ (c .before .before .before .mend-layers .ensures)
+sums-are : (c : tie.After-find-sums) →
+    take (length (c .before .before .before .before .before .before .before .before .before .before .args .lost .now) * c .before .before .digit-count .result) (c .find-sums .last .1 .1 .1 .1 .1 .1 .0 ++ drop (length (c .before .before .before .before .before .before .before .before .before .before .args .lost .now) * c .before .before .digit-count .result) nil)
+    ≡ c .find-sums .last .1 .1 .1 .1 .1 .1 .0
+sums-are c = front _ (c .find-sums .last .1 .1 .1 .1 .1 .1 .0) (sums-long c)
 
 pub mend-group-spec : {M : Type 1} → statement M
 mend-group-spec =
     tie.close (tie.spec
-    (λ c κs. search needs)
     (λ c. search needs)
     (λ c. search size-pos)
-    (λ c. few (c .before))
-    (λ c. sym (whole _ (few (c .before .before))))
-    (λ c κs. (chosen (c .before .before .before .before .before .before .before), whole _ (few (c .before .before)) ∙ c .before .before .unknown-count .ensures))
-    (λ c. few (c .before .before .before .before))
-    (λ c. sym (whole _ (few (c .before .before .before .before .before))))
-    (λ c κs. (record { chosen = chosen (c .before .before .before .before .before .before .before .before .before .before); shares-long = c .before .before .before .before .before .before .before .before .before .before .pre .shares-long }, whole _ (few (c .before .before .before .before .before)) ∙ c .before .before .before .before .before .unknown-count .ensures))
-    (λ c. room _ (c .before .before .before .before .fill-points .last .1 .1 .1 .1 .0) (points-long (c .before .before .before .before)))
-    (λ c. sym (ap length (points-are (c .before .before .before .before .before)) ∙ points-long (c .before .before .before .before .before)))
-    (λ c. room _ (c .before .before .fill-sides .last .1 .1 .1 .1 .1 .0) (sides-long (c .before .before)))
-    (λ c. sym (ap length (sides-are (c .before .before .before)) ∙ sides-long (c .before .before .before)))
-    (λ c. few (c .before .before .before .before .before .before .before .before .before))
-    (λ c. sym (whole _ (few (c .before .before .before .before .before .before .before .before .before .before))))
-    layering
+    (λ c κs. search needs)
     (λ c. search needs)
-    returns)
+    (λ c. record { fits = omega (arith, n-high c) })
+    (λ c. search needs)
+    (λ c. n-high c)
+    (λ c. sym (whole _ (n-high (c .before))))
+    (λ c κs.
+    let a = c .before .before .before .before .before .before .before .before .before .args in
+    let p = c .before .before .before .before .before .before .before .before .before .pre in
+    let h = p .losses .help in (
+      record {
+        chosen = record {
+          frame = record { adm = p .adm; host-in = rack-in _ (p .adm) _ (h .lost-in); group-in = p .group-in };
+          many = h .many;
+          inside = h .inside;
+          rising = h .rising;
+          other = h .other;
+        };
+        few = p .losses .few;
+        shares-long = p .shares-long;
+      },
+      whole _ (n-high (c .before)) ∙ ap (λ n. length (a .lost .now) * n) (c .before .digit-count .ensures),
+    ))
+    (λ c. room _ (c .before .find-sums .last .1 .1 .1 .1 .1 .1 .0) (sums-long (c .before)))
+    (λ c. sym (ap length (sums-are (c .before .before)) ∙ sums-long (c .before .before)))
+    (λ c κs.
+    let p = c .before .before .before .before .before .before .before .before .before .before .before .before .before .pre in
+    record {
+      losing = record {
+        adm = p .adm;
+        host-in = rack-in _ (p .adm) _ (p .losses .help .lost-in);
+        some = p .losses .some;
+        few = omega (arith, p .losses .few);
+        one-rack = p .losses .one-rack;
+        host-long = p .host-long;
+      };
+      group-in = p .group-in;
+      sums-long = ap length (sums-are (c .before .before .before)) ∙ c .before .before .before .find-sums .ensures .long;
+      spare-long = p .spare-long;
+    })
+    (λ c. search needs)
+    (λ c.
+    let a = c .before .before .before .before .before .before .before .before .before .before .before .before .before .before .before .before .args in
+    let p = c .before .before .before .before .before .before .before .before .before .before .before .before .before .before .before .before .pre in
+    layered-piece (a .l) (a .lost .now) (a .helpers .now) (a .shares .now) (a .host .now) (a .p) _ (p .adm) (p .losses) (p .group-in)
+    (subst (Holding (sumsAt (a .l) (firstLost (a .l) (a .lost .now) / a .l .size) (a .p) (a .helpers .now) (a .shares .now) (length (a .lost .now))) (length (a .lost .now) * digits (a .l)))
+    (sym (sums-are (c .before .before .before .before .before .before))) (c .before .before .before .before .before .before .find-sums .ensures))
+    (a .spare .now) _ (c .before .before .mend-layers .ensures)))

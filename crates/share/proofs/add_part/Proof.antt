@@ -1,53 +1,66 @@
-use mathlib.Core.Path.{_≡_, refl, sym, ap, ap₂, _∙_}
-use Prim.Native.Nat.{ℕ, _-_, _≤_}
+use mathlib.Core.Path.{_≡_, refl, ap, _∙_}
+use mathlib.Core.List.{List}
+use Prim.Native.Nat.{ℕ, _+_, _-_, _*_, _≤_, _<_}
+use native.Mathlib.Nat.{mod-lt}
 use native.Mathlib.Omega.{arith}
 use lib.ListN.{length, getD, length-set}
-use Rattle.lists.proofs.Tables.{is-table}
-use Rattle.lists.proofs.Loops.{Upto, upto-none, upto-more}
-use Rattle.symbol.specs.Elem.{elem, ops, gf256}
-use Rattle.symbol.proofs.Elem.{elem-⊕, val-elem}
-use Rattle.layout.proofs.Facts.{bounds}
-use Rattle.share.specs.Share.{partSymbol, fed}
+use Rattle.symbol.specs.Arithmetic.{_⊕_}
+use Rattle.layout.specs.Layout.{groups}
+use Rattle.layout.proofs.Facts.{bounds, size-pos}
+use Rattle.share.specs.Inner.{Added}
+use Rattle.share.proofs.Parts.{added-at, added-more}
 use Rattle.share.proofs.add_part.Statement.{statement}
 use Rattle.share.proofs.add_part.Tie as tie
 
 abbrev Inv-loop : tie.InvT-loop
-Inv-loop l h symbols share₀ p₀ share p =
-    (p ≤ length share₀) × (length share ≡ length share₀)
-    × ((x : ℕ) → Upto (λ k. (ops .add (elem (getD share₀ k 0)) (partSymbol gf256 l 0 h x symbols k)) .val) share₀ share p)
+Inv-loop l h x m symbols shares₀ u total weight p₀ shares p =
+    (p ≤ total) × (length shares ≡ length shares₀)
+    × ((held : List ℕ) → Added l h x symbols held shares₀ (m * groups l) → Added l h x symbols held shares (m * groups l + p))
 
 abbrev μ-loop : tie.MeasureT-loop
-μ-loop l h symbols share₀ p₀ share p = length share₀ - p
+μ-loop l h x m symbols shares₀ u total weight p₀ shares p = total - p
 
-returns : tie.Need-returns Inv-loop μ-loop
-unfolding fed
-returns c x =
-    let p = c .before .before .before .before .pre in
-    let u = c .before .loop .inv .2 x in
-    is-table _ _ _ (u .same ∙ p .room) (λ k h. u .low k (omega (arith, u .same, p .room)))
+-- the number of the shares that the turn is about
+at-is : (c : tie.After-cell Inv-loop μ-loop) → c .cell .result ≡ c .before .before .before .before .before .before .before .before .before .args .m * groups (c .before .before .before .before .before .before .before .before .before .args .l) + c .before .before .before .before .loop .p
+at-is c = c .cell .ensures ∙ ap (λ n. c .before .before .before .before .before .before .before .before .before .args .m * n + c .before .before .before .before .loop .p) (c .before .before .before .before .before .before .group-count .ensures)
+
+at-in : (c : tie.After-cell Inv-loop μ-loop) → c .cell .result < length (c .before .before .before .before .loop .shares)
+at-in c = omega (arith, at-is c, c .before .before .before .before .before .before .group-count .ensures, c .before .before .before .before .before .before .before .before .before .pre .room, c .before .before .before .before .loop .inv .1)
 
 pub add-part-spec : {M : Type 1} → statement M
 add-part-spec =
     tie.close (tie.spec Inv-loop μ-loop
-    (λ c. (omega arith, refl, λ x. upto-none _ _))
-    (λ c.
-    let p = c .before .before .before .before .pre in
-    let b = bounds _ (p .adm) in
-    omega (arith, p .room))
+    (λ c κs. c .before .before .pre .adm)
+    (λ c. size-pos _ (c .before .before .before .pre .adm))
     (λ c κs.
-    let p = c .before .before .before .before .pre in
-    record { adm = p .adm; long = p .long; host-in = p .host-in; group-in = omega (arith, p .room) })
-    (λ c. omega arith)
+    let p = c .before .before .before .pre in
+    let b = bounds _ (p .adm) in
+    (p .adm, mod-lt _ (b .size-low), omega (arith, p .weight-in)))
+    (λ c.
+    let a = c .before .before .before .before .args in
+    (omega arith, refl, λ held u. added-at (a .l) (a .h) (a .x) (a .symbols .now) held (a .shares .now) _ _ (omega arith) u))
+    (λ c κs.
+    let p = c .before .before .before .before .before .before .pre in
+    record { adm = p .adm; long = p .long; host-in = p .host-in; group-in = omega (arith, c .before .before .before .group-count .ensures) })
     (λ c κs. tt)
-    (λ c. omega arith)
-    (λ c. omega arith)
+    (λ c κs.
+    let p = c .before .before .before .before .before .before .before .before .pre in
+    let b = bounds _ (p .adm) in
+    (omega (arith, c .before .before .before .before .before .group-count .ensures), omega (arith, p .weight-in), omega arith))
+    (λ c. at-in (c .before))
+    (λ c κs. tt)
+    (λ c. at-in (c .before .before))
+    (λ c. let b = bounds _ (c .before .before .before .before .before .before .before .before .before .before .before .pre .adm) in omega (arith, c .before .before .before .before .before .before .before .before .group-count .ensures))
     (λ c. omega arith)
     (λ c.
-    let inv = c .before .before .before .before .loop .inv in (
+    let a = c .before .before .before .before .before .before .before .before .before .before .before .args in (
       omega arith,
-      simp length-set (inv .1),
-      λ x. upto-more _ (inv .2 x) (omega arith) (sym (val-elem _ (omega arith))
-          ∙ ap (λ e. e .val) (ap elem (c .add .ensures) ∙ elem-⊕ _ _ ∙ ap₂ (ops .add) (ap elem (inv .2 x .high _ (omega arith))) (c .before .before .part-symbol .ensures x))),
+      simp length-set (c .before .before .before .before .before .before .loop .inv .1),
+      λ held u. added-more (a .l) (a .h) (a .x) (a .m) (c .before .before .before .before .before .before .loop .p) (c .before .before .cell .result) (c .before .before .before .before .before .before .before .place-power .result .0) (c .before .before .before .before .group-sum .result .0) (c .add .result .0)
+          (a .symbols .now) held (c .before .before .before .before .before .before .loop .shares) (omega (arith, c .before .before .before .before .before .before .before .before .group-count .ensures)) (at-is (c .before .before)) (at-in (c .before .before)) (c .before .before .before .before .before .before .before .place-power .ensures) (c .before .before .before .before .group-sum .ensures)
+          (c .add .ensures ∙ ap (λ y. getD (c .before .before .before .before .before .before .loop .shares) (c .before .before .cell .result) 0 ⊕ y) (c .before .before .before .mul .ensures)) (omega arith) (c .before .before .before .before .before .before .loop .inv .2 held u),
     ))
     (λ c. c .before .loop .inv .1)
-    returns)
+    (λ c held u.
+    let a = c .before .before .before .before .before .before .args in
+    added-at (a .l) (a .h) (a .x) (a .symbols .now) held (c .before .loop .shares) _ _ (ap (λ n. a .m * groups (a .l) + n) (omega (arith, c .before .before .before .group-count .ensures))) (c .before .loop .inv .2 held u)))

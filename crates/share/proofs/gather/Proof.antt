@@ -1,5 +1,5 @@
 use mathlib.Core.Path.{_≡_, sym, ap, _∙_}
-use Prim.Native.Nat.{_+_, _-_, _*_, _≤_, _<_}
+use Prim.Native.Nat.{_+_, _-_, _*_, _≤_}
 use native.Mathlib.Nat.{mul-le-mul}
 use native.Mathlib.Omega.{arith}
 use lib.ListN.{length}
@@ -14,17 +14,17 @@ use Rattle.share.proofs.gather.Statement.{statement}
 use Rattle.share.proofs.gather.Tie as tie
 
 abbrev Inv-loop : tie.InvT-loop
-Inv-loop l host helper rack out₀ u total g₀ out g = (g ≤ u) × (out ≡ partly gf256 gf256-laws l (host .0) helper rack g)
+Inv-loop l count host helper rack out₀ u total g₀ out g = (g ≤ u) × (out ≡ partly gf256 gf256-laws l count (host .0) helper rack g)
 
 abbrev μ-loop : tie.MeasureT-loop
-μ-loop l host helper rack out₀ u total g₀ out g = u - g
+μ-loop l count host helper rack out₀ u total g₀ out g = u - g
 
 pub gather-spec : {M : Type 1} → statement M
 gather-spec =
     tie.close (tie.spec Inv-loop μ-loop
     (λ c κs. c .before .before .pre .adm)
     (λ c κs. tt)
-    (λ c. (omega arith, c .before .before .clear .ensures ∙ partly-none _ _ _ _ _ (c .before .before .before .before .before .before .before .pre .room)))
+    (λ c. (omega arith, c .before .before .clear .ensures ∙ partly-none _ _ _ _ _ _ (c .before .before .before .before .before .before .before .pre .room)))
     (λ c κs.
     let p = c .before .before .before .before .before .before .before .before .before .pre .adm in
     let b = bounds _ p in
@@ -59,9 +59,9 @@ gather-spec =
     let a = c .before .before .before .before .before .before .before .before .before .before .before .before .before .before .before .before .args in
     let e = c .before .before .before .before .before .before .before .before .before .before .before .before .before .layer-count .ensures in (
       omega arith,
-      gather-turn (a .l) (a .host .0) (a .helper) (a .rack .now) (a .out .now) (c .before .before .before .before .before .before .before .before .before .before .before .before .before .before .before .before .pre) (c .before .before .before .before .before .before .before .before .loop .g)
+      gather-turn (a .l) (a .count) (a .host .0) (a .helper) (a .rack .now) (a .out .now) (c .before .before .before .before .before .before .before .before .before .before .before .before .before .before .before .before .pre) (c .before .before .before .before .before .before .before .before .loop .g)
           (c .before .before .before .before .before .before .cell .result + c .before .before .before .before .before .before .before .before .before .before .before .before .before .layer-count .result - c .before .before .before .before .before .before .cell .result) _ _ _ _ (c .before .before .before .before .before .before .before .loop-test .taken) (omega arith)
-          (c .before .before .before .before .before .before .cell .ensures ∙ ap (λ n. c .before .before .before .before .before .before .before .before .loop .g * n + 0) e) (c .before .before .before .before .before .of .ensures) (c .before .before .before .before .before .before .before .before .loop .inv .1) (c .before .before .share-add .ensures .1),
+          (c .before .before .before .before .before .before .cell .ensures ∙ ap (λ n. c .before .before .before .before .before .before .before .before .loop .g * n + 0) e) (c .before .before .before .before .before .of .ensures) (c .before .before .before .before .before .before .before .before .loop .inv .1) (c .before .before .share-add-many .ensures .1),
     ))
-    (λ c. ap length (c .before .loop .inv .1) ∙ partly-long gf256 gf256-laws _ _ _ _ _ ∙ sym (c .before .before .before .before .before .before .before .before .before .pre .room))
-    (λ c. c .before .loop .inv .1 ∙ partly-all gf256 gf256-laws _ _ _ _ _ (omega arith)))
+    (λ c. ap length (c .before .loop .inv .1) ∙ partly-long gf256 gf256-laws _ _ _ _ _ _ ∙ sym (c .before .before .before .before .before .before .before .before .before .pre .room))
+    (λ c. c .before .loop .inv .1 ∙ partly-all gf256 gf256-laws _ _ _ _ _ _ (omega arith)))

@@ -1,45 +1,16 @@
-use mathlib.Core.Path.{_≡_, sym, ap, ap₂, _∙_}
-use Prim.Native.Nat.{ℕ}
-use lib.ListN.{length}
+use mathlib.Core.Path.{_∙_}
 use borrow.Author.Needs.{needs}
 use Rattle.symbol.specs.Elem.{gf256}
-use Rattle.share.specs.Share.{shareRefusal}
-use Rattle.share.specs.Inner.{grounds}
-use Rattle.share.proofs.Refusals.{rack-grounds, shareable, buffer-refused, buffer-done}
+use Rattle.share.proofs.Refusals.{one-refusal}
+use Rattle.share.proofs.Weights.{one-buffer}
 use Rattle.share.proofs.share.Statement.{statement}
 use Rattle.share.proofs.share.Tie as tie
-
--- the ground that was found, in terms of what the call was lent
-abbrev groundOf : tie.After-refusal → ℕ
-groundOf c =
-    let a = c .before .before .before .before .before .args in
-    shareRefusal (a .l) (a .host .0) (a .helper .0) (length (a .rack .now)) (length (a .out .now))
-
-found : (c : tie.After-refusal) → c .refusal .result ≡ groundOf c
-found c =
-    let a = c .before .before .before .before .before .args in
-    c .refusal .ensures
-    ∙ ap₂ (λ i j. grounds (a .l) (a .l .size) i j (length (a .rack .now)) (length (a .out .now))) (c .before .number2 .ensures) (c .before .before .number .ensures)
-    ∙ rack-grounds (a .l) (a .host .0) (a .helper .0) (length (a .rack .now)) (length (a .out .now))
-
-none : (c : tie.Else1) → groundOf (c .before) ≡ 0
-none c = sym (found (c .before)) ∙ c .if1 .left
 
 pub share-spec : {M : Type 1} → statement M
 share-spec =
     tie.close (tie.spec
     (λ c κs. search needs)
-    (λ c κs. search needs)
-    (λ c κs. search needs)
-    (λ c.
-    let a = c .before .before .before .before .before .before .args in
-    (found (c .before), buffer-refused gf256 (a .l) (a .host .0) (a .helper .0) (a .rack .now) (a .out .now) (λ e. c .if1 .taken (found (c .before) ∙ e))))
-    (λ c κs.
-    let p = shareable _ _ _ _ _ _ (rack-grounds _ _ _ _ _ ∙ none (c .before)) in
-    let e = c .before .before .before .before .number .ensures in
-    record { adm = p .adm; long = p .long; room = p .room-long; host-in = p .host-in; helper-in = rw e (p .helper-in); differ = rw e (p .differ) })
     (λ c. search needs)
     (λ c.
-    let a = c .before .before .before .before .before .before .before .before .before .before .args in
-    let n = none (c .before .before .before .before) in
-    (sym n, c .before .before .gather .ensures ∙ buffer-done gf256 (a .l) (a .host .0) (a .helper .0) (a .rack .now) (a .out .now) n)))
+    let e = c .before .before .share-many .ensures in
+    (e .0 ∙ one-refusal _ _ _ _ _, e .1 ∙ one-buffer gf256 _ _ _ _ _)))

@@ -1,47 +1,16 @@
-use mathlib.Core.Path.{_≡_, sym, ap, ap₂, _∙_}
-use Prim.Native.Nat.{ℕ, _*_}
-use native.Mathlib.Nat.{one-mul}
-use lib.ListN.{length}
+use mathlib.Core.Path.{_∙_}
 use borrow.Author.Needs.{needs}
 use Rattle.symbol.specs.Elem.{gf256}
-use Rattle.layout.specs.Layout.{layers}
-use Rattle.share.specs.Share.{addRefusal, fed}
-use Rattle.share.proofs.Refusals.{tray-shareable, add-refused, add-done}
+use Rattle.share.proofs.Refusals.{one-add-refusal}
+use Rattle.share.proofs.Weights.{one-add-buffer}
 use Rattle.share.proofs.share_add.Statement.{statement}
 use Rattle.share.proofs.share_add.Tie as tie
-
--- the ground that was found, in terms of what the call was lent
-abbrev groundOf : tie.After-tray-refusal → ℕ
-groundOf c =
-    let a = c .before .before .before .before .before .args in
-    addRefusal (a .l) (a .host .0) (a .tray .0) (length (a .symbols .now)) (length (a .share .now))
-
-found : (c : tie.After-tray-refusal) → c .tray-refusal .result ≡ groundOf c
-found c =
-    let a = c .before .before .before .before .before .args in
-    c .tray-refusal .ensures
-    ∙ ap₂ (λ i j. addRefusal (a .l) i j (length (a .symbols .now)) (length (a .share .now))) (c .before .before .number .ensures) (c .before .number2 .ensures)
-
-none : (c : tie.Else1) → groundOf (c .before) ≡ 0
-none c = sym (found (c .before)) ∙ c .if1 .left
 
 pub share-add-spec : {M : Type 1} → statement M
 share-add-spec =
     tie.close (tie.spec
     (λ c κs. search needs)
-    (λ c κs. search needs)
-    (λ c κs. search needs)
-    (λ c.
-    let a = c .before .before .before .before .before .before .args in
-    (found (c .before), add-refused gf256 (a .l) (a .host .0) (a .tray .0) (a .symbols .now) (a .share .now) (λ e. c .if1 .taken (found (c .before) ∙ e))))
-    (λ c κs.
-    let p = tray-shareable _ _ _ _ _ (none (c .before)) in
-    record { adm = p .adm; long = p .long ∙ one-mul _; room = p .room-long; host-in = rw (c .before .before .before .before .number .ensures) (p .host-in) })
     (λ c. search needs)
     (λ c.
-    let a = c .before .before .before .before .before .before .before .before .before .before .args in
-    let n = none (c .before .before .before .before) in (
-      sym n,
-      c .before .before .add-part .ensures (a .tray .0) ∙ ap (λ h. fed gf256 (a .l) 0 h (a .tray .0) (a .symbols .now) (a .share .now)) (c .before .before .before .before .before .before .before .number .ensures)
-          ∙ add-done gf256 (a .l) (a .host .0) (a .tray .0) (a .symbols .now) (a .share .now) n,
-    )))
+    let e = c .before .before .share-add-many .ensures in
+    (e .0 ∙ one-add-refusal _ _ _ _ _, e .1 ∙ one-add-buffer gf256 _ _ _ _ _)))

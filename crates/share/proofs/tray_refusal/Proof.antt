@@ -1,4 +1,4 @@
-use mathlib.Core.Path.{_≡_, sym, _∙_}
+use mathlib.Core.Path.{sym, _∙_}
 use borrow.Author.Needs.{needs}
 use borrow.Author.Tests.{not-true}
 use Rattle.layout.specs.Layout.{Admissible}
@@ -14,7 +14,7 @@ pub tray-refusal-spec : {M : Type 1} → statement M
 tray-refusal-spec =
     tie.close (tie.spec
     (λ c κs. search needs)
-    (λ c. tray-ground-1 _ _ _ _ _ (sym (c .before .admitted .ensures) ∙ not-true _ (c .if1 .taken)))
+    (λ c. tray-ground-1 _ _ _ _ _ _ (sym (c .before .admitted .ensures) ∙ not-true _ (c .if1 .taken)))
     (λ c. size-pos _ (facts c))
     (λ c κs. search needs)
-    (λ c. c .refusal .ensures ∙ tray-grounds _ _ _ _ _ (facts (c .before))))
+    (λ c. c .refusal .ensures ∙ tray-grounds _ _ _ _ _ _ (facts (c .before))))

@@ -166,15 +166,15 @@ fn meet_a_reset_tray(path: &Path, screen: &mut Screen) -> Result<(), Failure> {
 fn repair_in_pieces(path: &Path, screen: &mut Screen) -> Result<(), Failure> {
     screen.heading(format!("4. Repair tray {LOST} in pieces"));
     let folder = Folder::read(path, PLATE)?;
-    judge(&folder.numbers, LOST, &HELPERS, 0)?;
-    let shares = mending::shares(&folder, LOST, &HELPERS)?;
+    judge(&folder.numbers, &[LOST], &HELPERS, 0)?;
+    let shares = mending::shares(&folder, &[LOST], &HELPERS)?;
     screen.line(format!(
         "  Racks 0, 2 and 3 send {} symbols each to rack {}.",
         folder.numbers.groups(),
         folder.numbers.rack_of(LOST)
     ));
-    let task = Task::new(&folder, LOST, HELPERS.to_vec(), shares)?;
-    let place: PathBuf = mending::spare_path(&folder, LOST);
+    let task = Task::new(&folder, vec![LOST], HELPERS.to_vec(), shares)?;
+    let place: PathBuf = mending::spare_path(&folder, &[LOST]);
     mending::work(
         &task,
         &mut Spare::open(&place, &task)?,
@@ -186,7 +186,7 @@ fn repair_in_pieces(path: &Path, screen: &mut Screen) -> Result<(), Failure> {
     let mut spare = Spare::open(&place, &task)?;
     let first = spare.done;
     mending::work(&task, &mut spare, first, u64::MAX, screen)?;
-    mending::finish(&folder, LOST, spare, screen)?;
+    mending::finish(&folder, &[LOST], spare, screen)?;
     screen.gap();
     Ok(())
 }

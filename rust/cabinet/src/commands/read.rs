@@ -46,9 +46,10 @@ another) or in the spare, and at which byte. While tray X is under repair, its
 own layers are read from the spare, each as soon as its group is done, and else
 refused (13). Any other tray is read from the store and must be live.
 
-Nothing is handed out (65) of a work file of another tray or cabinet, nor where
-the trays of DIR are not those that the spare was made from, nor of layers that
-do not fit to the other trays. Where trays are missing for this, it says so.
+Nothing is handed out (65) of a work file of another cabinet, of another tray or
+of several, nor where the trays of DIR are not those that the spare was made
+from, nor of layers that do not fit to the other trays. Where trays are missing
+for this, it says so.
 ";
 
 /// What the command line asks for.
@@ -104,7 +105,7 @@ fn under_repair<'a>(
     arguments: &Arguments,
     screen: &mut Screen,
 ) -> Result<Reading<'a>, Failure> {
-    let path = mending::work_file(arguments, folder, lost);
+    let path = mending::work_file(arguments, folder, &[lost]);
     let (reading, origin) = Reading::open(folder, lost, &path)?;
     let (done, groups) = (reading.spare.done, folder.numbers.groups());
     screen.line(format!(

@@ -1,4 +1,4 @@
-//! `cabinet repair`: a lost tray from shares, in pieces.
+//! `cabinet repair`: lost trays of one rack from shares, in pieces.
 
 use super::Command;
 use crate::arguments::{needed, Arguments, Setting};
@@ -6,7 +6,6 @@ use crate::failure::Failure;
 use crate::files;
 use crate::folder::Folder;
 use crate::mending::{self, SPARE};
-use crate::numbers::Numbers;
 use crate::plate;
 use crate::screen::Screen;
 use crate::spare::Spare;
@@ -17,8 +16,8 @@ use std::path::Path;
 
 const LOST: Setting = Setting::with(
     "--lost",
-    "X",
-    "the tray to bring back; its own image is not looked at",
+    "X,Y,..",
+    "the trays to bring back, rising; their own images are not looked at",
 );
 const HELPERS: Setting = Setting::with("--helpers", "a,b,..", "d other racks, rising");
 const SHARE: Setting = Setting::with(
@@ -37,7 +36,7 @@ const BUDGET: Setting = Setting::with("--budget", "N", "do at most N groups now"
 
 pub const COMMAND: Command = Command {
     name: "repair",
-    summary: "bring back one lost tray from the shares of d racks, in pieces",
+    summary: "bring back lost trays of one rack from shares, in pieces",
     help: HELP,
     settings: &[
         LOST,
@@ -53,20 +52,21 @@ pub const COMMAND: Command = Command {
 };
 
 const HELP: &str = "\
-cabinet repair DIR --lost X --helpers a,b,.. [--share FILE]..
+cabinet repair DIR --lost X,Y,.. --helpers a,b,.. [--share FILE]..
                [--first G] [--budget N] [--spare FILE]
 
-Brings back tray X from the shares of d helper racks and the other trays of its
-own rack, some groups at a time. After each piece the spare is kept in a work
-file that names the repair and the groups done, so a repair that is broken off
-goes on where it ended. When all groups are done, the tray is tested with the
-others, if all are there, its live image is written and the work file removed.
-If they do not fit together no image is written (65).
+Brings back tray X, or up to u - v trays of one rack, from the shares of d
+helper racks and the other trays of their rack, some groups at a time. After
+each piece the spare is kept in a work file that names the repair and the groups
+done, so a repair that is broken off goes on where it ended. When all groups are
+done, the trays are tested with the others, if all are there, their live images
+are written and the work file removed. If they do not fit together no image is
+written (65).
 ";
 
 /// What the command line asks for.
 struct Asked {
-    lost: Tray,
+    lost: Vec<Tray>,
     helpers: Vec<Rack>,
     first: Option<u64>,
     budget: u64,
@@ -74,9 +74,10 @@ struct Asked {
 
 impl Asked {
     fn read(arguments: &Arguments) -> Result<Asked, Failure> {
+        let lost = needed(LOST, arguments.list(LOST)?)?;
         let helpers = needed(HELPERS, arguments.list(HELPERS)?)?;
         Ok(Asked {
-            lost: Tray::new(needed(LOST, arguments.number(LOST)?)?),
+            lost: lost.into_iter().map(Tray::new).collect(),
             helpers: helpers.into_iter().map(Rack::new).collect(),
             first: arguments.number(FIRST)?,
             budget: arguments.number(BUDGET)?.unwrap_or(u64::MAX),
@@ -91,17 +92,20 @@ fn run(arguments: &Arguments, screen: &mut Screen) -> Result<(), Failure> {
     let lost = asked.lost;
     judge(
         &folder.numbers,
-        lost,
+        &lost,
         &asked.helpers,
         asked.first.unwrap_or(0),
     )?;
     let files = arguments.values(SHARE);
     let shares = match files.is_empty() {
-        true => mending::shares(&folder, lost, &asked.helpers)?,
-        false => read_shares(&folder.numbers, &files, asked.helpers.len())?,
+        true => mending::shares(&folder, &lost, &asked.helpers)?,
+        false => {
+            let wanted = lost.len() * folder.numbers.groups();
+            read_shares(wanted, &files, asked.helpers.len())?
+        }
     };
-    let task = Task::new(&folder, lost, asked.helpers, shares)?;
-    let path = mending::work_file(arguments, &folder, lost);
+    let task = Task::new(&folder, lost.clone(), asked.helpers, shares)?;
+    let path = mending::work_file(arguments, &folder, &lost);
     let mut spare = Spare::open(&path, &task)?;
     let first = start(asked.first, &spare)?;
     folder.introduce(screen);
@@ -113,11 +117,11 @@ fn run(arguments: &Arguments, screen: &mut Screen) -> Result<(), Failure> {
         ));
         return Ok(());
     }
-    mending::finish(&folder, lost, spare, screen)
+    mending::finish(&folder, &lost, spare, screen)
 }
 
-/// All helpers' shares, from files; each must have a share's length.
-fn read_shares(numbers: &Numbers, files: &[&OsStr], helpers: usize) -> Result<Vec<u8>, Failure> {
+/// All helpers' shares, from files, each of the wanted length.
+fn read_shares(wanted: usize, files: &[&OsStr], helpers: usize) -> Result<Vec<u8>, Failure> {
     if files.len() != helpers {
         let words = format!("{} shares are given for {helpers} helpers", files.len());
         return Err(Failure::Usage(words));
@@ -125,8 +129,8 @@ fn read_shares(numbers: &Numbers, files: &[&OsStr], helpers: usize) -> Result<Ve
     let mut shares = Vec::new();
     for path in files.iter().map(Path::new) {
         let share = files::read_existing(path)?;
-        if share.len() != numbers.groups() {
-            let (found, wanted) = (files::length(&share), numbers.groups());
+        if share.len() != wanted {
+            let found = files::length(&share);
             let about = format!("{}: {found}, a share has {wanted}", path.display());
             return Err(Failure::refused(about)(Refusal::Length));
         }

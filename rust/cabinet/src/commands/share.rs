@@ -10,31 +10,34 @@ use crate::screen::Screen;
 use gesarumbo::Rack;
 use std::path::Path;
 
-const HOST: Setting = Setting::with("--host", "H", "the rack with the lost tray");
+const HOST: Setting = Setting::with("--host", "H", "the rack with the lost trays");
 const HELPER: Setting = Setting::with("--helper", "I", "the rack that sends");
+const COUNT: Setting = Setting::with("--count", "E", "how many trays are lost, 1 if not given");
 
 pub const COMMAND: Command = Command {
     name: "share",
     summary: "work out what a helper rack sends for a repair",
     help: HELP,
-    settings: &[HOST, HELPER, plate::LAYOUT, plate::VOLUME],
+    settings: &[HOST, HELPER, COUNT, plate::LAYOUT, plate::VOLUME],
     run,
 };
 
 const HELP: &str = "\
-cabinet share DIR --host H --helper I OUT
+cabinet share DIR --host H --helper I [--count E] OUT
 
 Works out the share of rack I for a repair in rack H, from the trays of rack I
-alone, and writes its L/s symbols to OUT, one byte each and nothing else. The
-file does not say whose share it is: let its name say so.
+alone, and writes its L/s symbols to OUT, one byte each and nothing else. For a
+repair of E trays at once it is E shares, one after another. The file does not
+say whose share it is: let its name say so.
 ";
 
 fn run(arguments: &Arguments, screen: &mut Screen) -> Result<(), Failure> {
     let [folder, out] = arguments.words(["DIR", "OUT"])?;
     let host = Rack::new(needed(HOST, arguments.number(HOST)?)?);
     let helper = Rack::new(needed(HELPER, arguments.number(HELPER)?)?);
+    let count = arguments.number(COUNT)?.unwrap_or(1);
     let folder = Folder::open(folder, arguments)?;
-    let share = folder.share(host, helper)?;
+    let share = folder.share(count, host, helper)?;
     screen.heading(folder.plate.words());
     screen.line(format!(
         "  rack {helper} sends {} symbols to rack {host}, {} bytes are in its trays",

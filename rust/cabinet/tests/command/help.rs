@@ -21,7 +21,7 @@ fn general_help_lists_commands_and_statuses() {
         );
     }
     for status in [
-        "   0  ", "   1  ", "  11  ", "  13  ", "  64  ", "  65  ", "  70  ", "  74  ",
+        "   0  ", "   1  ", "  11  ", "  12  ", "  13  ", "  64  ", "  65  ", "  70  ", "  74  ",
     ] {
         assert!(
             help.contains(&format!("\n{status}")),
@@ -78,8 +78,10 @@ fn senseless_lines_are_usage_errors() {
         "scrub c --map=all",
         "scrub c --svg",
         "share c --host 1 out",
+        "share c --host 1 --helper 0 --count two out",
         "repair c --lost 4",
         "repair c --lost 4 --helpers 0,two,3",
+        "repair c --lost 3,four --helpers 0,2,3",
         "repair c --lost 4 --helpers 0,2,3 --share c/tray-00.img",
         "read c --tray 4",
         "read c --layers 0..1",

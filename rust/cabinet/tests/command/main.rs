@@ -9,4 +9,5 @@ mod read;
 mod refusals;
 mod repair;
 mod scrub;
+mod several;
 mod xml;

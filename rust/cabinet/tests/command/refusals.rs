@@ -66,6 +66,36 @@ fn too_many_erased_or_wrong_count_of_helpers() {
     bench.refused(5, "recover c");
 }
 
+/// In (4, 3, 8, 3), v is 2: one tray of a rack can be repaired by shares, and no more.
+#[test]
+fn count_of_lost_trays() {
+    let bench = Bench::with_cabinet();
+    bench.refused(12, "repair c --lost 3,4 --helpers 0,2,3");
+    bench.refused(12, "repair c --lost 3,4,5 --helpers 0,2,3");
+    bench.refused(12, "repair c --lost= --helpers 0,2,3");
+    bench.refused(12, "repair c --lost 3,4 --helpers 0,1,2 --first 9");
+    for count in ["0", "2", "4", "4294967295"] {
+        bench.refused(
+            12,
+            &format!("share c --host 1 --helper 0 --count {count} out"),
+        );
+        bench.refused(
+            12,
+            &format!("share c --host 1 --helper 1 --count {count} out"),
+        );
+        bench.refused(
+            3,
+            &format!("share c --host 1 --helper 4 --count {count} out"),
+        );
+    }
+    bench.refused(3, "repair c --lost 3,6 --helpers 0,2");
+    bench.refused(3, "repair c --lost 5,6 --helpers 0,2,3");
+    bench.refused(3, "repair c --lost 9,12 --helpers 0,1,2");
+    bench.refused(4, "repair c --lost 4,3 --helpers 0,2");
+    bench.refused(4, "repair c --lost 4,4 --helpers 0,2,3");
+    bench.refused(5, "repair c --lost 3,4 --helpers 0,2");
+}
+
 #[test]
 fn host_is_a_helper() {
     let bench = Bench::with_cabinet();

@@ -6,8 +6,11 @@ pub mod read_image;
 pub mod read_part;
 pub mod recover;
 pub mod repair;
+pub mod repair_many;
 pub mod share;
 pub mod share_add;
+pub mod share_add_many;
+pub mod share_many;
 pub mod store;
 pub mod test;
 pub mod walk;
@@ -17,6 +20,7 @@ pub mod write_image;
 use crate::answer::Answer;
 use crate::cabinet::Cabinet;
 use crate::inputs::{Inputs, Kind};
+use crate::random::Random;
 use crate::source::Source;
 
 pub struct Call {
@@ -27,7 +31,7 @@ pub struct Call {
     /// The grounds that can apply to it, in the order they are tried.
     pub grounds: &'static [u32],
     /// Random inputs over a layout: such as are done, or refused for what the
-    /// buffers hold.
+    /// buffers hold or for how many trays are lost.
     pub example: fn(&mut Source, &Cabinet) -> Inputs,
     /// What the library answers, through the wrapper.
     pub library: fn(&Inputs) -> Answer,
@@ -35,7 +39,7 @@ pub struct Call {
     pub reference: fn(&Inputs) -> Answer,
 }
 
-pub const CALLS: [&Call; 13] = [
+pub const CALLS: [&Call; 16] = [
     &measure::CALL,
     &test::CALL,
     &store::CALL,
@@ -43,6 +47,9 @@ pub const CALLS: [&Call; 13] = [
     &share::CALL,
     &share_add::CALL,
     &repair::CALL,
+    &share_many::CALL,
+    &share_add_many::CALL,
+    &repair_many::CALL,
     &read_part::CALL,
     &write_image::CALL,
     &read_image::CALL,
@@ -50,6 +57,16 @@ pub const CALLS: [&Call; 13] = [
     &walk_reset::CALL,
     &walk::CALL,
 ];
+
+/// A number of lost trays: mostly one that a repair can do, at times none or one
+/// more than that.
+fn any_lost_count(random: &mut Random, cabinet: &Cabinet) -> usize {
+    match random.below(16) {
+        0 => 0,
+        1 => cabinet.numbers.most_lost() + 1,
+        _ => cabinet.lost_count(random),
+    }
+}
 
 fn library_layout(inputs: &Inputs) -> gesarumbo::Layout {
     let [racks, size, dimension, helpers] = inputs.layout();

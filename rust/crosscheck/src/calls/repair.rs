@@ -6,6 +6,7 @@ use crate::cabinet::Cabinet;
 use crate::given::Given;
 use crate::inputs::{Inputs, Kind};
 use crate::lent::Lent;
+use crate::pair::for_one;
 use crate::random::Random;
 use crate::source::Source;
 
@@ -44,32 +45,25 @@ pub fn budget(random: &mut Random, left: u64) -> u64 {
 
 fn example(source: &mut Source, cabinet: &Cabinet) -> Inputs {
     let random = &mut source.random;
-    let given = Given::draw(random, cabinet);
-    let spare = random.bytes(cabinet.numbers.layers);
-    let groups = cabinet.numbers.groups as u64;
-    let first = match random.below(4) {
-        0 => 0,
-        1 => groups,
-        _ => random.below(cabinet.numbers.groups) as u64,
-    };
-    let budget = budget(random, groups - first);
-    given.piece(random, &spare, first, budget)
+    let lost = cabinet.lost(random, 1);
+    let piece = Given::draw(random, cabinet, lost).some_piece(random);
+    for_one(&piece).expect("one is lost")
 }
 
-fn library(inputs: &Inputs) -> Answer {
+/// What the library answers, by one of its two repair calls.
+pub fn library_answer(
+    inputs: &Inputs,
+    call: impl FnOnce(
+        &[gesarumbo::Rack],
+        &[u8],
+        &[u8],
+        &mut [u8],
+    ) -> Result<gesarumbo::Repaired, gesarumbo::Refusal>,
+) -> Answer {
     let helpers = Lent::list(inputs.list(2), gesarumbo::Rack::new);
     let [shares, host] = [3, 4].map(|at| Lent::bytes(inputs.bytes(at)));
     let mut spare = Lent::bytes(inputs.bytes(SPARE));
-    let repaired = gesarumbo::repair(
-        library_layout(inputs),
-        gesarumbo::Tray::new(inputs.small(1)),
-        helpers.part(),
-        shares.part(),
-        host.part(),
-        spare.part_mut(),
-        inputs.wide(6),
-        inputs.wide(7),
-    );
+    let repaired = call(helpers.part(), shares.part(), host.part(), spare.part_mut());
     Answer::new(repaired.map(|done| [done.groups, done.crossed, done.remaining].map(i128::from)))
         .written(&spare)
         .read("the helper list", &helpers)
@@ -77,25 +71,45 @@ fn library(inputs: &Inputs) -> Answer {
         .read("the host rack", &host)
 }
 
-fn reference(inputs: &Inputs) -> Answer {
+/// What the second program answers, by one of its two repair calls.
+pub fn reference_answer(
+    inputs: &Inputs,
+    call: impl FnOnce(&[reference::Rack]) -> Result<reference::Repaired, reference::Refusal>,
+) -> Answer {
     let helpers: Vec<reference::Rack> = inputs
         .list(2)
         .iter()
         .copied()
         .map(reference::Rack)
         .collect();
-    let given = reference::Given {
-        lost: reference::Tray(inputs.small(1)),
-        helpers: &helpers,
-        shares: inputs.bytes(3),
-        host: inputs.bytes(4),
-    };
+    let repaired = call(&helpers);
     let spare = inputs.bytes(SPARE);
-    let [first, budget] = [6, 7].map(|at| inputs.wide(at));
-    let repaired = reference::repair(reference_layout(inputs), given, spare, first, budget);
     let after = repaired
         .as_ref()
         .map_or(spare.to_vec(), |done| done.spare.clone());
     Answer::new(repaired.map(|done| [done.groups, done.crossed, done.remaining].map(i128::from)))
         .lent(spare, &after)
+}
+
+fn library(inputs: &Inputs) -> Answer {
+    let layout = library_layout(inputs);
+    let lost = gesarumbo::Tray::new(inputs.small(1));
+    let [first, budget] = [6, 7].map(|at| inputs.wide(at));
+    library_answer(inputs, |helpers, shares, host, spare| {
+        gesarumbo::repair(layout, lost, helpers, shares, host, spare, first, budget)
+    })
+}
+
+fn reference(inputs: &Inputs) -> Answer {
+    let layout = reference_layout(inputs);
+    let [first, budget] = [6, 7].map(|at| inputs.wide(at));
+    reference_answer(inputs, |helpers| {
+        let given = reference::Given {
+            lost: reference::Tray(inputs.small(1)),
+            helpers,
+            shares: inputs.bytes(3),
+            host: inputs.bytes(4),
+        };
+        reference::repair(layout, given, inputs.bytes(SPARE), first, budget)
+    })
 }

@@ -1,10 +1,11 @@
-//! A helper's share.
+//! A helper's share for one lost tray.
 
-use super::{library_layout, reference_layout, Call};
+use super::{library_layout, reference_layout, share_many, Call};
 use crate::answer::Answer;
 use crate::cabinet::Cabinet;
-use crate::inputs::{Inputs, Kind, Value};
+use crate::inputs::{Inputs, Kind};
 use crate::lent::Lent;
+use crate::pair::for_one;
 use crate::source::Source;
 
 pub const CALL: Call = Call {
@@ -22,24 +23,8 @@ pub const CALL: Call = Call {
     reference,
 };
 
-pub fn inputs(cabinet: &Cabinet, host: u32, helper: u32, rack: &[u8], share: Vec<u8>) -> Inputs {
-    Inputs(vec![
-        Value::Layout(cabinet.layout),
-        Value::Small(host),
-        Value::Small(helper),
-        Value::Bytes(rack.to_vec()),
-        Value::Bytes(share),
-    ])
-}
-
-/// Any bytes are a helper's: a codeword's are not needed.
 fn example(source: &mut Source, cabinet: &Cabinet) -> Inputs {
-    let random = &mut source.random;
-    let host = random.below(cabinet.numbers.racks) as u32;
-    let helper = random.pick(&cabinet.other_racks(host));
-    let rack = random.bytes(cabinet.rack(0).len());
-    let share = random.bytes(cabinet.numbers.groups);
-    inputs(cabinet, host, helper, &rack, share)
+    for_one(&share_many::draw(&mut source.random, cabinet, 1)).expect("one is lost")
 }
 
 fn library(inputs: &Inputs) -> Answer {

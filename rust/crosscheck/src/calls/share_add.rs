@@ -1,10 +1,11 @@
-//! One tray's part, added to a share.
+//! One tray's part, added to a share for one lost tray.
 
-use super::{library_layout, reference_layout, Call};
+use super::{library_layout, reference_layout, share_add_many, Call};
 use crate::answer::Answer;
 use crate::cabinet::Cabinet;
-use crate::inputs::{Inputs, Kind, Value};
+use crate::inputs::{Inputs, Kind};
 use crate::lent::Lent;
+use crate::pair::for_one;
 use crate::source::Source;
 
 pub const CALL: Call = Call {
@@ -22,25 +23,8 @@ pub const CALL: Call = Call {
     reference,
 };
 
-pub fn inputs(cabinet: &Cabinet, host: u32, tray: u32, symbols: &[u8], share: Vec<u8>) -> Inputs {
-    Inputs(vec![
-        Value::Layout(cabinet.layout),
-        Value::Small(host),
-        Value::Small(tray),
-        Value::Bytes(symbols.to_vec()),
-        Value::Bytes(share),
-    ])
-}
-
-/// Any bytes are a tray's, and any a share as far as it has been built up.
 fn example(source: &mut Source, cabinet: &Cabinet) -> Inputs {
-    let random = &mut source.random;
-    let host = random.below(cabinet.numbers.racks) as u32;
-    let helper = random.pick(&cabinet.other_racks(host));
-    let tray = helper * cabinet.layout[1] + random.below(cabinet.numbers.size) as u32;
-    let symbols = random.bytes(cabinet.numbers.layers);
-    let share = random.bytes(cabinet.numbers.groups);
-    inputs(cabinet, host, tray, &symbols, share)
+    for_one(&share_add_many::draw(&mut source.random, cabinet, 1)).expect("one is lost")
 }
 
 fn library(inputs: &Inputs) -> Answer {

@@ -3,10 +3,12 @@
 
 use super::Draw;
 use crate::cabinet::Cabinet;
-use crate::calls::repair::{self, budget};
+use crate::calls::repair::{budget, SPARE};
+use crate::calls::Call;
 use crate::crosscheck::Crosscheck;
 use crate::given::Given;
 use crate::inputs::{Inputs, Value};
+use crate::pair;
 use crate::source::Source;
 use crate::spoil::spoil;
 
@@ -50,20 +52,22 @@ fn case(all: &mut Crosscheck) {
 impl List {
     /// The empty list.
     fn start(all: &mut Crosscheck, cabinet: &Cabinet) -> List {
-        let given = Given::draw(&mut all.source.random, cabinet);
-        let at_first = all.source.random.bytes(cabinet.numbers.layers);
-        let groups = cabinet.numbers.groups as u64;
-        let whole = given.piece(&mut all.source.random, &at_first, 0, groups);
-        let uncut = all.run.compare(&repair::CALL, &whole).buffer().to_vec();
-        let remaining = (cabinet.numbers.helpers * cabinet.numbers.groups) as i128;
+        let random = &mut all.source.random;
+        let count = cabinet.lost_count(random);
+        let lost = cabinet.lost(random, count);
+        let given = Given::draw(random, cabinet, lost);
+        let at_first = given.spare(random);
+        let groups = cabinet.numbers.groups;
+        let (call, whole) = given.piece(random, &at_first, 0, groups as u64);
+        let uncut = all.run.compare(call, &whole).buffer().to_vec();
         List {
-            given,
             spare: at_first.clone(),
             at_first,
             uncut,
             done: 0,
             crossed: 0,
-            remaining,
+            remaining: given.symbols() * groups as i128,
+            given,
         }
     }
 
@@ -75,8 +79,8 @@ impl List {
         } else {
             budget(random, left)
         };
-        let piece = self.given.piece(random, &self.spare, self.done, budget);
-        let answer = all.run.compare(&repair::CALL, &piece);
+        let (call, piece) = self.given.piece(random, &self.spare, self.done, budget);
+        let answer = all.run.compare(call, &piece);
         all.run.claim(answer.refusal == 0, || {
             format!("a good piece was refused: {piece}")
         });
@@ -87,8 +91,8 @@ impl List {
     }
 
     fn refused_call(&mut self, all: &mut Crosscheck) {
-        let inputs = refused(&mut all.source, &self.given.cabinet, &self.spare);
-        let answer = all.run.compare(&repair::CALL, &inputs);
+        let (call, inputs) = refused(&mut all.source, &self.given.cabinet, &self.spare);
+        let answer = all.run.compare(call, &inputs);
         all.run.claim(answer.refusal != 0, || {
             format!("a bad piece was not refused: {inputs}")
         });
@@ -97,21 +101,20 @@ impl List {
 
     /// What must hold after every list.
     fn check(&self, all: &mut Crosscheck) {
-        let numbers = &self.given.cabinet.numbers;
-        let host = self.given.cabinet.rack_of(self.given.lost) as usize;
-        let expected = |layer: usize| {
-            let written = (numbers.group(host, layer) as u64) < self.done;
+        let expected = |at: usize| {
+            let written = (self.given.group(at) as u64) < self.done;
             if written {
-                self.uncut[layer]
+                self.uncut[at]
             } else {
-                self.at_first[layer]
+                self.at_first[at]
             }
         };
-        let spare: Vec<u8> = (0..numbers.layers).map(expected).collect();
-        let helpers = numbers.helpers as i128;
+        let spare: Vec<u8> = (0..self.at_first.len()).map(expected).collect();
+        let symbols = self.given.symbols();
+        let whole = symbols * self.given.cabinet.numbers.groups as i128;
         let holds = self.spare == spare
-            && self.crossed == helpers * i128::from(self.done)
-            && self.crossed + self.remaining == helpers * numbers.groups as i128;
+            && self.crossed == symbols * i128::from(self.done)
+            && self.crossed + self.remaining == whole;
         all.run
             .claim(holds, || format!("a cut repair of {:?}", self.given));
     }
@@ -119,16 +122,17 @@ impl List {
 
 /// A call that is refused, over this spare and anything else, at times even
 /// another layout.
-fn refused(source: &mut Source, own: &Cabinet, spare: &[u8]) -> Inputs {
+fn refused(source: &mut Source, own: &Cabinet, spare: &[u8]) -> (&'static Call, Inputs) {
     loop {
         let other = source.random.one_in(4);
         let cabinet = if other { source.cabinet() } else { *own };
-        let mut inputs = (repair::CALL.example)(source, &cabinet);
+        let call = source.random.pick(&[pair::REPAIR.one, pair::REPAIR.many]);
+        let mut inputs = (call.example)(source, &cabinet);
         let times = 1 + source.random.below(3);
         spoil(source, &cabinet, &mut inputs, times);
-        inputs.0[repair::SPARE] = Value::Bytes(spare.to_vec());
-        if (repair::CALL.reference)(&inputs).refusal != 0 {
-            return inputs;
+        inputs.0[SPARE] = Value::Bytes(spare.to_vec());
+        if (call.reference)(&inputs).refusal != 0 {
+            return (call, inputs);
         }
     }
 }

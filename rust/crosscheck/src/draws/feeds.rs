@@ -1,10 +1,11 @@
 //! Shares built up tray by tray: each tray of a rack is fed an odd number of times, in any order
-//! and with refused calls between, and the share must be that of the whole rack.
+//! and with refused calls between, and the shares must be those of the whole rack.
 
 use super::Draw;
-use crate::calls::{share, share_add};
+use crate::calls::{share_add_many, share_many};
 use crate::crosscheck::Crosscheck;
 use crate::inputs::Value;
+use crate::pair;
 use crate::spoil::spoil;
 
 pub const DRAW: Draw = Draw {
@@ -17,6 +18,8 @@ pub const DRAW: Draw = Draw {
 fn case(all: &mut Crosscheck) {
     let cabinet = all.source.cabinet();
     let random = &mut all.source.random;
+    let count = cabinet.lost_count(random);
+    let length = count * cabinet.numbers.groups;
     let host = random.below(cabinet.numbers.racks) as u32;
     let helper = random.pick(&cabinet.other_racks(host));
     let rack = random.bytes(cabinet.rack(0).len());
@@ -25,26 +28,33 @@ fn case(all: &mut Crosscheck) {
         // A tray fed twice more cancels.
         left.extend([random.pick(&left); 2]);
     }
-    let mut held = vec![0; cabinet.numbers.groups];
+    let mut held = vec![0; length];
     while !left.is_empty() {
         if all.source.random.one_in(4) {
-            let mut inputs = (share_add::CALL.example)(&mut all.source, &cabinet);
+            let forms = [pair::SHARE_ADD.one, pair::SHARE_ADD.many];
+            let call = all.source.random.pick(&forms);
+            let mut inputs = (call.example)(&mut all.source, &cabinet);
             spoil(&mut all.source, &cabinet, &mut inputs, 2);
-            inputs.0[4] = Value::Bytes(held.clone());
-            if (share_add::CALL.reference)(&inputs).refusal != 0 {
-                held = all.run.compare(&share_add::CALL, &inputs).buffer().to_vec();
+            inputs.0.pop();
+            inputs.0.push(Value::Bytes(held.clone()));
+            if (call.reference)(&inputs).refusal != 0 {
+                held = all.run.compare(call, &inputs).buffer().to_vec();
             }
         }
-        let place = left.swap_remove(all.source.random.below(left.len()));
+        let random = &mut all.source.random;
+        let place = left.swap_remove(random.below(left.len()));
         let symbols = &rack[cabinet.tray(place)];
         let tray = helper * cabinet.layout[1] + place;
-        let inputs = share_add::inputs(&cabinet, host, tray, symbols, held);
-        held = all.run.compare(&share_add::CALL, &inputs).buffer().to_vec();
+        let inputs = share_add_many::inputs(&cabinet, count, host, tray, symbols, held);
+        let (call, inputs) = pair::SHARE_ADD.either(random, inputs);
+        held = all.run.compare(call, &inputs).buffer().to_vec();
     }
-    let noise = all.source.random.bytes(cabinet.numbers.groups);
-    let inputs = share::inputs(&cabinet, host, helper, &rack, noise);
-    let whole = all.run.compare(&share::CALL, &inputs);
+    let random = &mut all.source.random;
+    let noise = random.bytes(length);
+    let inputs = share_many::inputs(&cabinet, count, host, helper, &rack, noise);
+    let (call, inputs) = pair::SHARE.either(random, inputs);
+    let whole = all.run.compare(call, &inputs);
     all.run.claim(held == whole.buffer(), || {
-        format!("a share built up tray by tray: {inputs}")
+        format!("shares built up tray by tray: {inputs}")
     });
 }

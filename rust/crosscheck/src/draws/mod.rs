@@ -3,6 +3,7 @@
 mod any_call;
 mod cutting;
 mod feeds;
+mod one_lost;
 mod reading;
 mod same_group;
 mod walks;
@@ -18,10 +19,11 @@ pub struct Draw {
     pub case: fn(&mut Crosscheck),
 }
 
-pub const DRAWS: [&Draw; 6] = [
+pub const DRAWS: [&Draw; 7] = [
     &any_call::DRAW,
     &cutting::DRAW,
     &feeds::DRAW,
+    &one_lost::DRAW,
     &reading::DRAW,
     &same_group::DRAW,
     &walks::DRAW,

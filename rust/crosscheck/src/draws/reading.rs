@@ -1,9 +1,10 @@
 //! Reading while repairing: what is handed back is the codeword's.
 
 use super::Draw;
-use crate::calls::{read_part, repair, share};
+use crate::calls::{read_part, Call};
 use crate::crosscheck::Crosscheck;
 use crate::given::Given;
+use crate::inputs::Inputs;
 
 pub const DRAW: Draw = Draw {
     name: "reading while repairing",
@@ -19,11 +20,12 @@ fn case(all: &mut Crosscheck) {
     let random = &mut all.source.random;
     let codeword = cabinet.codeword(random);
     let lost = random.below(cabinet.numbers.trays) as u32;
-    let given = Given::of_codeword(random, &cabinet, &codeword, lost, share::CALL.reference);
+    let share = |call: &Call, inputs: &Inputs| (call.reference)(inputs);
+    let given = Given::of_codeword(random, &cabinet, &codeword, vec![lost], share);
     let far = random.below(cabinet.numbers.groups + 1) as u64;
-    let spare = random.bytes(cabinet.numbers.layers);
-    let piece = given.piece(random, &spare, 0, far);
-    let spare = (repair::CALL.library)(&piece).buffer().to_vec();
+    let spare = given.spare(random);
+    let (call, piece) = given.piece(random, &spare, 0, far);
+    let spare = (call.library)(&piece).buffer().to_vec();
     let mut store = codeword.clone();
     store[cabinet.tray(lost)].copy_from_slice(&random.bytes(cabinet.numbers.layers));
     for _ in 0..8 {

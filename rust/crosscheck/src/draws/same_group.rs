@@ -2,7 +2,6 @@
 //! host symbols of its layers and in nothing else, write the same there.
 
 use super::Draw;
-use crate::calls::repair;
 use crate::crosscheck::Crosscheck;
 use crate::given::Given;
 
@@ -16,9 +15,10 @@ pub const DRAW: Draw = Draw {
 fn case(all: &mut Crosscheck) {
     let cabinet = all.source.cabinet();
     let random = &mut all.source.random;
-    let one = Given::draw(random, &cabinet);
+    let count = cabinet.lost_count(random);
+    let lost = cabinet.lost(random, count);
+    let one = Given::draw(random, &cabinet, lost);
     let group = random.below(cabinet.numbers.groups);
-    let layers = layers_of(&one, group);
     let mut other = Given {
         shares: random.bytes(one.shares.len()),
         host: random.bytes(one.host.len()),
@@ -27,30 +27,22 @@ fn case(all: &mut Crosscheck) {
     for at in (group..one.shares.len()).step_by(cabinet.numbers.groups) {
         other.shares[at] = one.shares[at];
     }
-    for at in (0..one.host.len()).filter(|at| layers.contains(&(at % cabinet.numbers.layers))) {
+    for at in (0..one.host.len()).filter(|&at| one.group(at) == group) {
         other.host[at] = one.host[at];
     }
-    let [one, other] = [&one, &other].map(|given| written(all, given, group));
-    let same = layers.iter().all(|&layer| one[layer] == other[layer]);
+    let [by_one, by_other] = [&one, &other].map(|given| written(all, given, group));
+    let mut of_group = (0..by_one.len()).filter(|&at| one.group(at) == group);
+    let same = of_group.all(|at| by_one[at] == by_other[at]);
     all.run
         .claim(same, || format!("group {group} of {cabinet:?} differs"));
-}
-
-fn layers_of(given: &Given, group: usize) -> Vec<usize> {
-    let numbers = &given.cabinet.numbers;
-    let host = given.cabinet.rack_of(given.lost) as usize;
-    (0..numbers.layers)
-        .filter(|&layer| numbers.group(host, layer) == group)
-        .collect()
 }
 
 /// The spare after a piece that does the group among others.
 fn written(all: &mut Crosscheck, given: &Given, group: usize) -> Vec<u8> {
     let random = &mut all.source.random;
-    let numbers = &given.cabinet.numbers;
     let first = random.below(group + 1);
-    let budget = group - first + 1 + random.below(numbers.groups);
-    let spare = random.bytes(numbers.layers);
-    let piece = given.piece(random, &spare, first as u64, budget as u64);
-    all.run.compare(&repair::CALL, &piece).buffer().to_vec()
+    let budget = group - first + 1 + random.below(given.cabinet.numbers.groups);
+    let spare = given.spare(random);
+    let (call, piece) = given.piece(random, &spare, first as u64, budget as u64);
+    all.run.compare(call, &piece).buffer().to_vec()
 }

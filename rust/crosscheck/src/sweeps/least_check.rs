@@ -20,13 +20,7 @@ pub const SWEEP: Sweep = Sweep {
 
 fn cabinets(source: &Source) -> Vec<Cabinet> {
     let large = source.large.iter().step_by(LARGE_STEP);
-    source
-        .flat
-        .iter()
-        .chain(&source.small)
-        .chain(large)
-        .copied()
-        .collect()
+    source.up_to_small().chain(large).copied().collect()
 }
 
 fn item(all: &mut Crosscheck, at: usize) {

@@ -4,6 +4,7 @@
 mod every_layout;
 mod header_bytes;
 mod least_check;
+mod lost_counts;
 mod small_layouts;
 mod whole_repairs;
 
@@ -19,10 +20,11 @@ pub struct Sweep {
     pub item: fn(&mut Crosscheck, usize),
 }
 
-pub const SWEEPS: [&Sweep; 5] = [
+pub const SWEEPS: [&Sweep; 6] = [
     &every_layout::SWEEP,
     &small_layouts::SWEEP,
     &least_check::SWEEP,
     &header_bytes::SWEEP,
+    &lost_counts::SWEEP,
     &whole_repairs::SWEEP,
 ];

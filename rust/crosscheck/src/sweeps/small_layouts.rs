@@ -7,18 +7,14 @@ use crate::spoil::spoil;
 
 pub const SWEEP: Sweep = Sweep {
     name: "small layouts",
-    items: |source| source.flat.len() + source.small.len(),
+    items: |source| source.up_to_small().count(),
     short_step: 80,
     item,
 };
 
 fn item(all: &mut Crosscheck, at: usize) {
-    let flat = all.source.flat.len();
-    let cabinet = if at < flat {
-        all.source.flat[at]
-    } else {
-        all.source.small[at - flat]
-    };
+    let cabinet = all.source.up_to_small().nth(at).copied();
+    let cabinet = cabinet.expect("an item is a layout");
     for call in CALLS {
         for times in 0..3 {
             let mut inputs = (call.example)(&mut all.source, &cabinet);

@@ -10,9 +10,9 @@ use Rattle.symbol.specs.Elem.{elem, ops}
 use Rattle.symbol.proofs.Elem.{elem-zero, elem-⊕}
 use Rattle.layout.specs.Layout.{digits}
 use Rattle.layout.proofs.Facts.{bounds}
-use Rattle.share.proofs.Parts.{part-is}
-use Rattle.share.proofs.part_symbol.Statement.{statement}
-use Rattle.share.proofs.part_symbol.Tie as tie
+use Rattle.share.proofs.Parts.{group-is}
+use Rattle.share.proofs.group_sum.Statement.{statement}
+use Rattle.share.proofs.group_sum.Tie as tie
 
 abbrev Inv-loop : tie.InvT-loop
 Inv-loop l h symbols p s sum₀ a₀ acc a = (a ≤ s) × (elem (acc .0) ≡ sum ops a (λ b. elem (getD symbols (layerOf (digits l) h p b) 0)))
@@ -20,8 +20,8 @@ Inv-loop l h symbols p s sum₀ a₀ acc a = (a ≤ s) × (elem (acc .0) ≡ sum
 abbrev μ-loop : tie.MeasureT-loop
 μ-loop l h symbols p s sum₀ a₀ acc a = s - a
 
-pub part-symbol-spec : {M : Type 1} → statement M
-part-symbol-spec =
+pub group-sum-spec : {M : Type 1} → statement M
+group-sum-spec =
     tie.close (tie.spec Inv-loop μ-loop
     (λ c κs. search needs)
     (λ c. (omega arith, sum-start ops _ elem-zero))
@@ -40,4 +40,4 @@ part-symbol-spec =
     (λ c.
     let a = c .before .before .before .before .args in
     let p = c .before .before .before .before .pre in
-    part-is (a .l) (p .adm) (a .h) (p .host-in) (a .symbols .now) (a .p) (p .group-in) _ _ (omega (arith, c .before .before .digit-count .ensures)) (c .before .loop .inv .1)))
+    group-is (a .l) (p .adm) (a .h) (p .host-in) (a .symbols .now) (a .p) (p .group-in) _ _ (omega (arith, c .before .before .digit-count .ensures)) (c .before .loop .inv .1)))

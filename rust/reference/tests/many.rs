@@ -1,0 +1,336 @@
+//! W1: e lost trays of one rack.
+
+mod common;
+
+use common::cases::RepairMany;
+use common::{codeword, helper_sets, lost_lists, rack_of, tray_of, Dice};
+use common::{SHAPES, SHAPES_OF_MANY};
+use reference::checks::Checks;
+use reference::elimination::solve;
+use reference::share::weight;
+use reference::*;
+
+/// The lost trays of a codeword as the spare must hold them.
+fn lost_of(layout: Layout, whole: &[u8], lost: &[Tray]) -> Vec<u8> {
+    let numbers = layout.numbers().unwrap();
+    let of_tray = |&tray: &Tray| tray_of(&numbers, whole, tray);
+    lost.iter().flat_map(of_tray).collect()
+}
+
+#[test]
+fn the_most_lost_trays() {
+    let most = |shape: [u32; 4]| Layout::from(shape).numbers().unwrap().most_lost();
+    assert_eq!(SHAPES_OF_MANY.map(most), [3, 2, 2, 3, 1]);
+    assert_eq!(most([4, 3, 8, 3]), 1);
+    assert_eq!(most([7, 5, 24, 6]), 1);
+    assert_eq!(most([10, 3, 24, 9]), 3);
+    assert_eq!(most([2, 17, 17, 1]), 17);
+}
+
+#[test]
+fn every_choice_of_lost_trays_and_helpers() {
+    let mut dice = Dice::new(51);
+    for shape in SHAPES_OF_MANY {
+        let layout = Layout::from(shape);
+        let numbers = layout.numbers().unwrap();
+        let whole = codeword(layout, 52);
+        for host in 0..numbers.racks {
+            for count in 1..=numbers.most_lost() {
+                for lost in lost_lists(&numbers, host, count) {
+                    for helpers in helper_sets(&numbers, host) {
+                        let case = RepairMany::whole(layout, &whole, &lost, &helpers, &mut dice);
+                        let repaired = case.run().unwrap();
+                        assert_eq!(repaired.spare, lost_of(layout, &whole, &lost));
+                        let crossed = count * numbers.helpers * numbers.groups;
+                        assert_eq!(repaired.crossed, crossed as u64);
+                        assert_eq!(repaired.remaining, 0);
+                    }
+                }
+            }
+        }
+    }
+}
+
+/// Whole racks, and others, of fifteen and seventeen.
+#[test]
+fn large_racks() {
+    let mut dice = Dice::new(53);
+    for shape in [
+        [2, 17, 17, 1],
+        [3, 17, 20, 2],
+        [3, 15, 15, 2],
+        [4, 15, 23, 3],
+    ] {
+        let layout = Layout::from(shape);
+        let numbers = layout.numbers().unwrap();
+        let whole = codeword(layout, 54);
+        for count in [1, 2, numbers.most_lost() - 1, numbers.most_lost()] {
+            let host = dice.below(numbers.racks);
+            let places = dice.choose(count, numbers.size);
+            let tray = |place| Tray((host * numbers.size + place) as u32);
+            let lost: Vec<Tray> = places.into_iter().map(tray).collect();
+            let sets = helper_sets(&numbers, host);
+            let helpers = &sets[dice.below(sets.len())];
+            let case = RepairMany::whole(layout, &whole, &lost, helpers, &mut dice);
+            let repaired = case.run().unwrap();
+            assert_eq!(repaired.spare, lost_of(layout, &whole, &lost));
+        }
+    }
+}
+
+/// Two trays of (10, 3, 24, 9), cut at random, in well under a second.
+#[test]
+fn two_trays_of_the_large_cabinet() {
+    let mut dice = Dice::new(55);
+    let layout = Layout::from([10, 3, 24, 9]);
+    let whole = codeword(layout, 56);
+    let lost = [Tray(12), Tray(14)];
+    let sets = helper_sets(&layout.numbers().unwrap(), 4);
+    let mut piece = RepairMany::whole(layout, &whole, &lost, &sets[0], &mut dice);
+    while piece.first < 512 {
+        piece.budget = dice.below(200) as u64;
+        let repaired = piece.run().unwrap();
+        piece.first += repaired.groups;
+        piece.spare = repaired.spare;
+    }
+    assert_eq!(piece.spare, lost_of(layout, &whole, &lost));
+}
+
+/// With e = 1 the bytes are those of document 01: the lost symbol is the host
+/// rack sum plus its rack's other symbols, whatever the shares.
+#[test]
+fn one_lost_tray_is_the_single_repair() {
+    let mut dice = Dice::new(57);
+    for shape in SHAPES {
+        let layout = Layout::from(shape);
+        let numbers = layout.numbers().unwrap();
+        for lost in 0..numbers.trays {
+            let host = lost / numbers.size;
+            let sets = helper_sets(&numbers, host);
+            let helpers = &sets[dice.below(sets.len())];
+            let shares = dice.bytes(numbers.helpers * numbers.groups);
+            let rack = dice.bytes(numbers.size * numbers.layers);
+            let spare = dice.bytes(numbers.layers);
+            let lost = [Tray(lost as u32)];
+            let single = Given {
+                lost: lost[0],
+                helpers,
+                shares: &shares,
+                host: &rack,
+            };
+            let many = GivenMany {
+                lost: &lost,
+                helpers,
+                shares: &shares,
+                host: &rack,
+            };
+            let first = dice.below(numbers.groups + 1) as u64;
+            let budget = dice.below(numbers.groups) as u64;
+            assert_eq!(
+                repair_many(layout, many, &spare, first, budget),
+                repair(layout, single, &spare, first, budget)
+            );
+        }
+    }
+}
+
+/// Whatever the shares and the sound trays: with the trays written, the checks
+/// t = u·w + m summed over each group have a solution in the silent racks.
+#[test]
+fn any_shares_are_answered_by_the_checks() {
+    let mut dice = Dice::new(58);
+    for shape in SHAPES_OF_MANY {
+        let layout = Layout::from(shape);
+        let numbers = layout.numbers().unwrap();
+        let checks = Checks::new(numbers);
+        for count in 1..=numbers.most_lost() {
+            let host = dice.below(numbers.racks);
+            let lists = lost_lists(&numbers, host, count);
+            let sets = helper_sets(&numbers, host);
+            let lost = &lists[dice.below(lists.len())];
+            let helpers = &sets[dice.below(sets.len())];
+            let mut case =
+                RepairMany::whole(layout, &codeword(layout, 59), lost, helpers, &mut dice);
+            case.shares = dice.bytes(case.shares.len());
+            case.host = dice.bytes(case.host.len());
+            let repaired = case.run().unwrap().spare;
+            let mut rack = case.host.clone();
+            for (tray, symbols) in lost.iter().zip(repaired.chunks(numbers.layers)) {
+                let place = tray.0 as usize % numbers.size;
+                rack[place * numbers.layers..][..numbers.layers].copy_from_slice(symbols);
+            }
+            for group in 0..numbers.groups {
+                for m in 0..count {
+                    assert!(consistent(&numbers, &checks, &case, &rack, group, m));
+                }
+            }
+        }
+    }
+}
+
+/// Whether the checks t = u·w + m summed over a group can hold with the host
+/// rack's symbols and the helpers' shares.
+fn consistent(
+    numbers: &Numbers,
+    checks: &Checks,
+    case: &RepairMany,
+    rack: &[u8],
+    group: usize,
+    m: usize,
+) -> bool {
+    let host = case.lost[0].0 as usize / numbers.size;
+    let layers: Vec<usize> = (0..numbers.layers)
+        .filter(|&layer| numbers.group(host, layer) == group)
+        .collect();
+    let helper_at = |rack: usize| {
+        case.helpers
+            .iter()
+            .position(|other| other.0 as usize == rack)
+    };
+    let silent: Vec<usize> = (0..numbers.racks)
+        .filter(|&rack| rack != host && helper_at(rack).is_none())
+        .collect();
+    let equation = |w: usize| {
+        let t = numbers.size * w + m;
+        let mut known = 0;
+        for &layer in &layers {
+            for place in 0..numbers.size {
+                let coefficient = checks.coefficient(host * numbers.size + place, layer, t);
+                let symbol = rack[place * numbers.layers + layer];
+                known ^= field::multiply(coefficient, symbol);
+            }
+        }
+        for (at, helper) in case.helpers.iter().enumerate() {
+            let first_tray = helper.0 as usize * numbers.size;
+            let coefficient = checks.coefficient(first_tray, layers[0], t);
+            let symbol = case.shares[(at * case.lost.len() + m) * numbers.groups + group];
+            known ^= field::multiply(coefficient, symbol);
+        }
+        let of_silent = silent
+            .iter()
+            .map(|&rack| checks.coefficient(rack * numbers.size, layers[0], t));
+        of_silent.chain([known]).collect()
+    };
+    let equations = (0..numbers.rack_checks).map(equation).collect();
+    solve(equations, silent.len()).is_some()
+}
+
+/// A tray's coefficient in check t = u·w + m is that of place 0 times its
+/// weight, in every admissible layout.
+#[test]
+fn weights_are_what_places_differ_by() {
+    for layout in common::admissible() {
+        let numbers = layout.numbers().unwrap();
+        let checks = Checks::new(numbers);
+        assert!(numbers.size * (numbers.rack_checks - 1) + numbers.most_lost() == numbers.checks);
+        for m in 0..numbers.most_lost() {
+            for tray in 0..numbers.trays {
+                let place = tray % numbers.size;
+                let t = numbers.size * (numbers.rack_checks - 1) + m;
+                let of_place_0 = checks.coefficient(tray - place, 0, t);
+                let product = field::multiply(of_place_0, weight(&numbers, place, m));
+                assert_eq!(checks.coefficient(tray, 0, t), product);
+            }
+        }
+    }
+}
+
+/// Pieces in random cuts, refused ones between, over any shares: the groups
+/// done are as one call writes them, and all else is as it was.
+#[test]
+fn pieces_make_the_whole() {
+    let mut dice = Dice::new(60);
+    for shape in SHAPES_OF_MANY {
+        let layout = Layout::from(shape);
+        let numbers = layout.numbers().unwrap();
+        let groups = numbers.groups as u64;
+        for count in 1..=numbers.most_lost() {
+            for host in 0..numbers.racks {
+                let lists = lost_lists(&numbers, host, count);
+                let lost = &lists[dice.below(lists.len())];
+                let helpers = &helper_sets(&numbers, host)[0];
+                let mut piece =
+                    RepairMany::whole(layout, &codeword(layout, 61), lost, helpers, &mut dice);
+                piece.shares = dice.bytes(piece.shares.len());
+                let first_spare = piece.spare.clone();
+                let uncut = piece.run().unwrap();
+                let (mut done, mut crossed) = (0, 0);
+                while done < groups {
+                    piece.first = groups + 1;
+                    assert_eq!(piece.run(), Err(Refusal::FirstGroup));
+                    piece.first = done;
+                    piece.budget = dice.below(numbers.groups + 2) as u64;
+                    let repaired = piece.run().unwrap();
+                    done += repaired.groups;
+                    crossed += repaired.crossed;
+                    assert_eq!(repaired.groups, piece.budget.min(groups - piece.first));
+                    assert_eq!(crossed + repaired.remaining, uncut.crossed);
+                    piece.spare = repaired.spare;
+                    for at in 0..count * numbers.layers {
+                        let group = numbers.group(host, at % numbers.layers) as u64;
+                        let source = if group < done {
+                            &uncut.spare
+                        } else {
+                            &first_spare
+                        };
+                        assert_eq!(piece.spare[at], source[at]);
+                    }
+                }
+            }
+        }
+    }
+}
+
+/// A group's symbols hang on its e·d share symbols and the sound host symbols
+/// of its layers alone.
+#[test]
+fn a_group_hangs_on_its_own_symbols() {
+    let mut dice = Dice::new(62);
+    let layout = Layout::from([5, 3, 7, 3]);
+    let numbers = layout.numbers().unwrap();
+    let lost = [Tray(6), Tray(8)];
+    let helpers = [0, 1, 3].map(Rack);
+    let one = RepairMany::whole(layout, &codeword(layout, 63), &lost, &helpers, &mut dice);
+    let written = one.run().unwrap().spare;
+    for group in 0..numbers.groups {
+        let mut other = one.clone();
+        other.shares = dice.bytes(one.shares.len());
+        other.host = dice.bytes(one.host.len());
+        other
+            .shares
+            .iter_mut()
+            .zip(&one.shares)
+            .enumerate()
+            .filter(|(at, _)| at % numbers.groups == group)
+            .for_each(|(_, (symbol, same))| *symbol = *same);
+        let layers: Vec<usize> = (0..numbers.layers)
+            .filter(|&layer| numbers.group(2, layer) == group)
+            .collect();
+        let sound = numbers.layers; // where the tray at place 1 begins
+        for &layer in &layers {
+            other.host[sound + layer] = one.host[sound + layer];
+        }
+        other.first = group as u64;
+        other.budget = 1;
+        let rewritten = other.run().unwrap().spare;
+        for at in 0..2 * numbers.layers {
+            let of_group = layers.contains(&(at % numbers.layers));
+            let source = if of_group { &written } else { &one.spare };
+            assert_eq!(rewritten[at], source[at]);
+        }
+    }
+}
+
+/// The trays of a whole rack come back with no sound tray read.
+#[test]
+fn with_a_whole_rack_lost_its_bytes_do_not_matter() {
+    let mut dice = Dice::new(64);
+    let layout = Layout::from([4, 3, 6, 3]);
+    let numbers = layout.numbers().unwrap();
+    let whole = codeword(layout, 65);
+    let lost = [3, 4, 5].map(Tray);
+    let helpers = [0, 2, 3].map(Rack);
+    let mut case = RepairMany::whole(layout, &whole, &lost, &helpers, &mut dice);
+    case.host = dice.bytes(case.host.len());
+    assert_eq!(case.run().unwrap().spare, rack_of(&numbers, &whole, 1));
+}
