@@ -25,8 +25,9 @@
  *    2   a lent buffer is not exactly the length its rule gives (symbols, shares, spare, states, an
  *        image being written; not lists, not an image being read)
  *    3   a tray or rack number outside the layout, a state outside its values, an image to be
- *        written with volume number 0, a scrub record that no walk can have, a run of layers
- *        outside 0 .. L or one that ends before it begins, or more groups done than there are
+ *        written with volume number 0, a scrub record that breaks a rule named at gesarumbo_scrub,
+ *        a run of layers outside 0 .. L or one that ends before it begins, or more groups done
+ *        than there are
  *    4   a list is not strictly rising
  *    5   more than r trays erased, or not exactly d helpers
  *   12   not 1 to u - v lost trays
@@ -84,7 +85,7 @@ typedef struct {
 
 typedef struct {
     uint32_t refusal;
-    uint32_t source;       /* 1 the store, 2 the spare */
+    uint32_t source;       /* 1 the store, 2 the spare, 0 with a refusal */
     size_t offset, length; /* where the part lies in it */
 } gesarumbo_part;
 
@@ -207,8 +208,9 @@ uint32_t gesarumbo_share_add_many(gesarumbo_layout layout, uint32_t lost_count,
  * are written, and no other byte. From the shares and sound trays of a codeword these are its lost
  * symbols; from any others they are fixed all the same, by the checks t = 0, u, 2u and on summed
  * over each group. A budget of 0, or a first group of L/s, does nothing.
- * A repair may be cut into any pieces, each from the group where the last done one ended, with
- * refused calls between them: spare is then as one uncut repair writes it.
+ * A repair may be cut into any pieces, the first from group 0 and each later one from where the
+ * last done one ended, with refused calls between them: the layers of all groups done are then as
+ * one uncut repair writes them, and the rest of spare is as it was.
  */
 gesarumbo_repaired gesarumbo_repair(gesarumbo_layout layout, uint32_t lost,
                                     const uint32_t *helpers, size_t helpers_count,
@@ -247,9 +249,9 @@ gesarumbo_repaired gesarumbo_repair_many(gesarumbo_layout layout,
  * Done: where the part lies: in the store for a tray that is not lost, in the spare for the lost
  * one, every layer asked for being in a group done. With first = end it is empty. Nothing is
  * written.
- * If spare was written by pieces of a repair of this tray, the first from group 0 and each from
- * where the last done one ended, and at least as far as groups says, out of shares and sound trays
- * of a codeword that the store's other trays belong to, then the part is that codeword's.
+ * If spare was written by pieces of a repair of this tray alone, the first from group 0 and each
+ * from where the last done one ended, and at least as far as groups says, out of shares and sound
+ * trays of a codeword that the store's other trays belong to, then the part is that codeword's.
  */
 gesarumbo_part gesarumbo_read_part(gesarumbo_layout layout,
                                    const uint8_t *codeword, size_t codeword_length,

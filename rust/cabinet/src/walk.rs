@@ -44,7 +44,7 @@ impl Walk {
             return Ok(walk);
         };
         (walk.record, walk.bad) = parse(&bytes, &walk.name).ok_or_else(|| foreign(&walk.path))?;
-        // The library says whether the record is one that a walk can have.
+        // The library says whether it takes the record.
         walk.look(codeword, 0)?;
         match walk.agrees() {
             true => Ok(walk),

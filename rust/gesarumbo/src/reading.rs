@@ -12,7 +12,7 @@ use crate::{ffi, Layer, Layout, Refusal, Tray};
 ///
 /// Done: the part, where it lies: in the codeword for a tray that is not lost, in the spare for the
 /// lost one. An empty run is an empty part. If the spare was written by pieces of a repair of this
-/// tray, from group 0 on and at least as far as `groups` says, from shares and sound trays of a codeword to
+/// tray alone, from group 0 on and at least as far as `groups` says, from shares and sound trays of a codeword to
 /// which the other trays of `codeword` belong, the part is that codeword's. Nothing is written.
 ///
 /// Refused, in this order: [`Refusal::Layout`]; [`Refusal::Length`] where `codeword` has not n·L

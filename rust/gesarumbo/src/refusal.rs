@@ -25,7 +25,7 @@ pub enum Refusal {
     /// image being written.
     Length = 2,
     /// A tray, rack, state or volume number is outside its values, a run of layers or a number of
-    /// groups done is, or a scrub record is none that a walk can have.
+    /// groups done is, or a scrub record breaks a rule that [`scrub`](crate::scrub()) names.
     Number = 3,
     /// A list is not strictly rising.
     Order = 4,
@@ -60,7 +60,7 @@ const GROUNDS: [(Refusal, &str); 13] = [
     (
         Refusal::Number,
         "a tray, rack, state, volume, layer or group number is outside its values, or a scrub \
-         record none that a walk can have",
+         record breaks its rules",
     ),
     (Refusal::Order, "a list is not strictly rising"),
     (

@@ -25,8 +25,9 @@ pub struct Repaired {
 /// summed over each group. A budget of 0, or a first group of L/s, does nothing. Refused: `spare`
 /// is as it was.
 ///
-/// A repair may be cut into any pieces, each beginning where the last one ended, and refused calls
-/// may come between: the spare is then what one uncut repair writes.
+/// A repair may be cut into any pieces, the first from group 0 and each later one from where the
+/// last done one ended, and refused calls may come between: the layers of all groups done are then
+/// as one uncut repair writes them, and the rest of the spare is as it was.
 ///
 /// Refused, in this order: [`Refusal::Layout`]; [`Refusal::Length`] where `shares` has not d·L/s
 /// bytes, `host` not u·L or `spare` not L; [`Refusal::Number`] where the tray is not below n or a

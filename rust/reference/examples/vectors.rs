@@ -1,7 +1,7 @@
 //! Writes the vectors of W1, W6, W7 and W8, in the format of
-//! `vectors/FORMAT.md`, into the folder named:
+//! `tests/vectors/FORMAT.md`, into the folder named:
 //!
-//!     cargo run --offline --release --example vectors -- vectors
+//!     cargo run --offline --release -p reference --example vectors -- FOLDER
 
 #[path = "../tests/common/mod.rs"]
 mod common;

@@ -84,6 +84,12 @@ fn print_numbers(numbers: &Numbers, screen: &mut Screen) {
         ("L", "symbols in a tray, layers", "s^B", numbers.layers),
         ("", "groups in a repair", "L/s", numbers.groups()),
         ("", "symbols in a share", "L/s", numbers.groups()),
+        (
+            "",
+            "lost trays of one rack at a time",
+            "u - v",
+            numbers.size - numbers.over,
+        ),
     ];
     screen.heading(format!("Layout {}", numbers.layout));
     for (name, words, formula, value) in rows {

@@ -235,7 +235,7 @@ fn a_changed_tray_ends_the_walk() {
 }
 
 #[test]
-fn a_record_that_no_walk_can_have_is_refused() {
+fn a_record_that_breaks_a_rule_is_refused() {
     let bench = Bench::with_cabinet();
     bench.done("scrub c --budget 5");
     let good = record(&bench);
