@@ -39,7 +39,7 @@ impl Given {
         lost: Vec<u32>,
         mut answer: impl FnMut(&Call, &Inputs) -> Answer,
     ) -> Given {
-        let host = host_of(cabinet, &lost);
+        let host = rack_of(cabinet, &lost);
         let helpers = helpers(random, cabinet, host);
         let mut shares = vec![];
         for &helper in &helpers {
@@ -60,7 +60,7 @@ impl Given {
     }
 
     fn of_no_codeword(random: &mut Random, cabinet: &Cabinet, lost: Vec<u32>) -> Given {
-        let helpers = helpers(random, cabinet, host_of(cabinet, &lost));
+        let helpers = helpers(random, cabinet, rack_of(cabinet, &lost));
         let shares = random.bytes(lost.len() * cabinet.numbers.helpers * cabinet.numbers.groups);
         let host = random.bytes(cabinet.rack(0).len());
         Given {
@@ -80,8 +80,12 @@ impl Given {
     /// The group of a place in the spare or in the host rack.
     pub fn group(&self, at: usize) -> usize {
         let numbers = &self.cabinet.numbers;
-        let host = host_of(&self.cabinet, &self.lost);
-        numbers.group(host as usize, at % numbers.layers)
+        numbers.group(self.rack() as usize, at % numbers.layers)
+    }
+
+    /// The host rack's number.
+    pub fn rack(&self) -> u32 {
+        rack_of(&self.cabinet, &self.lost)
     }
 
     /// The symbols that cross for each group.
@@ -137,7 +141,7 @@ impl Given {
 }
 
 /// The rack of lost trays, any where there are none.
-fn host_of(cabinet: &Cabinet, lost: &[u32]) -> u32 {
+fn rack_of(cabinet: &Cabinet, lost: &[u32]) -> u32 {
     lost.first().map_or(0, |&tray| cabinet.rack_of(tray))
 }
 

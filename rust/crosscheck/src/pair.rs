@@ -26,6 +26,11 @@ pub const REPAIR: Pair = Pair {
 pub const PAIRS: [Pair; 3] = [SHARE, SHARE_ADD, REPAIR];
 
 impl Pair {
+    /// One of the two forms.
+    pub fn any(&self, random: &mut Random) -> &'static Call {
+        random.pick(&[self.one, self.many])
+    }
+
     /// The form for several, or at random the one for one tray where one is
     /// lost.
     pub fn either(&self, random: &mut Random, inputs: Inputs) -> (&'static Call, Inputs) {

@@ -3,8 +3,8 @@
 //! A cabinet has B racks of u trays, n = B·u trays in all, and stores k trays' worth of data. Any
 //! k trays give back the rest. When one tray is lost, d other racks each work out a share of L/s
 //! symbols from their own trays, and the tray comes back from these shares and the sound trays of
-//! its own rack. So d·L/s symbols cross between the racks, the published least. Several lost trays
-//! of one rack, up to u − v with v = k mod u, are repaired together; as many symbols cross for each.
+//! its own rack. So d·L/s symbols cross between the racks, the published least. Up to u − v lost
+//! trays of one rack, v = k mod u, are repaired together, and as many symbols cross for each.
 //!
 //! Here K = k/u (whole), s = d − K + 1, and L = s to the power B. A tray has L symbols of one byte,
 //! in layers 0 to L − 1, and a layer has r = n − k parity checks. A codeword lies tray after tray,

@@ -76,16 +76,16 @@ pub fn repair(
 /// bytes, tray after tray as listed. With e = 1 answer and bytes are those of [`repair`].
 ///
 /// Done: the groups from `first` on are done, as many as `budget` allows and are left. Their layers
-/// of every tray are written in `spare`, and no other byte of it. With the shares and sound trays of
-/// a codeword these are that codeword's lost symbols; for any others they are fixed all the same by
-/// the checks summed over each group. A budget of 0, or a first group of L/s, does nothing. Refused:
-/// `spare` is as it was. It may be cut into pieces as the repair of one tray may.
+/// of every tray are written in `spare`, and no other byte of it. With the shares and sound trays
+/// of a codeword these are that codeword's lost symbols; for any others they are fixed all the same
+/// by the checks summed over each group. A budget of 0, or a first group of L/s, does nothing.
+/// Refused: `spare` is as it was. It may be cut into pieces as the repair of one tray may.
 ///
 /// Refused, in this order: [`Refusal::Layout`]; [`Refusal::Length`] where `shares` has not e·d·L/s
 /// bytes, `host` not u·L or `spare` not e·L; [`Refusal::Number`] where a tray is not below n or
 /// outside the first one's rack, or a helper not below B; [`Refusal::Order`] where either list does
-/// not rise; [`Refusal::Count`] where the helpers are not d; [`Refusal::LostCount`] where e is not 1
-/// to u − v, with v = k mod u; [`Refusal::Host`] where the lost trays' rack is a helper;
+/// not rise; [`Refusal::Count`] where the helpers are not d; [`Refusal::LostCount`] where e is not
+/// 1 to u − v, with v = k mod u; [`Refusal::Host`] where the lost trays' rack is a helper;
 /// [`Refusal::FirstGroup`] where the first group is above L/s.
 ///
 /// ```

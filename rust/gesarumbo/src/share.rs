@@ -117,12 +117,12 @@ pub fn share_many(
 ///
 /// With e for `count`: `symbols` is the L bytes of the tray. Done: the e·L/s bytes of `share` hold
 /// what they held, plus this tray's part: in share m, the root to the power g·m·(255/u) times what
-/// [`share_add`] adds, g being the tray's place. Clear the shares first and feed each of the rack's u
-/// trays once, in any order: they then hold what [`share_many`] gives for the rack. A tray fed twice
-/// cancels. Refused: `share` is as it was.
+/// [`share_add`] adds, g being the tray's place. Clear the shares first and feed each of the rack's
+/// u trays once, in any order: they then hold what [`share_many`] gives for the rack. A tray fed
+/// twice cancels. Refused: `share` is as it was.
 ///
-/// Refused, in this order: [`Refusal::Layout`]; [`Refusal::Length`] where `symbols` has not L bytes or
-/// `share` not e·L/s; [`Refusal::Number`] where the rack is not below B or the tray not below n;
+/// Refused, in this order: [`Refusal::Layout`]; [`Refusal::Length`] where `symbols` has not L bytes
+/// or `share` not e·L/s; [`Refusal::Number`] where the rack is not below B or the tray not below n;
 /// [`Refusal::LostCount`] where e is not 1 to u − v, with v = k mod u; [`Refusal::Host`] where the
 /// tray stands in the host rack.
 ///

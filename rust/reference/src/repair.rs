@@ -115,6 +115,8 @@ struct Repair<'a> {
     host: usize,
     /// The places of the lost trays, as listed.
     lost: Vec<usize>,
+    /// By m and place, worked out once.
+    weights: Vec<Vec<u8>>,
     helpers: Vec<usize>,
     /// The racks that are neither host nor helper.
     silent: Vec<usize>,
@@ -124,6 +126,11 @@ impl Repair<'_> {
     fn new(numbers: Numbers, given: GivenMany) -> Repair {
         let host = given.lost[0].0 as usize / numbers.size;
         let place = |tray: &Tray| tray.0 as usize % numbers.size;
+        let weights = |m| {
+            (0..numbers.size)
+                .map(|place| weight(&numbers, place, m))
+                .collect()
+        };
         let helpers: Vec<usize> = given.helpers.iter().map(|rack| rack.0 as usize).collect();
         let silent = (0..numbers.racks)
             .filter(|rack| *rack != host && !helpers.contains(rack))
@@ -134,6 +141,7 @@ impl Repair<'_> {
             given,
             host,
             lost: given.lost.iter().map(place).collect(),
+            weights: (0..given.lost.len()).map(weights).collect(),
             helpers,
             silent,
         }
@@ -142,12 +150,14 @@ impl Repair<'_> {
     /// The spare with the layers of these groups written, in every lost tray.
     fn write(&self, spare: &[u8], groups: std::ops::Range<usize>) -> Vec<u8> {
         let mut written = spare.to_vec();
+        let mut layers_of = vec![vec![]; self.numbers.groups];
+        for layer in 0..self.numbers.layers {
+            layers_of[self.numbers.group(self.host, layer)].push(layer);
+        }
         for group in groups {
-            let layers: Vec<usize> = (0..self.numbers.layers)
-                .filter(|&layer| self.numbers.group(self.host, layer) == group)
-                .collect();
+            let layers = &layers_of[group];
             let sums: Vec<Vec<u8>> = (0..self.lost.len())
-                .map(|m| self.host_sums(group, &layers, m))
+                .map(|m| self.host_sums(group, layers, m))
                 .collect();
             for (digit, &layer) in layers.iter().enumerate() {
                 let of_layer: Vec<u8> = sums.iter().map(|of_m| of_m[digit]).collect();
@@ -194,11 +204,10 @@ impl Repair<'_> {
             .filter(|place| !self.lost.contains(place))
             .collect();
         let equation = |(m, &sum): (usize, &u8)| -> Equation {
-            let of_place = |place| weight(&self.numbers, place, m);
-            let of_lost = self.lost.iter().map(|&place| of_place(place));
+            let of_lost = self.lost.iter().map(|&place| self.weights[m][place]);
             let known = sound.iter().fold(sum, |known, &place| {
                 let symbol = self.given.host[place * self.numbers.layers + layer];
-                known ^ multiply(of_place(place), symbol)
+                known ^ multiply(self.weights[m][place], symbol)
             });
             of_lost.chain([known]).collect()
         };

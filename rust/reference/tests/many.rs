@@ -30,7 +30,7 @@ fn the_most_lost_trays() {
 #[test]
 fn every_choice_of_lost_trays_and_helpers() {
     let mut dice = Dice::new(51);
-    for shape in SHAPES_OF_MANY {
+    for shape in SHAPES.into_iter().chain(SHAPES_OF_MANY) {
         let layout = Layout::from(shape);
         let numbers = layout.numbers().unwrap();
         let whole = codeword(layout, 52);
@@ -94,44 +94,6 @@ fn two_trays_of_the_large_cabinet() {
         piece.spare = repaired.spare;
     }
     assert_eq!(piece.spare, lost_of(layout, &whole, &lost));
-}
-
-/// With e = 1 the bytes are those of document 01: the lost symbol is the host
-/// rack sum plus its rack's other symbols, whatever the shares.
-#[test]
-fn one_lost_tray_is_the_single_repair() {
-    let mut dice = Dice::new(57);
-    for shape in SHAPES {
-        let layout = Layout::from(shape);
-        let numbers = layout.numbers().unwrap();
-        for lost in 0..numbers.trays {
-            let host = lost / numbers.size;
-            let sets = helper_sets(&numbers, host);
-            let helpers = &sets[dice.below(sets.len())];
-            let shares = dice.bytes(numbers.helpers * numbers.groups);
-            let rack = dice.bytes(numbers.size * numbers.layers);
-            let spare = dice.bytes(numbers.layers);
-            let lost = [Tray(lost as u32)];
-            let single = Given {
-                lost: lost[0],
-                helpers,
-                shares: &shares,
-                host: &rack,
-            };
-            let many = GivenMany {
-                lost: &lost,
-                helpers,
-                shares: &shares,
-                host: &rack,
-            };
-            let first = dice.below(numbers.groups + 1) as u64;
-            let budget = dice.below(numbers.groups) as u64;
-            assert_eq!(
-                repair_many(layout, many, &spare, first, budget),
-                repair(layout, single, &spare, first, budget)
-            );
-        }
-    }
 }
 
 /// Whatever the shares and the sound trays: with the trays written, the checks

@@ -23,28 +23,9 @@ fn pairs(numbers: &Numbers) -> Vec<(Rack, Rack)> {
 }
 
 #[test]
-fn all_trays_in_any_order_make_the_share() {
-    let mut dice = Dice::new(21);
-    for shape in SHAPES {
-        let layout = Layout::from(shape);
-        let numbers = layout.numbers().unwrap();
-        let whole = codeword(layout, 22);
-        for (host, helper) in pairs(&numbers) {
-            let mut built = vec![0; numbers.groups];
-            for tray in shuffled(&numbers, helper, &mut dice) {
-                built = fed(layout, &whole, host, tray, &built).run().unwrap();
-            }
-            let rack = rack_of(&numbers, &whole, helper.0 as usize);
-            let at_once = share(layout, host, helper, &rack, &vec![0xEE; numbers.groups]);
-            assert_eq!(at_once, Ok(built));
-        }
-    }
-}
-
-#[test]
-fn all_trays_in_any_order_make_the_shares_of_many() {
+fn all_trays_in_any_order_make_the_shares() {
     let mut dice = Dice::new(23);
-    for shape in SHAPES_OF_MANY {
+    for shape in SHAPES.into_iter().chain(SHAPES_OF_MANY) {
         let layout = Layout::from(shape);
         let numbers = layout.numbers().unwrap();
         let whole = codeword(layout, 24);

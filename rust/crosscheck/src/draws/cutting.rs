@@ -126,7 +126,7 @@ fn refused(source: &mut Source, own: &Cabinet, spare: &[u8]) -> (&'static Call, 
     loop {
         let other = source.random.one_in(4);
         let cabinet = if other { source.cabinet() } else { *own };
-        let call = source.random.pick(&[pair::REPAIR.one, pair::REPAIR.many]);
+        let call = pair::REPAIR.any(&mut source.random);
         let mut inputs = (call.example)(source, &cabinet);
         let times = 1 + source.random.below(3);
         spoil(source, &cabinet, &mut inputs, times);

@@ -31,8 +31,7 @@ fn case(all: &mut Crosscheck) {
     let mut held = vec![0; length];
     while !left.is_empty() {
         if all.source.random.one_in(4) {
-            let forms = [pair::SHARE_ADD.one, pair::SHARE_ADD.many];
-            let call = all.source.random.pick(&forms);
+            let call = pair::SHARE_ADD.any(&mut all.source.random);
             let mut inputs = (call.example)(&mut all.source, &cabinet);
             spoil(&mut all.source, &cabinet, &mut inputs, 2);
             inputs.0.pop();

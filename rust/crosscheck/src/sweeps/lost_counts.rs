@@ -1,12 +1,12 @@
 //! Shares and repairs for every number of lost trays, their buffers as long as it
-//! says: refused with 12 exactly where it is not 1 to u − v.
+//! says: refused with 12 exactly where it is not 1 to u − v, before 6 and after 5.
 
 use super::Sweep;
 use crate::cabinet::Cabinet;
 use crate::calls::{repair_many, share_add_many, share_many, Call};
 use crate::crosscheck::Crosscheck;
 use crate::given::Given;
-use crate::inputs::Inputs;
+use crate::inputs::{Inputs, Value};
 
 /// An item is a layout.
 pub const SWEEP: Sweep = Sweep {
@@ -24,29 +24,52 @@ fn item(all: &mut Crosscheck, at: usize) {
     let cabinet = cabinet.expect("an item is a layout");
     let size = cabinet.numbers.size;
     for count in (0..=size + 1).chain([FAR]) {
-        let random = &mut all.source.random;
-        let share = share_many::draw(random, &cabinet, count);
-        let add = share_add_many::draw(random, &cabinet, count);
-        answered(all, &cabinet, count, &share_many::CALL, &share);
-        answered(all, &cabinet, count, &share_add_many::CALL, &add);
+        // The refusal of a call that would otherwise get this one.
+        let with = |other| if outside(&cabinet, count) { 12 } else { other };
+        shares(all, &cabinet, count, with);
         if count <= size {
-            let random = &mut all.source.random;
-            let lost = cabinet.lost(random, count);
-            let piece = Given::draw(random, &cabinet, lost).some_piece(random);
-            answered(all, &cabinet, count, &repair_many::CALL, &piece);
+            repairs(all, &cabinet, count, with);
         }
     }
 }
 
-fn answered(all: &mut Crosscheck, cabinet: &Cabinet, count: usize, call: &Call, inputs: &Inputs) {
-    let answer = all.run.compare(call, inputs);
+fn outside(cabinet: &Cabinet, count: usize) -> bool {
     let [_, size, dimension, _] = cabinet.layout.map(|number| number as usize);
-    let expected = match count {
-        0 => 12,
-        _ if count > size - dimension % size => 12,
-        _ => 0,
-    };
-    all.run.claim(answer.refusal == expected, || {
-        format!("{count} lost trays, {}: {inputs}", call.name)
+    count == 0 || count > size - dimension % size
+}
+
+/// Good ones, and such where the host rack is the helper.
+fn shares(all: &mut Crosscheck, cabinet: &Cabinet, count: usize, with: impl Fn(u32) -> u32) {
+    let random = &mut all.source.random;
+    let mut share = share_many::draw(random, cabinet, count);
+    let mut add = share_add_many::draw(random, cabinet, count);
+    answered(all, &share_many::CALL, &share, with(0));
+    answered(all, &share_add_many::CALL, &add, with(0));
+    share.0[2] = Value::Small(share.small(3));
+    add.0[2] = Value::Small(cabinet.rack_of(add.small(3)));
+    answered(all, &share_many::CALL, &share, with(6));
+    answered(all, &share_add_many::CALL, &add, with(6));
+}
+
+/// Good ones, such where the host rack is a helper, and one helper too few.
+fn repairs(all: &mut Crosscheck, cabinet: &Cabinet, count: usize, with: impl Fn(u32) -> u32) {
+    let random = &mut all.source.random;
+    let lost = cabinet.lost(random, count);
+    let mut given = Given::draw(random, cabinet, lost);
+    let good = given.some_piece(random);
+    given.helpers[0] = given.rack();
+    given.helpers.sort();
+    let host_helps = given.some_piece(random);
+    given.helpers.pop();
+    let too_few = given.some_piece(random);
+    for (piece, refusal) in [(good, with(0)), (host_helps, with(6)), (too_few, 5)] {
+        answered(all, &repair_many::CALL, &piece, refusal);
+    }
+}
+
+fn answered(all: &mut Crosscheck, call: &Call, inputs: &Inputs, refusal: u32) {
+    let answer = all.run.compare(call, inputs);
+    all.run.claim(answer.refusal == refusal, || {
+        format!("{} {inputs}: {answer}, not {refusal}", call.name)
     });
 }

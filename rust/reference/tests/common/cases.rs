@@ -297,7 +297,7 @@ impl RepairMany {
             host: rack,
             spare: dice.bytes(lost.len() * numbers.layers),
             first: 0,
-            budget: u64::from(u32::MAX),
+            budget: u64::MAX,
         }
     }
 
