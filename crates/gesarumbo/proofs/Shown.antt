@@ -1,7 +1,7 @@
 -- What the boundary shows of a call is the call's contract.
 -- Assumes nothing.
 use mathlib.Core.Path.{_≡_, sym, ap, ap₂, _∙_, subst}
-use mathlib.Core.Bool.{cond}
+use mathlib.Core.Bool.{Bool, true, false, cond}
 use mathlib.Core.List.{List, [], _∷_}
 use Prim.Native.Nat.{ℕ, _+_, _-_, _*_}
 use native.Mathlib.Nat.{le-refl}
@@ -18,8 +18,10 @@ use Rattle.layout.specs.declared.Tray.{Tray}
 use Rattle.repair.specs.declared.Repaired.{Repaired}
 use Rattle.repair.specs.Repair.{RepairAnswer}
 use Rattle.symbol.specs.Elem.{gf256}
-use Rattle.gesarumbo.specs.declared.RepairNumbers.{RepairNumbers}
+use Rattle.gesarumbo.specs.declared.numbers.PartNumbers.{PartNumbers}
+use Rattle.gesarumbo.specs.declared.numbers.RepairNumbers.{RepairNumbers}
 use Rattle.gesarumbo.specs.Boundary.{repairNumbers, ReadShown, RepairShown, PartShown}
+use Rattle.gesarumbo.specs.Inner.{partNumbers}
 
 module _ (l : Layout) (volume : ℕ) (image : List ℕ) where
   pub read-refused : (n : ℕ) → n ≡ readRefusal l volume image → (n ≡ 0 → ⊥) →
@@ -62,6 +64,12 @@ own-length n s part e =
     ∙ take-append-seam (take n s) (drop n s)
     ∙ sym e
 
+-- and so is one of two runs
+own-run : (b : Bool) (n x y : ℕ) (s c part : List ℕ) → part ≡ cond b (take n (drop x s)) (take n (drop y c)) →
+    take (length part) (drop (cond b x y) (cond (eqb (cond b 2 1) 2) s c)) ≡ part
+own-run true n x y s c part e = own-length n (drop x s) part e
+own-run false n x y s c part e = own-length n (drop y c) part e
+
 -- reading while repairing; x and y are the kinds' numbers, n the refusal that was written
 module _ (l : Layout) (codeword spare : List ℕ) (lost done tray first end x y n : ℕ) (xs : x ≡ lost) (ys : y ≡ tray)
     (e : n ≡ partRefusal l (length codeword) (length spare) x done y first end) where
@@ -85,25 +93,14 @@ module _ (l : Layout) (codeword spare : List ℕ) (lost done tray first end x y 
       given : part ≡ partGiven l codeword spare lost done tray first end
       given = p ∙ ap₂ (λ a b. partGiven l codeword spare a done b first end) xs ys
 
-      pub part-in-spare : tray ≡ lost → PartShown l codeword spare lost done tray first end (record { refusal = 0; source = 2; offset = first; length = length part })
+      pub part-read : (r : PartNumbers) → r ≡ partNumbers l lost tray first (length part) → PartShown l codeword spare lost done tray first end r
       unfolding partGiven run
-      part-in-spare same =
-          let r = eq-eqb (partRefusal l (length codeword) (length spare) lost done tray first end) 0 none in
-          let t = eq-eqb tray lost same in
-          let q : part ≡ take (end - first) (drop first spare) = given ∙ simp (r, t) in
-          record { refusal-is = sym none; source-is = simp (r, t); offset-is = simp (r, t); length-is = ap length given; part-is = own-length (end - first) (drop first spare) part q ∙ given }
-
-      pub part-in-store : (tray ≡ lost → ⊥) → (m : ℕ) → m ≡ layers l →
-          PartShown l codeword spare lost done tray first end (record { refusal = 0; source = 1; offset = tray * m + first; length = length part })
-      unfolding partGiven run
-      part-in-store other m k =
-          let r = eq-eqb (partRefusal l (length codeword) (length spare) lost done tray first end) 0 none in
-          let t = ne-eqb tray lost other in
-          let q : part ≡ take (end - first) (drop (tray * m + first) codeword) = given ∙ simp (r, t) (ap (λ n. take (end - first) (drop (tray * n + first) codeword)) (sym k)) in
-          record {
+      part-read r s =
+          let q = eq-eqb (partRefusal l (length codeword) (length spare) lost done tray first end) 0 none in
+          subst (PartShown l codeword spare lost done tray first end) (sym s) (record {
             refusal-is = sym none;
-            source-is = simp (r, t);
-            offset-is = simp (r, t) (ap (λ n. tray * n + first) k);
+            source-is = simp q;
+            offset-is = simp q;
             length-is = ap length given;
-            part-is = own-length (end - first) (drop (tray * m + first) codeword) part q ∙ given;
-          }
+            part-is = own-run (eqb tray lost) (end - first) first (tray * layers l + first) spare codeword part (given ∙ simp q) ∙ given;
+          })

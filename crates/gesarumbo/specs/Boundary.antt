@@ -15,18 +15,18 @@ use Rattle.codeword.specs.Test.{TestAnswer, numbersOf as tested}
 use Rattle.image.specs.Image.{headerLength, readRefusal, readTray, readPart}
 use Rattle.scrub.specs.declared.Scrubbed.{Scrubbed}
 use Rattle.scrub.specs.Scrub.{numbersOf as reported}
-use Rattle.gesarumbo.specs.declared.ImageNumbers.{ImageNumbers}
+use Rattle.gesarumbo.specs.declared.numbers.ImageNumbers.{ImageNumbers}
 use Rattle.margin.specs.declared.LossMargin.{LossMargin}
 use Rattle.margin.specs.Margin.{refusalOf, valueOf}
-use Rattle.gesarumbo.specs.declared.MarginNumbers.{MarginNumbers}
-use Rattle.gesarumbo.specs.declared.MeasureNumbers.{MeasureNumbers}
+use Rattle.gesarumbo.specs.declared.numbers.MarginNumbers.{MarginNumbers}
+use Rattle.gesarumbo.specs.declared.numbers.MeasureNumbers.{MeasureNumbers}
 use Rattle.repair.specs.declared.Repaired.{Repaired}
 use Rattle.repair.specs.Repair.{report, RepairAnswer}
 use Rattle.reading.specs.Reading.{partRefusal, partGiven}
-use Rattle.gesarumbo.specs.declared.PartNumbers.{PartNumbers}
-use Rattle.gesarumbo.specs.declared.RepairNumbers.{RepairNumbers}
-use Rattle.gesarumbo.specs.declared.TestNumbers.{TestNumbers}
-use Rattle.gesarumbo.specs.declared.ScrubNumbers.{ScrubNumbers}
+use Rattle.gesarumbo.specs.declared.numbers.PartNumbers.{PartNumbers}
+use Rattle.gesarumbo.specs.declared.numbers.RepairNumbers.{RepairNumbers}
+use Rattle.gesarumbo.specs.declared.numbers.TestNumbers.{TestNumbers}
+use Rattle.gesarumbo.specs.declared.numbers.ScrubNumbers.{ScrubNumbers}
 
 abbrev pub measureNumbers : Measured → MeasureNumbers
 measureNumbers a =

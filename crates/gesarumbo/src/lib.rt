@@ -1,14 +1,17 @@
 // The C boundary: one thin exported function for each call, with the names and structs of c/gesarumbo.h. Each repeats its call's contract: what comes back
 // by the definition that gives document 01's numbers for an answer, and what every lent byte is afterwards. A slice crosses as a pointer and a length.
-use codeword::Tested;
+mod numbers;
+
+use crate::numbers::ImageNumbers;
+use crate::numbers::MarginNumbers;
+use crate::numbers::MeasureNumbers;
+use crate::numbers::PartNumbers;
+use crate::numbers::RepairNumbers;
+use crate::numbers::ScrubNumbers;
+use crate::numbers::TestNumbers;
 use layout::Layout;
-use layout::Measured;
 use layout::Rack;
 use layout::Tray;
-use margin::LossMargin;
-use repair::Repaired;
-use scrub::Report;
-use scrub::Scrubbed;
 use scrub::Walk;
 ghost use mathlib.Core.Path.{_≡_};
 ghost use mathlib.Core.List.{[], _∷_};
@@ -22,198 +25,20 @@ ghost use Rattle.share.specs.Share.{shareRefusal, shareBuffer, addRefusal, addB
 ghost use Rattle.share.specs.Many.{manyRefusal, manyBuffer, addManyRefusal, addManyBuffer};
 ghost use Rattle.image.specs.Image.{writeRefusal, writeBuffer};
 ghost use Rattle.scrub.specs.Scrub.{scrubbed, begun};
-ghost use Rattle.gesarumbo.specs.Boundary.{measureNumbers, testNumbers, marginNumbers, repairNumbers, scrubNumbers, TestShown, ReadShown, RepairShown, PartShown};
-
-#[repr(C)]
-pub struct MeasureNumbers {
-    pub refusal: u32,
-    pub layers: u32,
-    pub checks: u32,
-    pub traffic: u32,
-}
-
-#[repr(C)]
-pub struct TestNumbers {
-    pub refusal: u32,
-    pub verdict: u32,
-    pub layer: u32,
-    pub check: u32,
-}
-
-#[repr(C)]
-pub struct RepairNumbers {
-    pub refusal: u32,
-    pub groups: u64,
-    pub crossed: u64,
-    pub remaining: u64,
-}
-
-#[repr(C)]
-pub struct PartNumbers {
-    pub refusal: u32,
-    pub source: u32,
-    pub offset: usize,
-    pub length: usize,
-}
-
-#[repr(C)]
-pub struct ImageNumbers {
-    pub refusal: u32,
-    pub tray: u32,
-    pub offset: usize,
-    pub length: usize,
-}
-
-#[repr(C)]
-pub struct MarginNumbers {
-    pub refusal: u32,
-    pub margin: i32,
-}
-
-#[repr(C)]
-pub struct ScrubNumbers {
-    pub refusal: u32,
-    pub report: u32,
-    pub walk: Walk,
-}
-
-// The numbers of an answer of the layout call.
-fn measure_numbers(answer: Measured) -> MeasureNumbers
-    ensures { λ r. ⌜ r ≡ measureNumbers answer ⌝ }
-{
-    match answer {
-        Measured::Known {
-            layers,
-            checks,
-            traffic,
-        } => MeasureNumbers {
-            refusal: 0,
-            layers: layers,
-            checks: checks,
-            traffic: traffic,
-        },
-        Measured::Refused(e) => MeasureNumbers {
-            refusal: e as u32,
-            layers: 0,
-            checks: 0,
-            traffic: 0,
-        },
-    }
-}
-
-// The numbers of an answer of a test.
-fn test_numbers(answer: Tested) -> TestNumbers
-    ensures { λ r. ⌜ r ≡ testNumbers answer ⌝ }
-{
-    match answer {
-        Tested::Sound => TestNumbers {
-            refusal: 0,
-            verdict: 1,
-            layer: 0,
-            check: 0,
-        },
-        Tested::Bad { layer, check } => TestNumbers {
-            refusal: 0,
-            verdict: 2,
-            layer: layer.number(),
-            check: check,
-        },
-        Tested::Refused(e) => TestNumbers {
-            refusal: e as u32,
-            verdict: 0,
-            layer: 0,
-            check: 0,
-        },
-    }
-}
-
-// The numbers of an answer of a repair.
-fn repair_numbers(answer: Repaired) -> RepairNumbers
-    ensures { λ r. ⌜ r ≡ repairNumbers answer ⌝ }
-{
-    match answer {
-        Repaired::Done {
-            groups,
-            crossed,
-            remaining,
-        } => RepairNumbers {
-            refusal: 0,
-            groups: groups,
-            crossed: crossed,
-            remaining: remaining,
-        },
-        Repaired::Refused(e) => RepairNumbers {
-            refusal: e as u32,
-            groups: 0,
-            crossed: 0,
-            remaining: 0,
-        },
-    }
-}
-
-// The numbers of an answer of the margin call.
-fn margin_numbers(answer: LossMargin) -> MarginNumbers
-    ensures { λ r. ⌜ r ≡ marginNumbers answer ⌝ }
-{
-    match answer {
-        LossMargin::Known(m) => MarginNumbers {
-            refusal: 0,
-            margin: m,
-        },
-        LossMargin::Refused(e) => MarginNumbers {
-            refusal: e as u32,
-            margin: 0,
-        },
-    }
-}
-
-// The numbers of an answer of a scrub call, and the record as it is handed back.
-fn scrub_numbers(answer: Scrubbed) -> ScrubNumbers
-    ensures { λ r. ⌜ r ≡ scrubNumbers answer ⌝ }
-{
-    let walk = answer.walk;
-    let report = answer.report;
-    match report {
-        Report::Begun => ScrubNumbers {
-            refusal: 0,
-            report: 0,
-            walk: walk,
-        },
-        Report::Unfinished => ScrubNumbers {
-            refusal: 0,
-            report: 1,
-            walk: walk,
-        },
-        Report::Sound => ScrubNumbers {
-            refusal: 0,
-            report: 2,
-            walk: walk,
-        },
-        Report::Bad => ScrubNumbers {
-            refusal: 0,
-            report: 3,
-            walk: walk,
-        },
-        Report::Refused(e) => ScrubNumbers {
-            refusal: e as u32,
-            report: 0,
-            walk: walk,
-        },
-    }
-}
+ghost use Rattle.gesarumbo.specs.Boundary.{measureNumbers, scrubNumbers, TestShown, ReadShown, RepairShown, PartShown};
 
 #[no_mangle]
 pub extern "C" fn gesarumbo_measure(l: Layout) -> MeasureNumbers
     ensures { λ r. ⌜ r ≡ measureNumbers (measured l) ⌝ }
 {
-    measure_numbers(layout::measure(l))
+    numbers::measure_numbers(layout::measure(l))
 }
 
 #[no_mangle]
 pub extern "C" fn gesarumbo_test(l: Layout, codeword: &[u8]) -> TestNumbers
     ensures { λ r. ⌜ TestShown l (now (codeword .entry)) r ⌝ }
 {
-    test_numbers(codeword::test(l, codeword))
+    numbers::test_numbers(codeword::test(l, codeword))
 }
 
 #[no_mangle]
@@ -287,7 +112,7 @@ pub extern "C" fn gesarumbo_repair(
 ) -> RepairNumbers
     ensures { λ r. ⌜ RepairShown l (lost ∷ []) (now (helpers .entry)) (now (shares .entry)) (now (host .entry)) first budget (now (spare .entry)) (now (spare .exit)) r ⌝ }
 {
-    repair_numbers(repair::repair(
+    numbers::repair_numbers(repair::repair(
         l,
         Tray::of(lost),
         helpers,
@@ -312,7 +137,16 @@ pub extern "C" fn gesarumbo_repair_many(
 ) -> RepairNumbers
     ensures { λ r. ⌜ RepairShown l (now (lost .entry)) (now (helpers .entry)) (now (shares .entry)) (now (host .entry)) first budget (now (spare .entry)) (now (spare .exit)) r ⌝ }
 {
-    repair_numbers(repair::repair_many(l, lost, helpers, shares, host, spare, first, budget))
+    numbers::repair_numbers(repair::repair_many(
+        l,
+        lost,
+        helpers,
+        shares,
+        host,
+        spare,
+        first,
+        budget,
+    ))
 }
 
 #[no_mangle]
@@ -349,20 +183,7 @@ pub extern "C" fn gesarumbo_read_part<'a>(
             length: 0,
         };
     }
-    if tray == lost {
-        return PartNumbers {
-            refusal: 0,
-            source: 2,
-            offset: first as usize,
-            length: length,
-        };
-    }
-    PartNumbers {
-        refusal: 0,
-        source: 1,
-        offset: tray as usize * layout::layer_count(l) as usize + first as usize,
-        length: length,
-    }
+    numbers::part_numbers(l, lost, tray, first, length)
 }
 
 #[no_mangle]
@@ -423,14 +244,14 @@ pub extern "C" fn gesarumbo_margin(l: Layout, states: &[u8]) -> MarginNumbers
     ensures refusal { λ r. ⌜ r .refusal ≡ marginRefusal l (now (states .entry)) ⌝ }
     ensures margin { λ r. ⌜ r .margin ≡ marginValue l (now (states .entry)) ⌝ }
 {
-    margin_numbers(margin::margin(l, states))
+    numbers::margin_numbers(margin::margin(l, states))
 }
 
 #[no_mangle]
 pub extern "C" fn gesarumbo_scrub_reset(l: Layout, walk: Walk) -> ScrubNumbers
     ensures { λ r. ⌜ r ≡ scrubNumbers (begun l walk) ⌝ }
 {
-    scrub_numbers(scrub::reset(l, walk))
+    numbers::scrub_numbers(scrub::reset(l, walk))
 }
 
 #[no_mangle]
@@ -442,5 +263,5 @@ pub extern "C" fn gesarumbo_scrub(
 ) -> ScrubNumbers
     ensures { λ r. ⌜ r ≡ scrubNumbers (scrubbed gf256 l (now (codeword .entry)) walk budget) ⌝ }
 {
-    scrub_numbers(scrub::step(l, codeword, walk, budget))
+    numbers::scrub_numbers(scrub::step(l, codeword, walk, budget))
 }

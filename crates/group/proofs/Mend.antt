@@ -1,4 +1,4 @@
--- The layers of a group, written one after another, and that the rule fixes them so.
+-- The layers of a group, written symbol by symbol and one after another, and that the rule fixes them so.
 -- Assumes nothing.
 use mathlib.Core.Path.{_≡_, refl, sym, ap, ap₂, _∙_, subst}
 use mathlib.Core.List.{List}
@@ -6,8 +6,9 @@ use Prim.Native.Nat.{ℕ, _+_, _*_, _/_, _<_}
 use native.Mathlib.Omega.{arith}
 use native.Mathlib.Decide.{ℕ-discrete}
 use lib.Arith.{digits-div, digits-mod}
-use lib.ListN.{length, getD}
-use Rattle.lists.proofs.Numbers.{cell-in}
+use lib.ListN.{length, getD, set, length-set}
+use lib.Seq.{getD-set-same, getD-set-other}
+use Rattle.lists.proofs.Numbers.{cell-in, cell-same}
 use Rattle.algebra.specs.Lagrange.{solve}
 use Rattle.algebra.specs.Erasure.{erased}
 use Rattle.algebra.specs.Points.{place}
@@ -26,7 +27,23 @@ use Rattle.rule.specs.Rule.{groupAt}
 use Rattle.rule.specs.Lost.{firstLost, lostPlace, Losses, Ruled, Piece}
 use Rattle.rule.specs.Inner.{layerSum, lostSymbol}
 use Rattle.rule.proofs.Lost.{lost-places, is-ruled}
-use Rattle.group.specs.Inner.{sumAt, sumsAt, restSide, foundSymbol, Losing, Holding, Column, Layered}
+use Rattle.sums.specs.Inner.{sumAt, sumsAt, Holding}
+use Rattle.group.specs.Inner.{restSide, foundSymbol, Losing, Column, Layered}
+
+module _ (n j : ℕ) (inside : j < n) (value : ℕ → ℕ) where
+  pub column-none : (old : List ℕ) → Column n 0 j value old old
+  column-none old = record { long = refl; done = λ i k. absurd (omega arith); kept = λ i k hk d. refl }
+
+  pub column-more : (i at v : ℕ) (old new : List ℕ) → at ≡ i * n + j → at < length new → v ≡ value i → Column n i j value old new → Column n (i + 1) j value old (set new at v)
+  column-more i at v old new ea hat ev c = record {
+    long = length-set new at v ∙ c .long;
+    done = λ k q. go k q (ℕ-discrete k i);
+    kept = λ k y hy d. getD-set-other new at (k * n + y) v 0 (λ e. d (cell-same n k i y j hy inside (e ∙ ea) .1)) ∙ c .kept k y hy d;
+  }
+    where
+      go : (k : ℕ) → k < i + 1 → Dec (k ≡ i) → getD (set new at v) (k * n + j) 0 ≡ value k
+      go k q (yes e) = ap (λ y. getD (set new at v) (y * n + j) 0) e ∙ ap (λ y. getD (set new at v) y 0) (sym ea) ∙ getD-set-same new at v 0 hat ∙ ev ∙ ap value (sym e)
+      go k q (no d) = getD-set-other new at (k * n + j) v 0 (λ e. d (cell-same n k i j j inside inside (e ∙ ea) .0)) ∙ c .done k (omega arith)
 
 -- what the solver gives in a layer is the lost symbol there
 pub found-is : (l : Layout) (lost host sums places rests : List ℕ) (a j i : ℕ) → i < length lost → Holding (λ k. place (shapeOf gf256 l) (lostPlace l lost k)) (length lost) places →

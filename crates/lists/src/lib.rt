@@ -1,6 +1,7 @@
 // Laws on lists and plain numbers that every crate above shares (specs/, proofs/), and the tests of a list of tray or rack numbers that several calls
-// make, and clearing a buffer. Each test answers exactly what its definition says, for a list of any length and content.
+// make, the smaller of two numbers, and clearing a buffer. Each test answers exactly what its definition says, for a list of any length and content.
 ghost use mathlib.Core.Path.{_≡_};
+ghost use Prim.Native.Nat.{min};
 ghost use lib.ListN.{length, replicate};
 ghost use Rattle.lists.specs.Lists.{allBelow, strictlyRising, absent};
 
@@ -44,6 +45,13 @@ pub fn is_absent(xs: &[u32], n: u32) -> bool
         k += 1;
     }
     true
+}
+
+// The smaller of two numbers.
+pub fn smaller(a: u64, b: u64) -> u64
+    ensures { λ r. ⌜ r ≡ min a b ⌝ }
+{
+    if a < b { a } else { b }
 }
 
 // Sets every number to zero.

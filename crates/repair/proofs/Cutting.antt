@@ -2,9 +2,9 @@
 -- Assumes nothing.
 use mathlib.Core.Path.{_≡_, refl, sym, _∙_, ap, ap₂, subst}
 use mathlib.Core.List.{List}
-use Prim.Native.Nat.{ℕ, _+_, _-_, _*_, _/_, _%_, _<_, _≤_}
+use Prim.Native.Nat.{ℕ, _+_, _-_, _*_, _%_, _<_, _≤_}
 use native.Mathlib.Decide.{decLt}
-use native.Mathlib.Nat.{mul-add, mul-zero, zero-add, mod-lt, div-add-mod', div-lt-iff-lt-mul}
+use native.Mathlib.Nat.{mul-add, mul-zero, zero-add}
 use native.Mathlib.Omega.{arith}
 use lib.ListN.{length, getD}
 use Rattle.algebra.specs.Shape.{Field}
@@ -24,7 +24,7 @@ use Rattle.repair.specs.declared.Repaired.the-variants.{Done}
 use Rattle.repair.specs.Repair.{report, RepairDone}
 use Rattle.repair.specs.Calls.{Calls, none, done, refused, Uncut, Cut, DoneCall, Does}
 use Rattle.repair.proofs.Refusals.{repairable, accepted}
-use Rattle.repair.proofs.Pieces.{ruled-kept}
+use Rattle.repair.proofs.Pieces.{ruled-kept, kept-at}
 
 module _ {A : Type 0} (f : Field A) (l : Layout) (ok : Usable f l) (adm : Admissible l) (lost helpers : List ℕ) (given : Losses l lost helpers) (shares host start : List ℕ) where
   -- what the rule fixes for a host rack it fixes for one that is alike in the sound trays
@@ -41,13 +41,6 @@ module _ {A : Type 0} (f : Field A) (l : Layout) (ok : Usable f l) (adm : Admiss
         ∙ r .holds j hj e m hm;
     symbols = r .symbols;
   }
-
-  -- a place of a spare of e·L symbols, by tray and layer
-  kept-at : (n : ℕ) (old new : List ℕ) → n < length lost * layers l →
-      ((i : ℕ) → i < length lost → (j : ℕ) → j < layers l → j ≡ n % layers l → getD new (i * layers l + j) 0 ≡ getD old (i * layers l + j) 0) → getD new n 0 ≡ getD old n 0
-  kept-at n old new hn same =
-      subst (λ y. getD new y 0 ≡ getD old y 0) (div-add-mod' n (layers l))
-      (same (n / layers l) (div-lt-iff-lt-mul (layers-pos f l ok) .1 hn) (n % layers l) (mod-lt n (layers-pos f l ok)) refl)
 
   -- what is shown by going through the list
   record Sofar (G crossed toCome : ℕ) (spare : List ℕ) : Type 0 where
@@ -76,7 +69,7 @@ module _ {A : Type 0} (f : Field A) (l : Layout) (ok : Usable f l) (adm : Admiss
           | no k ↦ ruled-host host′ p spare′ alike (r .piece .done p (omega arith) hp)
         ];
         kept = λ n hn out.
-            kept-at n spare spare′ (omega (arith, hn, s .long, made .spare-long))
+            kept-at (length lost) (layers l) (layers-pos f l ok) n spare spare′ (omega (arith, hn, s .long, made .spare-long))
             (λ i hi j hj e. r .piece .kept i hi j hj (λ w. out (subst (λ y. groupAt l (firstLost l lost) y < G + g) e (w .1))))
             ∙ s .kept n hn (λ w. out (omega arith));
         crossed-is = ap₂ _+_ (s .crossed-is) (r .crossed-is) ∙ counts-add G g;
@@ -95,6 +88,10 @@ module _ {A : Type 0} (f : Field A) (l : Layout) (ok : Usable f l) (adm : Admiss
   }
   sofar (done {G = G} {crossed = k} {toCome = m} {spare = spare} before budget host′ spare′ g c t alike r) = more G k m spare budget host′ spare′ g c t alike r (sofar before)
   sofar (refused {G = G} {crossed = k} {toCome = m} {spare = spare} before l′ lost′ helpers′ shares′ host′ first budget spare′ e r) = subst (λ y. Sofar G k m y) (sym (r .kept)) (sofar before)
+
+  -- a spare of a done call has e·L symbols
+  pub done-long : {G crossed toCome : ℕ} {spare : List ℕ} → Calls f l lost helpers shares host start G crossed toCome spare → 0 < G → length spare ≡ length lost * layers l
+  done-long calls = sofar calls .sized
 
   some-group : 0 < groups l
   some-group = rw (ok .groups-are) (power-pos (digits l) (l .racks - 1) (ok .fits .some-digits))

@@ -3,4 +3,5 @@ pub mod Pieces
 pub mod Cutting
 pub mod Exact
 pub mod Single
+pub mod Unique
 pub mod Instances

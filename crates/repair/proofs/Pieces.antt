@@ -2,8 +2,8 @@
 -- Assumes nothing.
 use mathlib.Core.Path.{_≡_, refl, sym, ap, subst, fun-ext, _∙_}
 use mathlib.Core.List.{List}
-use Prim.Native.Nat.{ℕ, _+_, _*_, _<_, _≤_}
-use native.Mathlib.Nat.{mul-assoc, mul-comm}
+use Prim.Native.Nat.{ℕ, _+_, _*_, _/_, _%_, _<_, _≤_}
+use native.Mathlib.Nat.{mul-assoc, mul-comm, mod-lt, div-add-mod', div-lt-iff-lt-mul}
 use native.Mathlib.Decide.{ℕ-discrete}
 use native.Mathlib.Omega.{arith}
 use lib.ListN.{length, getD}
@@ -20,6 +20,12 @@ use Rattle.rule.specs.Rule.{groupAt}
 use Rattle.rule.specs.Lost.{firstLost, lostPlace, mended, Ruled, Piece}
 use Rattle.group.specs.Inner.{Mending}
 use Rattle.repair.specs.Inner.{Repairable, Piecing}
+
+-- a place of a spare of e trays of L symbols, by tray and layer
+pub kept-at : (e L : ℕ) → 0 < L → (n : ℕ) (old new : List ℕ) → n < e * L →
+    ((i : ℕ) → i < e → (j : ℕ) → j < L → j ≡ n % L → getD new (i * L + j) 0 ≡ getD old (i * L + j) 0) → getD new n 0 ≡ getD old n 0
+kept-at e L pos n old new hn same =
+    subst (λ y. getD new y 0 ≡ getD old y 0) (div-add-mod' n L) (same (n / L) (div-lt-iff-lt-mul pos .1 hn) (n % L) (mod-lt n pos) refl)
 
 module _ {A : Type 0} (f : Field A) (l : Layout) (lost helpers shares host : List ℕ) where
   -- what the rule fixed stays so where the layers of its group stay
@@ -50,7 +56,8 @@ module _ {A : Type 0} (f : Field A) (l : Layout) (lost helpers shares host : Lis
       go p h g (yes e) = m .done p (omega arith) (omega arith)
       go p h g (no d) = ruled-kept p mid new (λ i t j y e. m .kept i t j y (λ w. d (omega arith))) (q .done p h (omega arith))
 
-swap : (e d n : ℕ) → e * (d * n) ≡ d * (e * n)
+-- e shares of each of d helpers
+pub swap : (e d n : ℕ) → e * (d * n) ≡ d * (e * n)
 swap e d n = sym (mul-assoc e d n) ∙ ap (λ y. y * n) (mul-comm e d) ∙ mul-assoc d e n
 
 -- what the next group is told

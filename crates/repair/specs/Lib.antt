@@ -1,4 +1,5 @@
 pub mod Repair
 pub mod Calls
 pub mod Exact
+pub mod One
 pub mod Inner

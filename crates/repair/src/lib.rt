@@ -1,11 +1,11 @@
-// The repair of a lost tray, or of several of one rack, from shares, whole or in pieces. Promises, for every layout, list, buffer, first group and budget, the first ground of refusal
-// that applies and no byte changed, or the groups done, the symbols crossed and those still to come, the done groups' layers of the spare as the rule of repair
-// fixes them and every other byte as it was. Over whole lists of such calls it proves the cutting claim of document 01 (specs/Calls.antt).
+// The repair of a lost tray, or of several of one rack, from shares, whole or in pieces. Promises, for every layout, list, buffer, first group and budget,
+// the first ground of refusal that applies and no byte changed, or the groups done, the symbols crossed and those still to come, the done groups' layers of
+// the spare as the rule of repair fixes them and every other byte as it was. Over whole lists of such calls it proves the cutting claim (specs/Calls.antt).
 use layout::Layout;
 use layout::Tray;
 ghost use mathlib.Core.Path.{_≡_};
 ghost use mathlib.Core.List.{[], _∷_};
-ghost use Prim.Native.Nat.{_*_, _<_, min};
+ghost use Prim.Native.Nat.{_*_, _<_};
 ghost use lib.Dec.{eqb};
 ghost use Rattle.symbol.specs.Elem.{gf256};
 ghost use Rattle.layout.specs.Layout.{Admissible};
@@ -21,13 +21,6 @@ pub enum Repaired {
         remaining: u64,
     },
     Refused(u8),
-}
-
-// The smaller of two numbers.
-fn smaller(a: u64, b: u64) -> u64
-    ensures { λ r. ⌜ r ≡ min a b ⌝ }
-{
-    if a < b { a } else { b }
 }
 
 // Whether every tray stands in the rack of the first one listed.
@@ -186,7 +179,7 @@ pub fn repair_many(
         return Repaired::Refused(ground);
     }
     let left = layout::group_count(l) as u64 - first;
-    let count = smaller(budget, left);
+    let count = lists::smaller(budget, left);
     some_groups(
         l,
         lost,

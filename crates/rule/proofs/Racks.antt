@@ -4,7 +4,7 @@ use mathlib.Core.Path.{_≡_, refl, sym, _∙_, ap}
 use mathlib.Core.Bool.{Bool, true, false}
 use mathlib.Core.List.{List}
 use Prim.Native.Nat.{ℕ, _+_, _-_, _*_, _<_}
-use native.Mathlib.Nat.{mul-assoc, add-mul, add-assoc as plus-assoc}
+use native.Mathlib.Nat.{mul-assoc, add-mul, suc-mul, mul-le-mul-right, add-assoc as plus-assoc}
 use native.Mathlib.Omega.{arith}
 use lib.Dec.{eqb}
 use lib.ListN.{length, getD, drop, length-drop}
@@ -22,7 +22,7 @@ use Rattle.algebra.proofs.Sum.{sum-congr, sum-add, sum-single}
 use Rattle.algebra.proofs.Pow.{pow-zero}
 use Rattle.algebra.proofs.Cabinet.{choose-same, choose-other}
 use Rattle.layout.specs.declared.Layout.{Layout}
-use Rattle.layout.specs.Layout.{digits, layers}
+use Rattle.layout.specs.Layout.{trays, digits, layers}
 use Rattle.codeword.specs.Codeword.{shapeOf, symbolAt}
 use Rattle.rule.specs.Rule.{rackPart, trayPart, rackSymbol, weightedSum, shareSymbol}
 
@@ -39,6 +39,13 @@ module _ (l : Layout) (c : List ℕ) where
   tray-long n x pos e h =
       length-take-le (layers l) (drop (x * layers l) c)
       (rw (length-drop (x * layers l) c, e) (omega (arith, cell-in n (layers l) x (layers l - 1) h (omega arith))))
+
+  pub rack-long : (i : ℕ) → i < l .racks → length c ≡ trays l * layers l → length (rackPart l c i) ≡ l .size * layers l
+  unfolding rackPart
+  rack-long i h e =
+      length-take-le (l .size * layers l) (drop (i * (l .size * layers l)) c)
+      (rw (length-drop (i * (l .size * layers l)) c, e, mul-assoc (l .racks) (l .size) (layers l))
+      (omega (arith, suc-mul i (l .size * layers l), mul-le-mul-right (l .size * layers l) h)))
 
 module _ {A : Type 0} (o : Ops A) (L : Laws o) where
   -- a zeroth power is 1

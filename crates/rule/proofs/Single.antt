@@ -43,15 +43,16 @@ less o L a b s e = back ∙ ap (λ y. o .add y (o .neg b)) e
 back : {A : Type 0} (o : Ops A) (L : Laws o) (s b : A) → o .add (o .add s (o .neg b)) b ≡ s
 back o L s b = simp (ring, L)
 
-front : (n j : ℕ) → 0 * n + j ≡ j
+-- the only lost tray's symbols lie first
+pub front : (n j : ℕ) → 0 * n + j ≡ j
 front n j = omega (arith, zero-mul n)
 
-zero-is : (m : ℕ) → m < 1 → 0 ≡ m
+pub zero-is : (m : ℕ) → m < 1 → 0 ≡ m
 zero-is m k = omega arith
 
 module _ {A : Type 0} (f : Field A) (l : Layout) (ok : Usable f l) (x : ℕ) where
   -- one lost tray's share symbols lie as document 01 says
-  sent-is : (shares : List ℕ) (p k : ℕ) → sentSymbol f l 1 shares 0 p k ≡ sharedSymbol f l shares p k
+  pub sent-is : (shares : List ℕ) (p k : ℕ) → sentSymbol f l 1 shares 0 p k ≡ sharedSymbol f l shares p k
   unfolding sentSymbol sharedSymbol
   sent-is shares p k = ap (λ n. f .coding .elem (getD shares (n * groups l + p) 0)) (omega arith)
 
@@ -114,8 +115,9 @@ module _ {A : Type 0} (f : Field A) (l : Layout) (ok : Usable f l) (x : ℕ) whe
         ap (λ n. getD (lostPart l (x ∷ []) c) n 0) (sym (front (layers l) j)) ∙ lost-at l (x ∷ []) c 0 j (omega arith) k ∙ sym (tray-at l c x j k))
 
     -- on a codeword's shares and sound trays the rule gives the codeword's lost tray
-    pub one-exact : (shares host c : List ℕ) → Of f l (x ∷ []) helpers shares host c → (p : ℕ) → p < groups l → (spare : List ℕ) → Ruled f l (x ∷ []) helpers shares host p spare →
+    pub one-exact : (shares host c : List ℕ) → Of f l (x ∷ []) helpers shares host c → (p : ℕ) → p < groups l → (spare : List ℕ) → RuledOne f l x helpers shares host p spare →
         (j : ℕ) → j < layers l → groupAt l x j ≡ p → getD spare j 0 ≡ getD (trayPart l c x) j 0
     one-exact shares host c of p inside spare r j h e =
-        subst (λ n. getD spare n 0 ≡ getD (lostPart l (x ∷ []) c) n 0) (front (layers l) j) (rule-exact f l ok (x ∷ []) helpers one-loss shares host c of p inside spare r 0 (omega arith) j h e)
+        subst (λ n. getD spare n 0 ≡ getD (lostPart l (x ∷ []) c) n 0) (front (layers l) j)
+        (rule-exact f l ok (x ∷ []) helpers one-loss shares host c of p inside spare (lost-one helpers shares host p spare r) 0 (omega arith) j h e)
         ∙ ap (λ t. getD t j 0) (one-part c (of .codeword .long))

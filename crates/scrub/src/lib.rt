@@ -6,7 +6,6 @@ mod look;
 
 use layout::Layout;
 ghost use mathlib.Core.Path.{_≡_};
-ghost use Prim.Native.Nat.{min};
 ghost use Rattle.symbol.specs.Elem.{gf256};
 ghost use Rattle.scrub.specs.Scrub.{reportOf, scrubbed, begun};
 
@@ -31,17 +30,6 @@ pub enum Report {
 pub struct Scrubbed {
     pub report: Report,
     pub walk: Walk,
-}
-
-// The smaller of a budget and the layers left.
-fn smaller(budget: u64, left: u32) -> u32
-    ensures { λ r. ⌜ r ≡ min budget left ⌝ }
-{
-    if budget < left as u64 {
-        budget as u32
-    } else {
-        left
-    }
 }
 
 // What a record says of a walk over so many layers.
@@ -92,7 +80,7 @@ pub fn step(l: Layout, c: &[u8], walk: Walk, budget: u64) -> Scrubbed
     }
     let total = layout::layer_count(l);
     let j = walk.next;
-    let count = smaller(budget, total - j);
+    let count = lists::smaller(budget, (total - j) as u64) as u32;
     let seen = look::look_on(l, total, c, walk, count);
     Scrubbed {
         report: report_of(total, seen),

@@ -3,7 +3,7 @@ use lib.ListN.{length}
 use mathlib.Core.Path.{refl}
 use borrow.Author.Needs.{needs}
 use Rattle.reading.proofs.Grounds.{Accepted, run-high}
-use Rattle.gesarumbo.proofs.Shown.{part-refused, part-facts, part-in-spare, part-in-store}
+use Rattle.gesarumbo.proofs.Shown.{part-refused, part-facts, part-read}
 use Rattle.gesarumbo.proofs.gesarumbo_read_part.Statement.{statement}
 use Rattle.gesarumbo.proofs.gesarumbo_read_part.Tie as tie
 
@@ -28,16 +28,8 @@ gesarumbo-read-part-spec =
     let s = c .before .before .before .before .before .before .before .args in
     part-refused (s .l) (s .codeword .now) (s .spare .now) (s .lost) (s .done) (s .tray) (s .first) (s .end) _ _ _ (c .before .before .before .before .of .ensures) (c .before .before .before .of2 .ensures)
     (c .before .read-part .ensures .1) (c .if1 .taken))
+    (λ c κs. let g = given c in (g .readable .adm, omega (arith, g .readable .rises, run-high g refl refl)))
     (λ c.
     let s = c .before .before .before .before .before .before .before .before .args in
-    part-in-spare (s .l) (s .codeword .now) (s .spare .now) (s .lost) (s .done) (s .tray) (s .first) (s .end) _ _ _ (c .before .before .before .before .before .of .ensures) (c .before .before .before .before .of2 .ensures)
-    (c .before .before .read-part .ensures .1) (c .before .if1 .left) _ (c .before .before .read-part .ensures .0) (c .if2 .taken))
-    (λ c κs. given (c .before) .readable .adm)
-    (λ c. search needs)
-    (λ c. let g = given (c .before .before) in record { fits = omega (arith, run-high g refl (c .layer-count .ensures)) })
-    (λ c. let g = given (c .before .before) in record { fits = omega (arith, g .readable .rises, run-high g refl (c .layer-count .ensures)) })
-    (λ c.
-    let s = c .before .before .before .before .before .before .before .before .before .args in
-    part-in-store (s .l) (s .codeword .now) (s .spare .now) (s .lost) (s .done) (s .tray) (s .first) (s .end) _ _ _ (c .before .before .before .before .before .before .of .ensures)
-    (c .before .before .before .before .before .of2 .ensures) (c .before .before .before .read-part .ensures .1) (c .before .before .if1 .left) _ (c .before .before .before .read-part .ensures .0) (c .before .if2 .left) _
-    (c .layer-count .ensures)))
+    part-read (s .l) (s .codeword .now) (s .spare .now) (s .lost) (s .done) (s .tray) (s .first) (s .end) _ _ _ (c .before .before .before .before .before .of .ensures) (c .before .before .before .before .of2 .ensures)
+    (c .before .before .read-part .ensures .1) (c .before .if1 .left) _ (c .before .before .read-part .ensures .0) _ (c .part-numbers .ensures)))

@@ -10,7 +10,7 @@ use Rattle.symbol.proofs.Elem.{elem-val}
 use Rattle.layout.specs.Layout.{trayLimit}
 use Rattle.layout.proofs.Facts.{bounds}
 use Rattle.group.specs.Inner.{restSide}
-use Rattle.group.proofs.Rows.{rest-is}
+use Rattle.group.proofs.Steps.{rest-is}
 use Rattle.group.proofs.fill_rests.Statement.{statement}
 use Rattle.group.proofs.fill_rests.Tie as tie
 

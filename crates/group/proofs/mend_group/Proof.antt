@@ -7,10 +7,10 @@ use lib.ListN.{length, take, drop}
 use Rattle.layout.specs.Layout.{trayLimit, digits}
 use Rattle.layout.proofs.Facts.{rack-in, size-pos}
 use Rattle.rule.specs.Lost.{firstLost}
-use Rattle.group.specs.Inner.{sumsAt, Holding}
-use Rattle.group.proofs.Steps.{sums-high}
+use Rattle.sums.specs.Inner.{sumsAt, Holding}
+use Rattle.sums.proofs.Steps.{sums-high}
+use Rattle.sums.proofs.Arrays.{nil, whole, front, room}
 use Rattle.group.proofs.Mend.{layered-piece}
-use Rattle.group.proofs.Arrays.{nil, whole, front, room}
 use Rattle.group.proofs.mend_group.Statement.{statement}
 use Rattle.group.proofs.mend_group.Tie as tie
 

@@ -10,8 +10,8 @@ use Rattle.layout.specs.Layout.{trayLimit}
 use Rattle.layout.proofs.Facts.{bounds}
 use Rattle.codeword.specs.Codeword.{shapeOf}
 use Rattle.rule.specs.Lost.{lostPlace}
-use Rattle.group.specs.Inner.{Holding}
-use Rattle.group.proofs.Arrays.{nil, whole, front, room}
+use Rattle.sums.specs.Inner.{Holding}
+use Rattle.sums.proofs.Arrays.{nil, whole, front, room}
 use Rattle.group.proofs.mend_layers.Statement.{statement}
 use Rattle.group.proofs.mend_layers.Tie as tie
 
@@ -39,13 +39,10 @@ mend-layers-spec =
     let p = c .before .before .before .before .before .before .before .before .before .before .before .pre in
     let n = whole _ (few (c .before .before .before .before .before .before .before .before .before .before .before)) in
     record {
-      losing = p .losing;
-      group-in = p .group-in;
-      sums-long = p .sums-long;
+      solved = p;
       places-are = subst (Holding (λ i. place (shapeOf gf256 (a .l)) (lostPlace (a .l) (a .lost .now) i)) (length (a .lost .now))) (sym (places-are (c .before .before .before .before .before))) (c .before .before .before .before .before .fill-places .ensures);
       rests-long = n;
       scratch-long = n;
-      spare-long = p .spare-long;
     })
     (λ c. search needs)
     (λ c. search needs))

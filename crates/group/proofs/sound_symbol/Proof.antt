@@ -4,7 +4,8 @@ use borrow.Author.Needs.{needs}
 use Rattle.lists.proofs.Bools.{told-true, told-false}
 use Rattle.lists.proofs.Numbers.{cell-in, read-in}
 use Rattle.layout.proofs.Facts.{bounds}
-use Rattle.group.proofs.Steps.{tray-in, sound-lost, sound-there}
+use Rattle.sums.proofs.Steps.{tray-in}
+use Rattle.group.proofs.Steps.{sound-lost, sound-there}
 use Rattle.group.proofs.sound_symbol.Statement.{statement}
 use Rattle.group.proofs.sound_symbol.Tie as tie
 

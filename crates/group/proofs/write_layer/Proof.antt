@@ -7,7 +7,7 @@ use Rattle.lists.proofs.Numbers.{read-in}
 use Rattle.symbol.proofs.Elem.{val-elem}
 use Rattle.lagrange.specs.Solve.{solvedAt}
 use Rattle.group.specs.Inner.{Column}
-use Rattle.group.proofs.Rows.{column-none, column-more}
+use Rattle.group.proofs.Mend.{column-none, column-more}
 use Rattle.group.proofs.write_layer.Statement.{statement}
 use Rattle.group.proofs.write_layer.Tie as tie
 

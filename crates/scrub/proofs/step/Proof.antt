@@ -29,7 +29,9 @@ step-spec =
     (λ c. step-refused _ _ _ _ _ _ (c .before .refusal .ensures) (c .if1 .taken))
     (λ c κs. admissible-facts _ (told c .0))
     (λ c. omega (arith, in-order _ _ (told (c .before) .2)))
+    (λ c. search needs)
     (λ c κs. search needs)
+    (λ c. omega (arith, c .smaller .ensures))
     (λ c κs.
     let t = told (c .before .before) in
     let o = in-order _ _ (t .2) in

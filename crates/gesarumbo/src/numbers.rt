@@ -1,0 +1,213 @@
+// The structs that cross to C, as in c/gesarumbo.h, and the numbers that they have for an answer.
+use codeword::Tested;
+use layout::Layout;
+use layout::Measured;
+use margin::LossMargin;
+use repair::Repaired;
+use scrub::Report;
+use scrub::Scrubbed;
+use scrub::Walk;
+ghost use mathlib.Core.Path.{_≡_};
+ghost use Prim.Native.Nat.{_+_, _*_, _≤_};
+ghost use Rattle.layout.specs.Layout.{layers, trayLimit, layerLimit, Admissible};
+ghost use Rattle.gesarumbo.specs.Boundary.{measureNumbers, testNumbers, marginNumbers, repairNumbers, scrubNumbers};
+ghost use Rattle.gesarumbo.specs.Inner.{partNumbers};
+
+#[repr(C)]
+pub struct MeasureNumbers {
+    pub refusal: u32,
+    pub layers: u32,
+    pub checks: u32,
+    pub traffic: u32,
+}
+
+#[repr(C)]
+pub struct TestNumbers {
+    pub refusal: u32,
+    pub verdict: u32,
+    pub layer: u32,
+    pub check: u32,
+}
+
+#[repr(C)]
+pub struct RepairNumbers {
+    pub refusal: u32,
+    pub groups: u64,
+    pub crossed: u64,
+    pub remaining: u64,
+}
+
+#[repr(C)]
+pub struct PartNumbers {
+    pub refusal: u32,
+    pub source: u32,
+    pub offset: usize,
+    pub length: usize,
+}
+
+#[repr(C)]
+pub struct ImageNumbers {
+    pub refusal: u32,
+    pub tray: u32,
+    pub offset: usize,
+    pub length: usize,
+}
+
+#[repr(C)]
+pub struct MarginNumbers {
+    pub refusal: u32,
+    pub margin: i32,
+}
+
+#[repr(C)]
+pub struct ScrubNumbers {
+    pub refusal: u32,
+    pub report: u32,
+    pub walk: Walk,
+}
+
+// The numbers of an answer of the layout call.
+pub fn measure_numbers(answer: Measured) -> MeasureNumbers
+    ensures { λ r. ⌜ r ≡ measureNumbers answer ⌝ }
+{
+    match answer {
+        Measured::Known {
+            layers,
+            checks,
+            traffic,
+        } => MeasureNumbers {
+            refusal: 0,
+            layers: layers,
+            checks: checks,
+            traffic: traffic,
+        },
+        Measured::Refused(e) => MeasureNumbers {
+            refusal: e as u32,
+            layers: 0,
+            checks: 0,
+            traffic: 0,
+        },
+    }
+}
+
+// The numbers of an answer of a test.
+pub fn test_numbers(answer: Tested) -> TestNumbers
+    ensures { λ r. ⌜ r ≡ testNumbers answer ⌝ }
+{
+    match answer {
+        Tested::Sound => TestNumbers {
+            refusal: 0,
+            verdict: 1,
+            layer: 0,
+            check: 0,
+        },
+        Tested::Bad { layer, check } => TestNumbers {
+            refusal: 0,
+            verdict: 2,
+            layer: layer.number(),
+            check: check,
+        },
+        Tested::Refused(e) => TestNumbers {
+            refusal: e as u32,
+            verdict: 0,
+            layer: 0,
+            check: 0,
+        },
+    }
+}
+
+// The numbers of an answer of a repair.
+pub fn repair_numbers(answer: Repaired) -> RepairNumbers
+    ensures { λ r. ⌜ r ≡ repairNumbers answer ⌝ }
+{
+    match answer {
+        Repaired::Done {
+            groups,
+            crossed,
+            remaining,
+        } => RepairNumbers {
+            refusal: 0,
+            groups: groups,
+            crossed: crossed,
+            remaining: remaining,
+        },
+        Repaired::Refused(e) => RepairNumbers {
+            refusal: e as u32,
+            groups: 0,
+            crossed: 0,
+            remaining: 0,
+        },
+    }
+}
+
+// The numbers of an answer of the margin call.
+pub fn margin_numbers(answer: LossMargin) -> MarginNumbers
+    ensures { λ r. ⌜ r ≡ marginNumbers answer ⌝ }
+{
+    match answer {
+        LossMargin::Known(m) => MarginNumbers {
+            refusal: 0,
+            margin: m,
+        },
+        LossMargin::Refused(e) => MarginNumbers {
+            refusal: e as u32,
+            margin: 0,
+        },
+    }
+}
+
+// The numbers of an answer of a scrub call, and the record as it is handed back.
+pub fn scrub_numbers(answer: Scrubbed) -> ScrubNumbers
+    ensures { λ r. ⌜ r ≡ scrubNumbers answer ⌝ }
+{
+    let walk = answer.walk;
+    let report = answer.report;
+    match report {
+        Report::Begun => ScrubNumbers {
+            refusal: 0,
+            report: 0,
+            walk: walk,
+        },
+        Report::Unfinished => ScrubNumbers {
+            refusal: 0,
+            report: 1,
+            walk: walk,
+        },
+        Report::Sound => ScrubNumbers {
+            refusal: 0,
+            report: 2,
+            walk: walk,
+        },
+        Report::Bad => ScrubNumbers {
+            refusal: 0,
+            report: 3,
+            walk: walk,
+        },
+        Report::Refused(e) => ScrubNumbers {
+            refusal: e as u32,
+            report: 0,
+            walk: walk,
+        },
+    }
+}
+
+// The numbers of a part that was read: from the spare for the lost tray, from the codeword for any other.
+pub fn part_numbers(l: Layout, lost: u32, tray: u32, first: u32, length: usize) -> PartNumbers
+    requires { ⌜ Admissible l × (tray * layers l + first ≤ trayLimit * layerLimit) ⌝ }
+    ensures { λ r. ⌜ r ≡ partNumbers l lost tray first length ⌝ }
+{
+    if tray == lost {
+        return PartNumbers {
+            refusal: 0,
+            source: 2,
+            offset: first as usize,
+            length: length,
+        };
+    }
+    PartNumbers {
+        refusal: 0,
+        source: 1,
+        offset: tray as usize * layout::layer_count(l) as usize + first as usize,
+        length: length,
+    }
+}

@@ -1,7 +1,0 @@
-use borrow.Author.Needs.{needs}
-use Rattle.layout.proofs.Facts.{size-pos}
-use Rattle.group.proofs.unknown_count.Statement.{statement}
-use Rattle.group.proofs.unknown_count.Tie as tie
-
-pub unknown-count-spec : {M : Type 1} → statement M
-unknown-count-spec = tie.close (tie.spec (λ c. search size-pos) (λ c. search needs) (λ c. search needs))

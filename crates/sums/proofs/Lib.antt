@@ -1,0 +1,4 @@
+pub mod Steps
+pub mod Formula
+pub mod Rows
+pub mod Arrays
