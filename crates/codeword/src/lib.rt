@@ -1,5 +1,4 @@
-// Codewords of document 01 in a buffer, and testing one. Promises that a test answers sound exactly when the buffer is a codeword, and else the first bad
-// layer with the least check broken there; a layout or length that does not fit is refused, for every layout and buffer.
+// Codewords of document 01 in a buffer: the points, a check's sum, and what a test answers (crate testing).
 use layout::Layer;
 use layout::Layout;
 use symbol::Symbol;
@@ -10,10 +9,9 @@ ghost use Rattle.algebra.specs.Field.{Ops};
 ghost use Rattle.algebra.specs.Sum.{pow};
 ghost use Rattle.algebra.specs.Points.{place};
 ghost use Rattle.symbol.specs.Elem.{elem, ops, gf256};
-ghost use Rattle.layout.specs.Layout.{trays, layers, trayLimit, layerLimit, Admissible};
+ghost use Rattle.layout.specs.Layout.{trays, trayLimit, layerLimit, Admissible};
 ghost use Rattle.codeword.specs.Codeword.{shapeOf, pointAt, symbolAt, checkAt};
-ghost use Rattle.codeword.specs.Test.{TestAnswer};
-ghost use Rattle.codeword.specs.Inner.{exponentAt, Placed, Scannable, Scanned};
+ghost use Rattle.codeword.specs.Inner.{exponentAt, Placed};
 
 // What a test of a codeword answers.
 pub enum Tested {
@@ -80,47 +78,4 @@ pub fn check_sum(l: Layout, total: u32, c: &[u8], j: u32, t: u32) -> Symbol
         x += 1;
     }
     sum
-}
-
-// The first layer with a broken check and the least check broken there, in a buffer of the right length.
-fn scan(l: Layout, total: u32, c: &[u8]) -> Tested
-    requires { ⌜ Scannable l total (now c) ⌝ }
-    ensures { λ r. ⌜ Scanned gf256 l (now (c .entry)) r ⌝ }
-{
-    let r = layout::check_count(l);
-    let mut j = 0u32;
-    let mut t = 0u32;
-    'layers: while j < total {
-        t = 0;
-        while t < r {
-            let sum = check_sum(l, total, c, j, t);
-            if sum.0 != 0 {
-                break 'layers;
-            }
-            t += 1;
-        }
-        j += 1;
-    }
-    if j < total {
-        Tested::Bad {
-            layer: Layer::of(j),
-            check: t,
-        }
-    } else {
-        Tested::Sound
-    }
-}
-
-// Tests a whole codeword.
-pub fn test(l: Layout, c: &[u8]) -> Tested
-    ensures { λ r. ⌜ TestAnswer gf256 l (now (c .entry)) r ⌝ }
-{
-    if !layout::admitted(l) {
-        return Tested::Refused(1);
-    }
-    let total = layout::layer_count(l);
-    if c.len() != layout::tray_count(l) as usize * total as usize {
-        return Tested::Refused(2);
-    }
-    scan(l, total, c)
 }

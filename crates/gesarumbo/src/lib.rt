@@ -38,7 +38,7 @@ pub extern "C" fn gesarumbo_measure(l: Layout) -> MeasureNumbers
 pub extern "C" fn gesarumbo_test(l: Layout, codeword: &[u8]) -> TestNumbers
     ensures { λ r. ⌜ TestShown l (now (codeword .entry)) r ⌝ }
 {
-    numbers::test_numbers(codeword::test(l, codeword))
+    numbers::test_numbers(testing::test(l, codeword))
 }
 
 #[no_mangle]

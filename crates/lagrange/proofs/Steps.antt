@@ -7,7 +7,6 @@ use native.Mathlib.Nat.{not-suc-le-zero}
 use native.Mathlib.Numerals.{add-one}
 use native.Mathlib.Omega.{arith}
 use native.Mathlib.Decide.{ℕ-discrete}
-use borrow.Author.Count.{below-more}
 use lib.ListN.{length, getD, set, replicate, length-set, length-replicate, getD-replicate}
 use lib.Seq.{getD-set-same, getD-set-other}
 use Rattle.algebra.specs.Field.{Ops}
@@ -20,7 +19,7 @@ use Rattle.algebra.proofs.Poly.{coeff-scale, coeff-linear-zero, coeff-linear-su
 use Rattle.algebra.proofs.Lagrange.{basis-zero, basis-same, basis-other}
 use Rattle.symbol.specs.Elem.{Elem, elem, ops}
 use Rattle.symbol.specs.Arithmetic.{_⊕_, _⊗_}
-use Rattle.symbol.proofs.Elem.{laws, elem-zero, elem-one, elem-⊕, elem-⊗, val-elem, neg-is}
+use Rattle.symbol.proofs.Elem.{laws, elem-zero, elem-one, elem-⊕, elem-⊗, neg-is}
 use Rattle.lagrange.specs.Solve.{symbolsOf, before, solvedAt, Holds}
 
 abbrev pub zeros : ℕ → List ℕ
@@ -116,10 +115,3 @@ unfolding solvedAt solve symbolsOf
 solved-is points b out k lb lo h e =
     e ∙ ap (λ n. sum ops n (λ t. ops .mul (elem (getD b t 0)) (elem (getD out t 0)))) lb
     ∙ sum-congr ops (length points) _ _ (λ t l. ap (ops .mul (elem (getD b t 0))) (h .at t (omega arith)))
-
--- a loop that stores the values of a rule
-pub value-more : (F : ℕ → Elem) (v : List ℕ) (k x : ℕ) → k < length v → x < 256 → ((i : ℕ) → i < k → getD v i 0 ≡ (F i) .val) → elem x ≡ F k →
-    (i : ℕ) → i < k + 1 → getD (set v k x) i 0 ≡ (F i) .val
-value-more F v k x h low all e =
-    below-more (λ i. getD (set v k x) i 0 ≡ (F i) .val) k
-    (λ i l. getD-set-other v k i x 0 (λ q. omega arith) ∙ all i l) (getD-set-same v k x 0 h ∙ sym (val-elem x low) ∙ ap (λ y. y .val) e)

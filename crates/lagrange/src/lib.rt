@@ -1,13 +1,13 @@
-// The one solver of the library. For checks t = 0, 1, 2 and on, as many as there are different points, the unknown at a point is the sum of each right side
-// times the factor of X^t in the product, over the other points q, of (X - q) / (point - q). Promises the algebra's definition of this (`solve` in
-// algebra/specs/Lagrange.antt) for any different points and any right sides.
+// One system of checks solved; crate columns does many at a time. For checks t = 0, 1, 2 and on, as many as there are different points, the unknown at a
+// point is the sum of each right side times the factor of X^t in the product, over the other points q, of (X - q) / (point - q). Promises the algebra's
+// definition of this (`solve` in algebra/specs/Lagrange.antt) for any different points and any right sides.
 use symbol::Symbol;
 ghost use mathlib.Core.Path.{_≡_};
 ghost use Prim.Native.Nat.{ℕ, _+_, _<_};
 ghost use lib.ListN.{length, getD};
 ghost use Rattle.algebra.specs.Field.{Ops};
 ghost use Rattle.algebra.specs.Sum.{sum};
-ghost use Rattle.symbol.specs.Elem.{Elem, elem, ops};
+ghost use Rattle.symbol.specs.Elem.{elem, ops};
 ghost use Rattle.symbol.specs.Arithmetic.{_⊕_, _⊗_};
 ghost use Rattle.lagrange.specs.Solve.{before, solvedAt, Holds, Stepping, Solving, System};
 
@@ -75,18 +75,4 @@ pub fn solve_one(points: &[u8], b: &[u8], k: usize, scratch: &mut [u8]) -> Symbo
 {
     coefficients(points, k, scratch);
     dot(b, scratch)
-}
-
-// All unknowns.
-pub fn solve(points: &[u8], b: &[u8], scratch: &mut [u8], v: &mut [u8])
-    requires { ⌜ System (now points) (now b) (now scratch) × (length (now v) ≡ length (now points)) ⌝ }
-    ensures { λ _. ⌜ ((k : ℕ) → k < length (now (points .entry)) → getD (now (v .exit)) k 0 ≡ (solvedAt (now (points .entry)) (now (b .entry)) k) .val) ⌝ }
-{
-    let n = points.len();
-    let mut k = 0usize;
-    while k < n {
-        let found = solve_one(points, b, k, scratch);
-        v[k] = found.0;
-        k += 1;
-    }
 }

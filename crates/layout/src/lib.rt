@@ -1,6 +1,6 @@
 // Layouts: the four numbers of a cabinet, which of them document 01 admits, and the numbers that follow. Promises the definitions of specs/Layout.antt
 // for all 32-bit values, with no sum or product that wraps. A rack, a tray and a layer number are kinds of their own.
-mod power;
+pub mod power;
 
 use power::capped_power;
 ghost use mathlib.Core.Path.{_≡_};

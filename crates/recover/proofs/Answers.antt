@@ -14,7 +14,7 @@ use Rattle.layout.specs.declared.Layout.{Layout}
 use Rattle.layout.specs.Layout.{trays, checks, layers, admissible}
 use Rattle.codeword.proofs.Usable.{usable}
 use Rattle.recover.specs.Recover.{recoverRefusal, RecoverAnswer}
-use Rattle.recover.specs.Inner.{LayerFits, Erasing, RestoredTo}
+use Rattle.restore.specs.Restored.{LayerFits, Erasing, RestoredTo}
 use Rattle.recover.proofs.Restored.{survivors-fit, restores}
 use Rattle.recover.proofs.Grounds.{Recoverable, recoverable}
 

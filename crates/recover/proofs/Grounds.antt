@@ -14,7 +14,7 @@ use Rattle.layout.specs.declared.Layout.{Layout}
 use Rattle.layout.specs.Layout.{trays, checks, layers, admissible, Admissible}
 use Rattle.layout.proofs.Facts.{admissible-facts}
 use Rattle.recover.specs.Recover.{recoverRefusal}
-use Rattle.recover.specs.Inner.{Listed}
+use Rattle.syndrome.specs.Syndrome.{Listed}
 use Rattle.recover.proofs.Restored.{list-listed}
 
 module _ (l : Layout) (es : List ℕ) (n : ℕ) where

@@ -23,7 +23,8 @@ use Rattle.layout.proofs.Lists.{list-places}
 use Rattle.codeword.specs.Codeword.{shapeOf, symbolAt, pointAt, Codeword, Usable}
 use Rattle.codeword.proofs.Buffers.{to-word, from-word, buffers-same}
 use Rattle.recover.specs.Recover.{Kept, Survivors, Restores}
-use Rattle.recover.specs.Inner.{entryOf, Listed, restoredAt, LayerFits}
+use Rattle.syndrome.specs.Syndrome.{entryOf, Listed}
+use Rattle.restore.specs.Restored.{restoredAt, LayerFits}
 
 module _ {A : Type 0} (f : Field A) (l : Layout) (ok : Usable f l) (es c : List ℕ) (listed : Listed l es) where
   alike : (e : List ℕ) → Survivors l es c e → (x j : ℕ) → x < trays l → j < layers l → Kept es x → symbolAt f l c x j ≡ symbolAt f l e x j

@@ -4,47 +4,39 @@ use mathlib.Core.Path.{_≡_, refl, sym, ap, ap₂, _∙_, subst}
 use mathlib.Core.Bool.{Bool, true, false}
 use mathlib.Core.List.{List}
 use Prim.Native.Nat.{ℕ, _+_, _-_, _*_, _/_, _%_, _<_, _≤_}
-use native.Mathlib.Nat.{one-mul, suc-mul}
-use native.Mathlib.Numerals.{add-one}
+use native.Mathlib.Nat.{one-mul, zero-add, add-zero}
+use native.Mathlib.Decide.{decLt}
 use native.Mathlib.Omega.{arith}
 use lib.Arith.{digits-div, digits-mod}
 use lib.Dec.{eqb}
-use lib.ListN.{length, getD, set, replicate, take, drop}
+use lib.ListN.{length, getD, replicate, getD-replicate, take, drop}
 use Rattle.lists.specs.Lists.{table}
 use Rattle.lists.proofs.Numbers.{cell-in}
-use Rattle.lists.proofs.Loops.{upto-none, upto-more}
 use Rattle.lists.proofs.Tables.{table-at, table-length, table-same, table-replicate, is-table}
 use Rattle.algebra.specs.Field.{Ops, Laws}
 use Rattle.algebra.specs.Sum.{sum, pow}
 use Rattle.algebra.specs.Erasure.{choose}
 use Rattle.algebra.specs.Shape.{Field, FieldLaws}
 use Rattle.algebra.specs.Points.{place}
-use Rattle.algebra.specs.Layers.{groupOf, layerOf}
+use Rattle.algebra.specs.Layers.{groupOf}
 use Rattle.algebra.specs.Cabinet.{groupSum}
-use Rattle.algebra.proofs.Ring.{mul-zero}
+use Rattle.algebra.proofs.Ring.{mul-zero, mul-comm as times-comm, one-mul as one-times, zero-add as zero-plus}
+use Rattle.algebra.proofs.Pow.{pow-zero}
 use Rattle.algebra.proofs.Sum.{sum-congr, sum-swap, sum-zeros, sum-add-one, sum-zero, sum-mul-left}
-use Rattle.algebra.proofs.Cabinet.{group-sum}
-use Rattle.symbol.specs.Arithmetic.{_⊕_, _⊗_}
-use Rattle.symbol.specs.Elem.{Elem, elem, ops, gf256}
-use Rattle.symbol.proofs.Elem.{gf256-laws, elem-⊕, elem-⊗, val-elem}
+use Rattle.symbol.specs.Elem.{elem, ops, gf256}
+use Rattle.symbol.proofs.Elem.{laws, gf256-laws, elem-zero, elem-⊕, elem-⊗, val-elem}
+use Rattle.kernel.specs.Runs.{Run, addedMultiple}
+use Rattle.kernel.proofs.Rows.{row-end}
 use Rattle.layout.specs.declared.Layout.{Layout}
-use Rattle.layout.specs.Layout.{digits, layers, groups, Admissible}
+use Rattle.layout.specs.Layout.{digits, layers, groups}
 use Rattle.layout.proofs.Facts.{bounds}
 use Rattle.codeword.specs.Codeword.{shapeOf, symbolAt}
-use Rattle.codeword.proofs.Usable.{usable}
 use Rattle.rule.specs.Rule.{trayPart, weightedSum, shareSymbol}
 use Rattle.rule.proofs.Racks.{tray-at, tray-long}
 use Rattle.share.specs.Share.{partSymbol}
-use Rattle.share.specs.Many.{sharesOf, partAt, fedMany, addManyBuffer}
-use Rattle.share.specs.Inner.{Added, Gathering}
-use Rattle.share.proofs.Refusals.{tray-done, add-done}
-
--- a tray's sum over a group is a sum over the digits of the group's layers
-pub group-is : (l : Layout) → Admissible l → (h : ℕ) → h < l .racks → (symbols : List ℕ) (p : ℕ) → p < groups l → (n : ℕ) (r : Elem) → n ≡ digits l →
-    r ≡ sum ops n (λ a. elem (getD symbols (layerOf (digits l) h p a) 0)) → r ≡ groupSum (shapeOf gf256 l) h p (λ j. elem (getD symbols j 0))
-group-is l a h hh symbols p hp n r en e =
-    e ∙ ap (λ m. sum ops m (λ b. elem (getD symbols (layerOf (digits l) h p b) 0))) en
-    ∙ sym (group-sum (shapeOf gf256 l) (usable l a .fits) h hh p (rw (usable l a .groups-are) at hp) (λ j. elem (getD symbols j 0)))
+use Rattle.share.specs.Many.{sharesOf, partAt, fedMany}
+use Rattle.share.specs.Inner.{sumAt, Summed, Added, Weighing, Feeding, Gathering}
+use Rattle.share.proofs.Weights.{row-in}
 
 choose-sum : {A : Type 0} (o : Ops A) → Laws o → (n : ℕ) (b : Bool) (t : ℕ → A) → sum o n (λ g. choose b (t g) (o .zero)) ≡ choose b (sum o n t) (o .zero)
 unfolding choose
@@ -112,55 +104,95 @@ partly-none l e h i rack n same = ap (λ m. replicate m 0) same ∙ table-replic
 pub tray-end : (u n g from len : ℕ) → 0 < n → g < u → len ≡ n → from ≡ g * len + 0 → from + len ≤ u * n
 tray-end u n g from len pos h e-len e-from = rw (e-from, e-len) (omega (arith, cell-in u n g (n - 1) h (omega arith)))
 
--- a turn of the loop that feeds the trays of a rack: the part of the buffer it lends is the tray, the call is not refused, and one tray's parts more are in
--- the shares
-pub gather-turn : (l : Layout) (e host helper : ℕ) (rack room : List ℕ) → Gathering l e host helper rack room → (g len from x : ℕ) (out out′ : List ℕ) → g < l .size → len ≡ layers l →
-    from ≡ g * layers l + 0 → x ≡ helper * l .size + g → out ≡ partly gf256 gf256-laws l e host helper rack g → out′ ≡ addManyBuffer gf256 l e host x (take len (drop from rack)) out →
-    out′ ≡ partly gf256 gf256-laws l e host helper rack (g + 1)
+-- a turn of the loop that feeds the trays of a rack: the part of the buffer it lends is the tray, and one tray's parts more are in the shares
+pub gather-turn : (l : Layout) (e h helper : ℕ) (rack : List ℕ) (g len from x : ℕ) (out out′ : List ℕ) → len ≡ layers l →
+    from ≡ g * layers l + 0 → x ≡ helper * l .size + g → out ≡ partly gf256 gf256-laws l e h helper rack g → out′ ≡ fedMany gf256 l e h x (take len (drop from rack)) out →
+    out′ ≡ partly gf256 gf256-laws l e h helper rack (g + 1)
 unfolding trayPart
-gather-turn l e host helper rack room s g len from x out out′ h e-len e-from e-x e-out q =
+gather-turn l e h helper rack g len from x out out′ e-len e-from e-x e-out q =
     let e-start : from ≡ g * layers l = omega arith in
-    q ∙ ap₂ (λ y z. addManyBuffer gf256 l e host y (take len (drop z rack)) out) e-x e-start
-    ∙ ap₂ (λ n o. addManyBuffer gf256 l e host (helper * l .size + g) (take n (drop (g * layers l) rack)) o) e-len e-out
-    ∙ sym (add-done gf256 l e host (helper * l .size + g) (trayPart l rack g) (partly gf256 gf256-laws l e host helper rack g) (tray-done l e host helper g _ _ (record {
+    q ∙ ap₂ (λ y z. fedMany gf256 l e h y (take len (drop z rack)) out) e-x e-start
+    ∙ ap₂ (λ n o. fedMany gf256 l e h (helper * l .size + g) (take n (drop (g * layers l) rack)) o) e-len e-out
+    ∙ partly-more gf256 gf256-laws l e h helper rack g
+
+-- what is lent in that turn
+pub gather-told : (l : Layout) (e h helper : ℕ) (rack room : List ℕ) → Gathering l e h helper rack room → (g len from : ℕ) (out : List ℕ) → g < l .size → len ≡ layers l →
+    from ≡ g * layers l + 0 → out ≡ partly gf256 gf256-laws l e h helper rack g → Feeding l e h (take len (drop from rack)) out
+unfolding trayPart
+gather-told l e h helper rack room s g len from out b e-len e-from e-out =
+    let e-start : from ≡ g * layers l = omega arith in
+    record {
       adm = s .adm;
-      long = tray-long l rack (l .size) g (bounds l (s .adm) .layers-low) (s .long) h ∙ sym (one-mul (layers l));
-      room-long = partly-long gf256 gf256-laws l e host helper rack g;
+      long = ap₂ (λ n z. length (take n (drop z rack))) e-len e-start ∙ tray-long l rack (l .size) g (bounds l (s .adm) .layers-low) (s .long) b;
+      room = ap length e-out ∙ partly-long gf256 gf256-laws l e h helper rack g;
       host-in = s .host-in;
-      helper-in = s .helper-in;
       some = s .some;
-      few = s .few;
-      differ = s .differ;
-    }) h))
-    ∙ partly-more gf256 gf256-laws l e host helper rack g
+      few = omega (arith, s .few);
+    }
 
-pub added-at : (l : Layout) (h x : ℕ) (symbols held shares : List ℕ) (n k : ℕ) → n ≡ k → Added l h x symbols held shares n → Added l h x symbols held shares k
-added-at l h x symbols held shares n k e u = subst (λ y. Added l h x symbols held shares y) e u
+-- the share of weight m lies in the shares
+pub weight-in : (l : Layout) (e m to total : ℕ) (sums was is : List ℕ) → Weighing l e sums was → total ≡ groups l → to ≡ m * total + 0 → m < e → length is ≡ length was → to + total ≤ length is
+weight-in l e m to total sums was is t e-total e-to h same = rw (same ∙ t .room, e-to, e-total, add-zero (m * groups l)) (row-in e (groups l) m h)
 
--- a turn of the loop that adds a tray's part of weight m: one number more of the shares has it added
-pub added-more : (l : Layout) (h x m p at w g v : ℕ) (symbols held shares : List ℕ) → p < groups l → at ≡ m * groups l + p → at < length shares →
-    elem w ≡ pow ops (place (shapeOf gf256 l) (x % l .size)) m → elem g ≡ groupSum (shapeOf gf256 l) h p (λ j. elem (getD symbols j 0)) →
-    v ≡ getD shares at 0 ⊕ (w ⊗ g) → v < 256 → Added l h x symbols held shares (m * groups l + p) → Added l h x symbols held (set shares at v) (m * groups l + (p + 1))
-added-more l h x m p at w g v symbols held shares hp e-at in-at e-w e-g e-v small u =
-    let u′ = added-at l h x symbols held shares (m * groups l + p) at (sym e-at) u in
-    added-at l h x symbols held (set shares at v) (at + 1) (m * groups l + (p + 1)) (omega arith)
-    (upto-more _ u′ (omega (arith, u′ .same)) (sym (val-elem v small) ∙ ap (λ y. y .val)
-    (ap elem e-v ∙ elem-⊕ (getD shares at 0) (w ⊗ g)
-    ∙ ap₂ (ops .add) (ap elem (u′ .high at (omega arith))) (elem-⊗ w g ∙ ap₂ (ops .mul) e-w e-g ∙ part-is gf256 gf256-laws l m h x symbols p ∙ part-place))))
+-- number p of tray x's part of weight m, from the sum
+part-from : (l : Layout) (h x m p : ℕ) (symbols : List ℕ) → p < groups l →
+    ops .mul (pow ops (place (shapeOf gf256 l) (x % l .size)) m) (sumAt l h symbols p) ≡ partAt gf256 l h x symbols (m * groups l + p)
+unfolding partAt
+part-from l h x m p symbols hp =
+    part-is gf256 gf256-laws l m h x symbols p ∙ ap₂ (λ y z. partSymbol gf256 l y h x symbols z) (sym (digits-div m hp)) (sym (digits-mod m hp))
+
+-- the sums are the part of weight 0
+pub added-first : (l : Layout) (h x : ℕ) (symbols held shares : List ℕ) → Summed l h symbols held shares → Added l h x symbols held shares 1
+added-first l h x symbols held shares d =
+    record { same = d .same; low = at; high = λ n k. d .rest n (omega (arith, one-mul (groups l))) }
   where
-    part-place : partSymbol gf256 l m h x symbols p ≡ partAt gf256 l h x symbols at
-    part-place = unfold partAt in
-        ap₂ (λ y z. partSymbol gf256 l y h x symbols z) (sym (ap (λ n. n / groups l) e-at ∙ digits-div m hp)) (sym (ap (λ n. n % groups l) e-at ∙ digits-mod m hp))
+    at : (n : ℕ) → n < 1 * groups l → elem (getD shares n 0) ≡ ops .add (elem (getD held n 0)) (partAt gf256 l h x symbols n)
+    at n k =
+        let hn : n < groups l = omega (arith, one-mul (groups l)) in
+        d .done n hn ∙ ap (ops .add (elem (getD held n 0)))
+        (sym (ap (λ w. ops .mul w (sumAt l h symbols n)) (pow-zero ops _) ∙ one-times ops laws (sumAt l h symbols n))
+        ∙ part-from l h x 0 n symbols hn ∙ ap (partAt gf256 l h x symbols) (omega arith))
 
--- before the first weight, and from one weight to the next
-pub added-none : (l : Layout) (h x : ℕ) (symbols held : List ℕ) → Added l h x symbols held held (0 * groups l)
-added-none l h x symbols held = added-at l h x symbols held held 0 (0 * groups l) (omega arith) (upto-none _ held)
+-- a turn of the loop over the other weights
+pub added-more : (l : Layout) (h x m to total w : ℕ) (symbols held sums shares shares′ : List ℕ) → total ≡ groups l → to ≡ m * total + 0 →
+    elem w ≡ pow ops (place (shapeOf gf256 l) (x % l .size)) m → ((p : ℕ) → p < groups l → elem (getD sums p 0) ≡ sumAt l h symbols p) →
+    Run (addedMultiple shares to sums 0 w) shares shares′ to total → Added l h x symbols held shares m → Added l h x symbols held shares′ (m + 1)
+unfolding addedMultiple
+added-more l h x m to total w symbols held sums shares shares′ e-total e-to e-w e-sums r u =
+    record {
+      same = r .long ∙ u .same;
+      low = λ n k. go n k (decLt n (m * groups l));
+      high = λ n k. r .high n (omega (arith, row-end m (groups l), place, e-total)) ∙ u .high n (omega (arith, row-end m (groups l)));
+    }
+  where
+    place : to ≡ m * groups l
+    place = e-to ∙ ap (λ n. m * n + 0) e-total ∙ add-zero (m * groups l)
 
-pub added-next : (l : Layout) (h x m : ℕ) (symbols held shares : List ℕ) → Added l h x symbols held shares (m * groups l + groups l) → Added l h x symbols held shares ((m + 1) * groups l)
-added-next l h x m symbols held shares u = added-at l h x symbols held shares _ _ (sym (suc-mul m (groups l)) ∙ ap (λ k. k * groups l) (sym (add-one m))) u
+    new : (p : ℕ) → p < groups l → elem (getD shares′ (m * groups l + p) 0) ≡ ops .add (elem (getD held (m * groups l + p) 0)) (partAt gf256 l h x symbols (m * groups l + p))
+    new p k =
+        ap elem (ap (λ n. getD shares′ (n + p) 0) (sym place) ∙ r .done p (rw e-total k))
+        ∙ elem-⊕ _ _
+        ∙ ap₂ (ops .add) (ap elem (ap (λ n. getD shares (n + p) 0) place ∙ u .high (m * groups l + p) (omega arith)))
+        (elem-⊗ (getD sums (0 + p) 0) w ∙ times-comm ops laws _ _ ∙ ap₂ (ops .mul) e-w (ap (λ n. elem (getD sums n 0)) (zero-add p) ∙ e-sums p k) ∙ part-from l h x m p symbols k)
+
+    go : (n : ℕ) → n < (m + 1) * groups l → Dec (n < m * groups l) → elem (getD shares′ n 0) ≡ ops .add (elem (getD held n 0)) (partAt gf256 l h x symbols n)
+    go n k (yes b) = ap elem (r .low n (omega (arith, place))) ∙ u .low n b
+    go n k (no b) =
+        let e : m * groups l + (n - m * groups l) ≡ n = omega arith in
+        subst (λ i. elem (getD shares′ i 0) ≡ ops .add (elem (getD held i 0)) (partAt gf256 l h x symbols i)) e
+        (new (n - m * groups l) (omega (arith, row-end m (groups l))))
+
+pub added-end : (l : Layout) (h x m e : ℕ) (symbols held shares : List ℕ) → Added l h x symbols held shares m → m ≤ e → e ≤ m → Added l h x symbols held shares e
+added-end l h x m e symbols held shares u k b = subst (λ n. Added l h x symbols held shares n) (omega arith) u
+
+-- sums added to zeros
+pub sums-only : (l : Layout) (h n : ℕ) (symbols sums : List ℕ) → groups l ≤ n → Summed l h symbols (replicate n 0) sums → (p : ℕ) → p < groups l → elem (getD sums p 0) ≡ sumAt l h symbols p
+sums-only l h n symbols sums room d p k =
+    d .done p k ∙ ap (λ y. ops .add y (sumAt l h symbols p)) (ap elem (getD-replicate n p 0 0 (omega arith)) ∙ elem-zero) ∙ zero-plus ops laws (sumAt l h symbols p)
 
 -- with all weights done, the buffer is that of the shares once the tray is fed
-pub added-all : (l : Layout) (e h x n : ℕ) (symbols held shares : List ℕ) → length held ≡ e * groups l → n ≡ e → Added l h x symbols held shares (n * groups l) →
+pub added-all : (l : Layout) (e h x : ℕ) (symbols held shares : List ℕ) → length held ≡ e * groups l → ((n : ℕ) → getD shares n 0 < 256) → Added l h x symbols held shares e →
     shares ≡ fedMany gf256 l e h x symbols held
 unfolding fedMany
-added-all l e h x n symbols held shares room same u = is-table _ _ (e * groups l) (u .same ∙ room) (λ k q. u .low k (rw same q))
+added-all l e h x symbols held shares room bytes u =
+    is-table _ _ (e * groups l) (u .same ∙ room) (λ n k. sym (val-elem (getD shares n 0) (bytes n)) ∙ ap (λ y. y .val) (u .low n k))

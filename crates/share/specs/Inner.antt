@@ -6,10 +6,14 @@ use mathlib.Core.List.{List}
 use Prim.Native.Nat.{ℕ, _+_, _*_, _%_, _≤_, _<_}
 use lib.Dec.{eqb, ltb}
 use lib.ListN.{length, getD}
-use Rattle.lists.proofs.Loops.{Upto}
-use Rattle.symbol.specs.Elem.{elem, ops, gf256}
+use Rattle.algebra.specs.Field.{Ops}
+use Rattle.algebra.specs.Sum.{sum}
+use Rattle.algebra.specs.Cabinet.{groupSum}
+use Rattle.symbol.specs.Arithmetic.{_⊕_}
+use Rattle.symbol.specs.Elem.{Elem, elem, ops, gf256}
 use Rattle.layout.specs.declared.Layout.{Layout}
-use Rattle.layout.specs.Layout.{layers, groups, Admissible}
+use Rattle.layout.specs.Layout.{layers, groups, layerLimit, Admissible}
+use Rattle.codeword.specs.Codeword.{shapeOf}
 use Rattle.share.specs.Many.{manyGrounds, partAt}
 
 -- the grounds of all calls: e shares are asked for, so many trays of rack `helper` are lent
@@ -17,24 +21,57 @@ unfoldable pub grounds : Layout → ℕ → ℕ → ℕ → ℕ → ℕ → ℕ 
 grounds l e lent host helper given room =
     manyGrounds l e (eqb given (lent * layers l) && eqb room (e * groups l)) (ltb host (l .racks) && ltb helper (l .racks)) (not (eqb host helper))
 
--- the first n numbers of shares that held `held` have tray x's parts added, the others not yet
-abbrev pub Added : Layout → ℕ → ℕ → List ℕ → List ℕ → List ℕ → ℕ → Type 0
-Added l h x symbols held shares n = Upto (λ k. (ops .add (elem (getD held k 0)) (partAt gf256 l h x symbols k)) .val) held shares n
+-- `count` runs of the sums, and for each of them s runs of the tray, one for each digit a
+pub record InRuns (s run count a : ℕ) (symbols sums : List ℕ) : Type 0 where
+  pub some : 0 < run
+  pub low : run ≤ layerLimit
+  pub some-runs : 0 < count
+  pub digit-in : a < s
+  pub long : length symbols ≡ count * s * run
+  pub room : count * run ≤ length sums
 
--- what `group_sum` is told
-pub record Summing (l : Layout) (h : ℕ) (symbols : List ℕ) (p : ℕ) : Type 0 where
+-- to number i of run q of the sums the tray's with digit a is added
+pub record DigitAdded (s run count a : ℕ) (symbols was is : List ℕ) : Type 0 where
+  pub same : length is ≡ length was
+  pub done : (q i : ℕ) → q < count → i < run → getD is (q * run + i) 0 ≡ getD was (q * run + i) 0 ⊕ getD symbols ((q * s + a) * run + i) 0
+  pub rest : (n : ℕ) → count * run ≤ n → getD is n 0 ≡ getD was n 0
+
+-- the same where that was done to the first n numbers of each run
+pub record AcrossAdded (s run count a n : ℕ) (symbols was is : List ℕ) : Type 0 where
+  pub same : length is ≡ length was
+  pub done : (q i : ℕ) → q < count → i < n → i < run → getD is (q * run + i) 0 ≡ getD was (q * run + i) 0 ⊕ getD symbols ((q * s + a) * run + i) 0
+  pub later : (q i : ℕ) → n ≤ i → i < run → getD is (q * run + i) 0 ≡ getD was (q * run + i) 0
+  pub rest : (k : ℕ) → count * run ≤ k → getD is k 0 ≡ getD was k 0
+
+-- those with the digits below n are added
+pub record DigitsAdded (s run count n : ℕ) (symbols was is : List ℕ) : Type 0 where
+  pub same : length is ≡ length was
+  pub done : (q i : ℕ) → q < count → i < run →
+      elem (getD is (q * run + i) 0) ≡ ops .add (elem (getD was (q * run + i) 0)) (sum ops n (λ b. elem (getD symbols ((q * s + b) * run + i) 0)))
+  pub rest : (k : ℕ) → count * run ≤ k → getD is k 0 ≡ getD was k 0
+
+-- the sum of a tray's symbols over group p
+abbrev pub sumAt : Layout → ℕ → List ℕ → ℕ → Elem
+sumAt l h symbols p = groupSum (shapeOf gf256 l) h p (λ j. elem (getD symbols j 0))
+
+-- what `add_sums` is told
+pub record Summing (l : Layout) (h : ℕ) (symbols sums : List ℕ) : Type 0 where
   pub adm : Admissible l
   pub long : length symbols ≡ layers l
+  pub room : groups l ≤ length sums
   pub host-in : h < l .racks
-  pub group-in : p < groups l
 
--- what `add_part` is told
-pub record Adding (l : Layout) (h m : ℕ) (symbols shares : List ℕ) : Type 0 where
-  pub adm : Admissible l
-  pub long : length symbols ≡ layers l
-  pub room : m * groups l + groups l ≤ length shares
-  pub host-in : h < l .racks
-  pub weight-in : m < l .size
+-- those sums are added to the first numbers of a list
+pub record Summed (l : Layout) (h : ℕ) (symbols was is : List ℕ) : Type 0 where
+  pub same : length is ≡ length was
+  pub done : (p : ℕ) → p < groups l → elem (getD is p 0) ≡ ops .add (elem (getD was p 0)) (sumAt l h symbols p)
+  pub rest : (p : ℕ) → groups l ≤ p → getD is p 0 ≡ getD was p 0
+
+-- tray x's parts of the weights below m are added to shares that held `held`
+pub record Added (l : Layout) (h x : ℕ) (symbols held shares : List ℕ) (m : ℕ) : Type 0 where
+  pub same : length shares ≡ length held
+  pub low : (n : ℕ) → n < m * groups l → elem (getD shares n 0) ≡ ops .add (elem (getD held n 0)) (partAt gf256 l h x symbols n)
+  pub high : (n : ℕ) → m * groups l ≤ n → getD shares n 0 ≡ getD held n 0
 
 -- what `add_parts` is told
 pub record Feeding (l : Layout) (e h : ℕ) (symbols shares : List ℕ) : Type 0 where
@@ -42,6 +79,15 @@ pub record Feeding (l : Layout) (e h : ℕ) (symbols shares : List ℕ) : Type 0
   pub long : length symbols ≡ layers l
   pub room : length shares ≡ e * groups l
   pub host-in : h < l .racks
+  pub some : 0 < e
+  pub few : e ≤ l .size
+
+-- what `add_weighted` is told
+pub record Weighing (l : Layout) (e : ℕ) (sums shares : List ℕ) : Type 0 where
+  pub adm : Admissible l
+  pub long : groups l ≤ length sums
+  pub room : length shares ≡ e * groups l
+  pub some : 0 < e
   pub few : e ≤ l .size
 
 -- what `gather` is told

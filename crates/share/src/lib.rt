@@ -5,63 +5,113 @@
 use layout::Layout;
 use layout::Rack;
 use layout::Tray;
-use symbol::Symbol;
+use layout::power::capped_power;
 ghost use mathlib.Core.Path.{_≡_};
 ghost use mathlib.Core.List.{List};
-ghost use Prim.Native.Nat.{ℕ, _+_, _*_};
+ghost use Prim.Native.Nat.{ℕ, _<_};
 ghost use lib.ListN.{length, getD};
-ghost use Rattle.algebra.specs.Cabinet.{groupSum};
 ghost use Rattle.symbol.specs.Elem.{elem, gf256};
 ghost use Rattle.layout.specs.Layout.{groups};
-ghost use Rattle.codeword.specs.Codeword.{shapeOf};
 ghost use Rattle.share.specs.Share.{shareRefusal, shareBuffer, addRefusal, addBuffer};
 ghost use Rattle.share.specs.Many.{sharesOf, fedMany, manyRefusal, manyBuffer, addManyRefusal, addManyBuffer};
-ghost use Rattle.share.specs.Inner.{grounds, Added, Summing, Adding, Feeding, Gathering};
+ghost use Rattle.share.specs.Inner.{grounds, InRuns, DigitAdded, DigitsAdded, Summing, sumAt, Summed, Added, Weighing, Feeding, Gathering};
 
-// The sum of a tray's symbols over the layers of group p.
-fn group_sum(l: Layout, h: u32, symbols: &[u8], p: u32) -> Symbol
-    requires { ⌜ Summing l h (now symbols) p ⌝ }
-    ensures { λ r. ⌜ elem (r .0) ≡ groupSum (shapeOf gf256 l) h p (λ j. elem (getD (now (symbols .entry)) j 0)) ⌝ }
+// Adds a tray's symbols with digit a, run after run: in the tray the runs of the s digits take turns, in the sums each run follows the one before.
+fn add_runs(s: usize, run: usize, count: usize, a: usize, symbols: &[u8], sums: &mut [u8])
+    requires { ⌜ InRuns s run count a (now symbols) (now sums) ⌝ }
+    ensures { λ _. ⌜ DigitAdded s run count a (now (symbols .entry)) (now (sums .entry)) (now (sums .exit)) ⌝ }
 {
-    let s = layout::digit_count(l);
-    let mut sum = Symbol(0);
-    let mut a = 0u32;
-    while a < s {
-        let j = layout::layer_of(l, h, p, a) as usize;
-        sum = sum.add(Symbol(symbols[j]));
-        a += 1;
+    let mut q = 0usize;
+    while q < count {
+        kernel::add(sums, q * run, run, symbols, (q * s + a) * run);
+        q += 1;
     }
-    sum
 }
 
-// Adds tray x's part of weight m to the share of that weight, after those of lower weights.
-fn add_part(l: Layout, h: u32, x: u32, m: u32, symbols: &[u8], shares: &mut [u8])
-    requires { ⌜ Adding l h m (now symbols) (now shares) ⌝ }
-    ensures { λ _. ⌜ ((held : List ℕ) → Added l h x (now (symbols .entry)) held (now (shares .entry)) (m * groups l) → Added l h x (now (symbols .entry)) held (now (shares .exit)) (m * groups l + groups l)) ⌝ }
+// The same across the runs: what stands first in each of them, then what stands second, and so on.
+fn add_across(s: usize, run: usize, count: usize, a: usize, symbols: &[u8], sums: &mut [u8])
+    requires { ⌜ InRuns s run count a (now symbols) (now sums) ⌝ }
+    ensures { λ _. ⌜ DigitAdded s run count a (now (symbols .entry)) (now (sums .entry)) (now (sums .exit)) ⌝ }
+{
+    let mut i = 0usize;
+    while i < run {
+        kernel::add_spaced(sums, i, run, count, symbols, a * run + i, s * run);
+        i += 1;
+    }
+}
+
+// The same: across where the runs are short and many.
+fn add_digit(s: usize, run: usize, count: usize, a: usize, symbols: &[u8], sums: &mut [u8])
+    requires { ⌜ InRuns s run count a (now symbols) (now sums) ⌝ }
+    ensures { λ _. ⌜ DigitAdded s run count a (now (symbols .entry)) (now (sums .entry)) (now (sums .exit)) ⌝ }
+{
+    if run * run <= count {
+        add_across(s, run, count, a, symbols, sums);
+        return;
+    }
+    add_runs(s, run, count, a, symbols, sums);
+}
+
+// Adds a tray's symbols with the digits 0 .. s - 1.
+fn add_digits(s: usize, run: usize, count: usize, symbols: &[u8], sums: &mut [u8])
+    requires { ⌜ InRuns s run count 0 (now symbols) (now sums) ⌝ }
+    ensures { λ _. ⌜ DigitsAdded s run count s (now (symbols .entry)) (now (sums .entry)) (now (sums .exit)) ⌝ }
+{
+    let mut a = 0usize;
+    while a < s {
+        add_digit(s, run, count, a, symbols, sums);
+        a += 1;
+    }
+}
+
+// Adds the sums of a tray's symbols over the groups. For each digit of the host's rack, the layers of consecutive groups are consecutive in runs of s^h.
+fn add_sums(l: Layout, h: u32, symbols: &[u8], sums: &mut [u8])
+    requires { ⌜ Summing l h (now symbols) (now sums) ⌝ }
+    ensures { λ _. ⌜ Summed l h (now (symbols .entry)) (now (sums .entry)) (now (sums .exit)) ⌝ }
+{
+    let b = l.racks;
+    let s = layout::digit_count(l);
+    let run = capped_power(s, h);
+    let count = capped_power(s, b - 1 - h);
+    add_digits(s as usize, run as usize, count as usize, symbols, sums);
+}
+
+// Adds tray x's parts of the weights from 1 on, worked out from its sums.
+fn add_weighted(l: Layout, count: u32, x: u32, sums: &[u8], shares: &mut [u8])
+    requires { ⌜ Weighing l count (now sums) (now shares) ⌝ }
+    ensures { λ _. ⌜ ((h : ℕ) (symbols held : List ℕ) → ((p : ℕ) → p < groups l → elem (getD (now (sums .entry)) p 0) ≡ sumAt l h symbols p) → Added l h x symbols held (now (shares .entry)) 1 → Added l h x symbols held (now (shares .exit)) count) ⌝ }
 {
     let u = l.size;
     let total = layout::group_count(l);
-    let weight = codeword::place_power(l, x % u, m);
-    let mut p = 0u32;
-    while p < total {
-        let part = weight.mul(group_sum(l, h, symbols, p));
-        let at = codeword::cell(total, m, p);
-        let held = Symbol(shares[at]);
-        shares[at] = held.add(part).0;
-        p += 1;
+    let mut m = 1u32;
+    while m < count {
+        let weight = codeword::place_power(l, x % u, m);
+        let to = codeword::cell(total, m, 0);
+        kernel::add_multiple(shares, to, total as usize, sums, 0, weight.0);
+        m += 1;
     }
 }
 
-// Adds tray x's parts to the shares, weight after weight.
+// The same from its symbols, with room for the sums.
+fn add_later(l: Layout, count: u32, h: u32, x: u32, symbols: &[u8], shares: &mut [u8])
+    requires { ⌜ Feeding l count h (now symbols) (now shares) ⌝ }
+    ensures { λ _. ⌜ ((held : List ℕ) → Added l h x (now (symbols .entry)) held (now (shares .entry)) 1 → Added l h x (now (symbols .entry)) held (now (shares .exit)) count) ⌝ }
+{
+    if count < 2 {
+        return;
+    }
+    let mut sums = [0u8; layout::LAYERS as usize];
+    add_sums(l, h, symbols, &mut sums);
+    add_weighted(l, count, x, &sums, shares);
+}
+
+// Adds tray x's parts to the shares: to that of weight 0 its sums, to the others those times a power of its place's factor.
 fn add_parts(l: Layout, count: u32, h: u32, x: u32, symbols: &[u8], shares: &mut [u8])
     requires { ⌜ Feeding l count h (now symbols) (now shares) ⌝ }
     ensures { λ _. ⌜ now (shares .exit) ≡ fedMany gf256 l count h x (now (symbols .entry)) (now (shares .entry)) ⌝ }
 {
-    let mut m = 0u32;
-    while m < count {
-        add_part(l, h, x, m, symbols, shares);
-        m += 1;
-    }
+    add_sums(l, h, symbols, shares);
+    add_later(l, count, h, x, symbols, shares);
 }
 
 // The first ground for refusing so many shares where so many trays of the helper's rack are lent, 0 for none.
@@ -144,9 +194,9 @@ pub fn share_add(l: Layout, host: Rack, tray: Tray, symbols: &[u8], share: &mut 
 }
 
 // Clears the shares and feeds the trays of the helper's rack, one after another.
-fn gather(l: Layout, count: u32, host: Rack, helper: u32, rack: &[u8], out: &mut [u8])
-    requires { ⌜ Gathering l count (host .0) helper (now rack) (now out) ⌝ }
-    ensures { λ _. ⌜ now (out .exit) ≡ sharesOf gf256 l count (host .0) (now (rack .entry)) ⌝ }
+fn gather(l: Layout, count: u32, h: u32, helper: u32, rack: &[u8], out: &mut [u8])
+    requires { ⌜ Gathering l count h helper (now rack) (now out) ⌝ }
+    ensures { λ _. ⌜ now (out .exit) ≡ sharesOf gf256 l count h (now (rack .entry)) ⌝ }
 {
     let u = l.size;
     let total = layout::layer_count(l);
@@ -155,14 +205,7 @@ fn gather(l: Layout, count: u32, host: Rack, helper: u32, rack: &[u8], out: &mut
     while g < u {
         let from = codeword::cell(total, g, 0);
         let to = from + total as usize;
-        share_add_many(
-            l,
-            count,
-            host,
-            Tray::of(helper * u + g),
-            &rack[from..to],
-            out,
-        );
+        add_parts(l, count, h, helper * u + g, &rack[from..to], out);
         g += 1;
     }
 }
@@ -180,12 +223,13 @@ pub fn share_many(
     ensures answer { λ r. ⌜ r ≡ manyRefusal l count (host .0) (helper .0) (length (now (rack .entry))) (length (now (out .entry))) ⌝ }
     ensures buffer { λ _. ⌜ now (out .exit) ≡ manyBuffer gf256 l count (host .0) (helper .0) (now (rack .entry)) (now (out .entry)) ⌝ }
 {
+    let h = host.number();
     let i = helper.number();
-    let ground = refusal(l, count, l.size, host.number(), i, rack.len(), out.len());
+    let ground = refusal(l, count, l.size, h, i, rack.len(), out.len());
     if ground != 0 {
         return ground;
     }
-    gather(l, count, host, i, rack, out);
+    gather(l, count, h, i, rack, out);
     0
 }
 

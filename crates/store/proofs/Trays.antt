@@ -6,7 +6,8 @@ use Prim.Native.Nat.{ℕ, _+_, _-_, _*_, _/_, _%_, _<_, _≤_}
 use native.Mathlib.Nat.{mod-lt, div-add-mod', div-lt-iff-lt-mul, le-of-eq, mul-le-mul-right}
 use native.Mathlib.Decide.{decLt}
 use native.Mathlib.Omega.{arith}
-use lib.ListN.{length, getD, List·getD-eq-default}
+use lib.ListN.{length, take, replicate, getD, List·getD-eq-default}
+use lib.Seq.{length-take-le}
 use Rattle.lists.specs.Lists.{table}
 use Rattle.lists.proofs.Numbers.{cell-in}
 use Rattle.lists.proofs.Tables.{table-length, table-at}
@@ -14,18 +15,22 @@ use Rattle.algebra.specs.Coding.{InRange}
 use Rattle.algebra.specs.Shape.{Field}
 use Rattle.symbol.specs.Elem.{coding, gf256}
 use Rattle.layout.specs.declared.Layout.{Layout}
-use Rattle.layout.specs.Layout.{trays, checks, layers, Admissible}
+use Rattle.layout.specs.Layout.{trays, checks, layers, trayLimit, Admissible}
 use Rattle.layout.proofs.Facts.{dimension-in}
 use Rattle.codeword.specs.Codeword.{Codeword, Usable}
 use Rattle.codeword.proofs.Usable.{usable}
 use Rattle.codeword.proofs.Buffers.{layers-pos}
 use Rattle.recover.specs.Recover.{Kept, Survivors, Restores}
-use Rattle.recover.specs.Inner.{Listed, LayerFits, Erasing, RestoredTo}
+use Rattle.syndrome.specs.Syndrome.{Listed}
+use Rattle.restore.specs.Restored.{LayerFits, Erasing, RestoredTo}
 use Rattle.recover.proofs.Restored.{low-checks, restores, restores-exists}
 use Rattle.store.specs.Store.{Begins, Stores}
 use Rattle.store.specs.Inner.{parityTrays, Writable}
 
 -- ---- the list of the trays after the data
+pub zeros-long : (n : ℕ) → n ≤ trayLimit → length (take n (replicate {A = ℕ} trayLimit 0)) ≡ n
+zeros-long n h = length-take-le n (replicate trayLimit 0) h
+
 module _ (l : Layout) where
   pub parity-long : length (parityTrays l) ≡ checks l
   parity-long = table-length (λ i. l .dimension + i) (checks l)

@@ -7,7 +7,7 @@ ghost use lib.ListN.{length};
 ghost use Rattle.lists.specs.Lists.{table};
 ghost use Rattle.symbol.specs.Elem.{gf256};
 ghost use Rattle.layout.specs.Layout.{checks, layers, trayLimit};
-ghost use Rattle.recover.specs.Inner.{RestoredTo};
+ghost use Rattle.restore.specs.Restored.{RestoredTo};
 ghost use Rattle.store.specs.Store.{storeRefusal, StoreAnswer, Begins};
 ghost use Rattle.store.specs.Inner.{parityTrays, Writable};
 
@@ -63,7 +63,7 @@ fn parity_in(l: Layout, out: &mut [u8], list: &mut [u32])
 {
     let first = l.dimension;
     count_from(first, list);
-    recover::restore(l, layout::layer_count(l), out, list);
+    restore::restore(l, layout::layer_count(l), out, list);
 }
 
 // Works out the trays after the data.

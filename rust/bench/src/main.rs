@@ -2,6 +2,7 @@
 
 mod calls;
 mod filled;
+mod instructions;
 mod machine;
 mod options;
 mod ordinary;
@@ -12,7 +13,7 @@ mod version;
 use calls::{Call, CALLS};
 use filled::Filled;
 use gesarumbo::Layout;
-use options::Options;
+use options::{Options, What};
 use ordinary::multiply::{LogExp, ProductTable};
 use ordinary::Ordinary;
 use std::process::ExitCode;
@@ -27,31 +28,39 @@ const LAYOUTS: [Layout; 4] = [
     Layout::new(9, 5, 35, 8),
 ];
 
+/// How many times the instructions of an ordinary version storing may take.
+const LIMIT: u64 = 2;
+
 fn main() -> ExitCode {
-    let asked = options::read(std::env::args().skip(1));
-    if asked.and_then(answer).is_none() {
+    let Some(asked) = options::read(std::env::args().skip(1)) else {
         eprintln!("{}", options::USAGE);
+        return ExitCode::FAILURE;
+    };
+    if let Err(error) = answer(asked) {
+        eprintln!("{error}");
         return ExitCode::FAILURE;
     }
     ExitCode::SUCCESS
 }
 
-/// Does what is asked for; none if there is no such call or version.
-fn answer(asked: Options) -> Option<()> {
+/// Does what is asked for.
+fn answer(asked: Options) -> Result<(), String> {
     let versions = versions();
-    match asked {
-        Options::Table { rounds } => print_table(&versions, rounds),
-        Options::Count {
-            call,
-            version,
-            rounds,
-        } => {
-            let call = CALLS.iter().find(|known| known.name == call)?;
-            let version = versions.iter().find(|known| known.name() == version)?;
-            count(call, version.as_ref(), rounds);
+    let layouts = asked.layout.map_or(LAYOUTS.to_vec(), |layout| vec![layout]);
+    match asked.what {
+        What::Times => print_times(&layouts, &versions, asked.rounds),
+        What::Instructions if asked.quick => return quick_count(layouts[0], &versions),
+        What::Instructions => return print_instructions(&layouts, &versions),
+        What::Count(call, version) => {
+            let call = CALLS.iter().find(|known| known.name == call);
+            let version = versions.iter().find(|known| known.name() == version);
+            let (Some(call), Some(version)) = (call, version) else {
+                return Err(options::USAGE.to_string());
+            };
+            count(layouts[0], call, version.as_ref(), asked.rounds);
         }
     }
-    Some(())
+    Ok(())
 }
 
 /// The library, and what it is compared with.
@@ -70,14 +79,14 @@ fn versions() -> [Box<dyn Version>; 3] {
 }
 
 /// Times every call of every layout.
-fn print_table(versions: &[Box<dyn Version>], rounds: usize) {
+fn print_times(layouts: &[Layout], versions: &[Box<dyn Version>], rounds: usize) {
     println!("Processor: {}.", machine::processor());
     println!("Build: {}.", machine::build());
     println!("Least / median of {rounds} rounds; the versions take turns in each round.");
     println!("Buffers to be written were cleared before each turn; all versions wrote the same.");
     println!();
-    table::heading(versions);
-    for layout in LAYOUTS {
+    table::heading(versions, ", µs");
+    for &layout in layouts {
         let filled = Filled::new(layout);
         for call in &CALLS {
             call.check(versions, &filled);
@@ -87,9 +96,45 @@ fn print_table(versions: &[Box<dyn Version>], rounds: usize) {
     }
 }
 
-/// Does a call of the first layout some times.
-fn count(call: &Call, version: &dyn Version, rounds: usize) {
-    let filled = Filled::new(LAYOUTS[0]);
+/// Counts every call of every layout.
+fn print_instructions(layouts: &[Layout], versions: &[Box<dyn Version>]) -> Result<(), String> {
+    table::heading(versions, "");
+    for &layout in layouts {
+        for call in &CALLS {
+            table::counts(layout, call.name, &instructions_of(layout, call, versions)?);
+        }
+    }
+    Ok(())
+}
+
+/// Counts storing, and fails where the library takes too many.
+fn quick_count(layout: Layout, versions: &[Box<dyn Version>]) -> Result<(), String> {
+    let all = instructions_of(layout, &CALLS[0], versions)?;
+    table::heading(versions, "");
+    table::counts(layout, CALLS[0].name, &all);
+    match all[1..].iter().find(|&&ordinary| all[0] > LIMIT * ordinary) {
+        Some(_) => Err(format!(
+            "storing takes more than {LIMIT} times the instructions"
+        )),
+        None => Ok(()),
+    }
+}
+
+/// The instructions of a call by each version.
+fn instructions_of(
+    layout: Layout,
+    call: &Call,
+    versions: &[Box<dyn Version>],
+) -> Result<Vec<u64>, String> {
+    let names = versions.iter().map(|version| version.name());
+    names
+        .map(|name| instructions::of(layout, call.name, name))
+        .collect()
+}
+
+/// Does a call some times.
+fn count(layout: Layout, call: &Call, version: &dyn Version, rounds: usize) {
+    let filled = Filled::new(layout);
     let mut buffer = (call.before)(&filled);
     for _ in 0..rounds {
         counted(call, version, &filled, &mut buffer);

@@ -1,12 +1,12 @@
-//! The table of times, in markdown.
+//! The tables of times and of instructions, in markdown.
 
 use crate::timing::Times;
 use crate::version::Version;
 use gesarumbo::Layout;
 
-/// Prints the heading: the times of each version, and the first against each of the others.
-pub fn heading(versions: &[Box<dyn Version>]) {
-    let times = versions.iter().map(|v| format!("{}, µs", v.name()));
+/// Prints the heading: the figures of each version, and the first against each of the others.
+pub fn heading(versions: &[Box<dyn Version>], unit: &str) {
+    let times = versions.iter().map(|v| format!("{}{unit}", v.name()));
     let first = versions[0].name();
     let ratios = versions[1..]
         .iter()
@@ -25,6 +25,17 @@ pub fn row(layout: Layout, call: &str, all: &[Times]) {
         .map(|t| pair(first.least / t.least, first.median / t.median));
     let cells: Vec<String> = times.chain(ratios).collect();
     line(&layout.to_string(), call, &cells);
+}
+
+/// Prints the instructions of one call.
+pub fn counts(layout: Layout, call: &str, all: &[u64]) {
+    let counts = all.iter().map(u64::to_string);
+    let ratios = all[1..].iter().map(|&n| short(all[0] as f64 / n as f64));
+    line(
+        &layout.to_string(),
+        call,
+        &Vec::from_iter(counts.chain(ratios)),
+    );
 }
 
 fn pair(least: f64, median: f64) -> String {

@@ -5,7 +5,7 @@ use lib.ListN.{length}
 use borrow.Author.Needs.{needs}
 use borrow.Author.Tests.{not-true, not-false}
 use Rattle.recover.specs.Recover.{recoverRefusal}
-use Rattle.recover.proofs.Layer.{says-true, says-false}
+use Rattle.restore.proofs.Says.{says-true, says-false}
 use Rattle.recover.proofs.Grounds.{recoverable}
 use Rattle.recover.proofs.Answers.{answer-refused, answer-none, answer-done, told}
 use Rattle.recover.proofs.recover.Statement.{statement}

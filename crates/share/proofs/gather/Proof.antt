@@ -1,4 +1,4 @@
-use mathlib.Core.Path.{_≡_, sym, ap, _∙_}
+use mathlib.Core.Path.{_≡_, refl, sym, ap, _∙_}
 use Prim.Native.Nat.{_+_, _-_, _*_, _≤_}
 use native.Mathlib.Nat.{mul-le-mul}
 use native.Mathlib.Omega.{arith}
@@ -7,17 +7,21 @@ use borrow.Author.Needs.{needs}
 use Rattle.lists.proofs.Numbers.{cell-in, mul-below}
 use Rattle.symbol.specs.Elem.{gf256}
 use Rattle.symbol.proofs.Elem.{gf256-laws}
-use Rattle.layout.specs.Layout.{trayLimit}
+use Rattle.layout.specs.Layout.{layers, trayLimit}
 use Rattle.layout.proofs.Facts.{bounds}
-use Rattle.share.proofs.Parts.{partly, partly-none, partly-long, partly-all, tray-end, gather-turn}
+use Rattle.share.proofs.Parts.{partly, partly-none, partly-long, partly-all, tray-end, gather-turn, gather-told}
 use Rattle.share.proofs.gather.Statement.{statement}
 use Rattle.share.proofs.gather.Tie as tie
 
 abbrev Inv-loop : tie.InvT-loop
-Inv-loop l count host helper rack out₀ u total g₀ out g = (g ≤ u) × (out ≡ partly gf256 gf256-laws l count (host .0) helper rack g)
+Inv-loop l count h helper rack out₀ u total g₀ out g = (g ≤ u) × (out ≡ partly gf256 gf256-laws l count h helper rack g)
 
 abbrev μ-loop : tie.MeasureT-loop
-μ-loop l count host helper rack out₀ u total g₀ out g = u - g
+μ-loop l count h helper rack out₀ u total g₀ out g = u - g
+
+-- where the tray of the turn begins
+start : (c : tie.After-cell Inv-loop μ-loop) → c .cell .result ≡ c .before .before .loop .g * layers (c .before .before .before .before .before .before .before .before .before .before .args .l) + 0
+start c = c .cell .ensures ∙ ap (λ n. c .before .before .loop .g * n + 0) (c .before .before .before .before .before .before .before .layer-count .ensures)
 
 pub gather-spec : {M : Type 1} → statement M
 gather-spec =
@@ -46,22 +50,22 @@ gather-spec =
     let p = c .before .before .before .before .before .before .before .before .before .before .pre in
     let a = p .adm in
     omega (arith, cell-in _ _ _ _ (p .helper-in) (c .before .loop-test .taken)))
-    (λ c κs. tt)
     (λ c. omega arith)
     (λ c. omega arith)
     (λ c.
-    let p = c .before .before .before .before .before .before .before .before .before .before .before .pre in
-    omega (arith, p .long, tray-end _ _ _ _ _ (bounds _ (p .adm) .layers-low) (c .before .before .loop-test .taken) (c .before .before .before .before .before .before .before .before .layer-count .ensures) (c .before .cell .ensures)))
-    (λ c κs. tt)
-    (λ c. let b = bounds _ (c .before .before .before .before .before .before .before .before .before .before .before .before .before .before .before .before .pre .adm) in omega arith)
+    let p = c .before .before .before .before .before .before .before .before .before .before .pre in
+    omega (arith, p .long, tray-end _ _ _ _ _ (bounds _ (p .adm) .layers-low) (c .before .loop-test .taken) (c .before .before .before .before .before .before .before .layer-count .ensures) (c .cell .ensures)))
+    (λ c κs.
+    let a = c .before .before .before .before .before .before .before .before .before .before .before .before .args in
+    gather-told (a .l) (a .count) (a .h) (a .helper) (a .rack .now) (a .out .now) (c .before .before .before .before .before .before .before .before .before .before .before .before .pre) (c .before .before .before .before .loop .g)
+    (c .before .before .cell .result + c .before .before .before .before .before .before .before .before .before .layer-count .result - c .before .before .cell .result) (c .before .before .cell .result) (c .before .before .before .before .loop .out) (c .before .before .before .loop-test .taken) (omega (arith, c .before .before .before .before .before .before .before .before .before .layer-count .ensures)) (start (c .before .before)) (c .before .before .before .before .loop .inv .1))
+    (λ c. let b = bounds _ (c .before .before .before .before .before .before .before .before .before .before .before .before .before .before .before .pre .adm) in omega arith)
     (λ c. omega arith)
     (λ c.
-    let a = c .before .before .before .before .before .before .before .before .before .before .before .before .before .before .before .before .args in
-    let e = c .before .before .before .before .before .before .before .before .before .before .before .before .before .layer-count .ensures in (
+    let a = c .before .before .before .before .before .before .before .before .before .before .before .before .before .before .before .args in (
       omega arith,
-      gather-turn (a .l) (a .count) (a .host .0) (a .helper) (a .rack .now) (a .out .now) (c .before .before .before .before .before .before .before .before .before .before .before .before .before .before .before .before .pre) (c .before .before .before .before .before .before .before .before .loop .g)
-          (c .before .before .before .before .before .before .cell .result + c .before .before .before .before .before .before .before .before .before .before .before .before .before .layer-count .result - c .before .before .before .before .before .before .cell .result) _ _ _ _ (c .before .before .before .before .before .before .before .loop-test .taken) (omega arith)
-          (c .before .before .before .before .before .before .cell .ensures ∙ ap (λ n. c .before .before .before .before .before .before .before .before .loop .g * n + 0) e) (c .before .before .before .before .before .of .ensures) (c .before .before .before .before .before .before .before .before .loop .inv .1) (c .before .before .share-add-many .ensures .1),
+      gather-turn (a .l) (a .count) (a .h) (a .helper) (a .rack .now) (c .before .before .before .before .before .before .before .loop .g)
+          (c .before .before .before .before .before .cell .result + c .before .before .before .before .before .before .before .before .before .before .before .before .layer-count .result - c .before .before .before .before .before .cell .result) (c .before .before .before .before .before .cell .result) _ _ _ (omega (arith, c .before .before .before .before .before .before .before .before .before .before .before .before .layer-count .ensures)) (start (c .before .before .before .before .before)) refl (c .before .before .before .before .before .before .before .loop .inv .1) (c .before .before .add-parts .ensures),
     ))
     (λ c. ap length (c .before .loop .inv .1) ∙ partly-long gf256 gf256-laws _ _ _ _ _ _ ∙ sym (c .before .before .before .before .before .before .before .before .before .pre .room))
     (λ c. c .before .loop .inv .1 ∙ partly-all gf256 gf256-laws _ _ _ _ _ _ (omega arith)))

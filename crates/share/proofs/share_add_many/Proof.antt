@@ -36,7 +36,7 @@ share-add-many-spec =
     (found (c .before), add-refused gf256 (a .l) (a .count) (a .host .0) (a .tray .0) (a .symbols .now) (a .shares .now) (λ e. c .if1 .taken (found (c .before) ∙ e))))
     (λ c κs.
     let p = tray-shareable _ _ _ _ _ _ (none (c .before)) in
-    record { adm = p .adm; long = p .long ∙ one-mul _; room = p .room-long; host-in = rw (c .before .before .before .before .number .ensures) (p .host-in); few = omega (arith, p .few) })
+    record { adm = p .adm; long = p .long ∙ one-mul _; room = p .room-long; host-in = rw (c .before .before .before .before .number .ensures) (p .host-in); some = p .some; few = omega (arith, p .few) })
     (λ c. search needs)
     (λ c.
     let a = c .before .before .before .before .before .before .before .before .before .before .args in

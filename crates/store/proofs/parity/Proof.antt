@@ -3,7 +3,7 @@ use Prim.Native.Nat.{_-_, _≤_}
 use native.Mathlib.Omega.{arith}
 use borrow.Author.Needs.{needs}
 use Rattle.layout.specs.Layout.{trayLimit}
-use Rattle.recover.proofs.Layer.{zeros-long}
+use Rattle.store.proofs.Trays.{zeros-long}
 use Rattle.store.proofs.parity.Statement.{statement}
 use Rattle.store.proofs.parity.Tie as tie
 

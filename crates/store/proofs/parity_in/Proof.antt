@@ -5,7 +5,7 @@ use borrow.Author.Needs.{needs}
 use Rattle.lists.specs.Lists.{table}
 use Rattle.layout.specs.Layout.{layers}
 use Rattle.layout.proofs.Facts.{dimension-in}
-use Rattle.recover.specs.Inner.{Erasing, RestoredTo}
+use Rattle.restore.specs.Restored.{Erasing, RestoredTo}
 use Rattle.store.specs.Inner.{parityTrays}
 use Rattle.store.proofs.Trays.{parity-told}
 use Rattle.store.proofs.parity_in.Statement.{statement}

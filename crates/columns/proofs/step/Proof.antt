@@ -1,0 +1,15 @@
+use Prim.Native.Nat.{_-_}
+use native.Mathlib.Omega.{arith}
+use Rattle.columns.proofs.Steps.{grown-skip, grown-more, top-in}
+use borrow.Author.Needs.{needs}
+use Rattle.columns.proofs.step.Statement.{statement}
+use Rattle.columns.proofs.step.Tie as tie
+
+pub step-spec : {M : Type 1} → statement M
+step-spec = tie.close (tie.spec
+    (λ c. search grown-skip)
+    (λ c κs. search needs)
+    (λ c κs. (search needs, search needs, search top-in, omega arith))
+    (λ c. search needs)
+    (λ c. search needs)
+    (λ c. search grown-more))

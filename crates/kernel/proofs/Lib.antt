@@ -1,0 +1,5 @@
+pub mod Runs
+pub mod Rows
+pub mod Spaced
+pub mod Inverse
+pub mod Periods

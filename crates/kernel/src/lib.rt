@@ -1,0 +1,235 @@
+// Kernels: loops over a run of symbols, one loop each with one step a symbol and no branch or table, so that the compiler does many symbols at a time.
+// Each promises what its run holds afterwards and that every other symbol of the buffer is as it was.
+use symbol::ladder::product;
+ghost use mathlib.Core.Path.{_≡_};
+ghost use Prim.Native.Nat.{_+_, _*_, _<_, _≤_};
+ghost use lib.ListN.{length};
+ghost use Rattle.symbol.specs.Arithmetic.{_⊗_};
+ghost use Rattle.kernel.specs.Runs.{Run, filled, copied, repeated, added, addedProduct, addedMultiple, stepped, accrued, shifted, parted, lookedUp, sampled};
+ghost use Rattle.kernel.specs.Runs.{Spaced, addedSpaced, allZero, Inverses};
+
+// v at len places from the place `to` on.
+pub fn fill(out: &mut [u8], to: usize, len: usize, v: u8)
+    requires { ⌜ to + len ≤ length (now out) ⌝ }
+    ensures { λ _. ⌜ Run (filled v) (now (out .entry)) (now (out .exit)) to len ⌝ }
+{
+    let mut j = 0usize;
+    while j < len {
+        out[to + j] = v;
+        j += 1;
+    }
+}
+
+// A copy of another buffer's run.
+pub fn copy(out: &mut [u8], to: usize, len: usize, src: &[u8], from: usize)
+    requires { ⌜ (to + len ≤ length (now out)) × (from + len ≤ length (now src)) ⌝ }
+    ensures { λ _. ⌜ Run (copied (now (src .entry)) from) (now (out .entry)) (now (out .exit)) to len ⌝ }
+{
+    let mut j = 0usize;
+    while j < len {
+        out[to + j] = src[from + j];
+        j += 1;
+    }
+}
+
+// A copy of an earlier run of the same buffer.
+pub fn repeat(out: &mut [u8], to: usize, from: usize, len: usize)
+    requires { ⌜ (from + len ≤ to) × (to + len ≤ length (now out)) ⌝ }
+    ensures { λ _. ⌜ Run (copied (now (out .entry)) from) (now (out .entry)) (now (out .exit)) to len ⌝ }
+{
+    let mut j = 0usize;
+    while j < len {
+        out[to + j] = out[from + j];
+        j += 1;
+    }
+}
+
+// The smaller of two numbers.
+fn smaller(a: usize, b: usize) -> usize
+    requires { ⌜ (0 < a) × (0 < b) ⌝ }
+    ensures { λ m. ⌜ (m ≤ a) × (m ≤ b) × (0 < m) ⌝ }
+{
+    if a < b { a } else { b }
+}
+
+// The first so many symbols, again and again.
+pub fn extend(row: &mut [u8], period: usize, count: usize)
+    requires { ⌜ (count * period ≤ length (now row)) × (0 < count) ⌝ }
+    ensures { λ _. ⌜ Run (repeated (now (row .entry)) period) (now (row .entry)) (now (row .exit)) 0 (count * period) ⌝ }
+{
+    let mut c = 1usize;
+    while c < count {
+        let m = smaller(c, count - c);
+        repeat(row, c * period, 0, m * period);
+        c += m;
+    }
+}
+
+// Every step-th symbol of another buffer.
+pub fn sample(out: &mut [u8], to: usize, len: usize, src: &[u8], step: usize)
+    requires { ⌜ (to + len ≤ length (now out)) × (len * step ≤ length (now src)) × (0 < step) ⌝ }
+    ensures { λ _. ⌜ Run (sampled (now (src .entry)) step) (now (out .entry)) (now (out .exit)) to len ⌝ }
+{
+    let mut j = 0usize;
+    while j < len {
+        out[to + j] = src[j * step];
+        j += 1;
+    }
+}
+
+// A run plus another buffer's.
+pub fn add(out: &mut [u8], to: usize, len: usize, src: &[u8], from: usize)
+    requires { ⌜ (to + len ≤ length (now out)) × (from + len ≤ length (now src)) ⌝ }
+    ensures { λ _. ⌜ Run (added (now (out .entry)) to (now (src .entry)) from) (now (out .entry)) (now (out .exit)) to len ⌝ }
+{
+    let mut j = 0usize;
+    while j < len {
+        out[to + j] = out[to + j] ^ src[from + j];
+        j += 1;
+    }
+}
+
+// Every step-th symbol plus every stride-th one of another buffer.
+pub fn add_spaced(
+    out: &mut [u8],
+    to: usize,
+    step: usize,
+    len: usize,
+    src: &[u8],
+    from: usize,
+    stride: usize,
+)
+    requires { ⌜ (to + len * step < length (now out) + step) × (from + len * stride < length (now src) + stride) × (0 < step) ⌝ }
+    ensures { λ _. ⌜ Spaced (addedSpaced (now (out .entry)) to step (now (src .entry)) from stride) (now (out .entry)) (now (out .exit)) to step len ⌝ }
+{
+    let mut j = 0usize;
+    while j < len {
+        out[to + j * step] = out[to + j * step] ^ src[from + j * stride];
+        j += 1;
+    }
+}
+
+// A run plus the products of two other buffers' runs.
+pub fn add_product(
+    out: &mut [u8],
+    to: usize,
+    len: usize,
+    src: &[u8],
+    from: usize,
+    by: &[u8],
+    at: usize,
+)
+    requires { ⌜ (to + len ≤ length (now out)) × (from + len ≤ length (now src)) × (at + len ≤ length (now by)) ⌝ }
+    ensures { λ _. ⌜ Run (addedProduct (now (out .entry)) to (now (src .entry)) from (now (by .entry)) at) (now (out .entry)) (now (out .exit)) to len ⌝ }
+{
+    let mut j = 0usize;
+    while j < len {
+        out[to + j] = out[to + j] ^ product(src[from + j], by[at + j]);
+        j += 1;
+    }
+}
+
+// A run plus another buffer's, times one symbol.
+pub fn add_multiple(out: &mut [u8], to: usize, len: usize, src: &[u8], from: usize, v: u8)
+    requires { ⌜ (to + len ≤ length (now out)) × (from + len ≤ length (now src)) ⌝ }
+    ensures { λ _. ⌜ Run (addedMultiple (now (out .entry)) to (now (src .entry)) from v) (now (out .entry)) (now (out .exit)) to len ⌝ }
+{
+    let mut j = 0usize;
+    while j < len {
+        out[to + j] = out[to + j] ^ product(src[from + j], v);
+        j += 1;
+    }
+}
+
+// The current terms times their factors, and the products added to a run.
+pub fn accrue(out: &mut [u8], to: usize, len: usize, cur: &mut [u8], by: &[u8])
+    requires { ⌜ (to + len ≤ length (now out)) × (len ≤ length (now cur)) × (len ≤ length (now by)) ⌝ }
+    ensures { λ _. ⌜ Run (accrued (now (out .entry)) to (now (cur .entry)) (now (by .entry))) (now (out .entry)) (now (out .exit)) to len ⌝ }
+    ensures { λ _. ⌜ Run (stepped (now (cur .entry)) (now (by .entry))) (now (cur .entry)) (now (cur .exit)) 0 len ⌝ }
+{
+    let mut j = 0usize;
+    while j < len {
+        let v = product(cur[j], by[j]);
+        cur[j] = v;
+        out[to + j] = out[to + j] ^ v;
+        j += 1;
+    }
+}
+
+// A run times another buffer's, plus what is carried; the run as it was is carried on.
+pub fn shift(out: &mut [u8], to: usize, len: usize, carry: &mut [u8], by: &[u8], at: usize)
+    requires { ⌜ (to + len ≤ length (now out)) × (len ≤ length (now carry)) × (at + len ≤ length (now by)) ⌝ }
+    ensures { λ _. ⌜ Run (shifted (now (out .entry)) to (now (carry .entry)) (now (by .entry)) at) (now (out .entry)) (now (out .exit)) to len ⌝ }
+    ensures { λ _. ⌜ Run (copied (now (out .entry)) to) (now (carry .entry)) (now (carry .exit)) 0 len ⌝ }
+{
+    let mut j = 0usize;
+    while j < len {
+        let v = out[to + j];
+        out[to + j] = carry[j] ^ product(v, by[at + j]);
+        carry[j] = v;
+        j += 1;
+    }
+}
+
+// A run times the differences of two runs of another buffer.
+pub fn part(out: &mut [u8], to: usize, len: usize, src: &[u8], a: usize, b: usize)
+    requires { ⌜ (to + len ≤ length (now out)) × (a + len ≤ length (now src)) × (b + len ≤ length (now src)) ⌝ }
+    ensures { λ _. ⌜ Run (parted (now (out .entry)) to (now (src .entry)) a b) (now (out .entry)) (now (out .exit)) to len ⌝ }
+{
+    let mut j = 0usize;
+    while j < len {
+        out[to + j] = product(out[to + j], src[a + j] ^ src[b + j]);
+        j += 1;
+    }
+}
+
+// What a table of 256 has for each symbol of a run.
+pub fn look_up(out: &mut [u8], to: usize, len: usize, table: &[u8])
+    requires { ⌜ (to + len ≤ length (now out)) × (length (now table) ≡ 256) ⌝ }
+    ensures { λ _. ⌜ Run (lookedUp (now (out .entry)) to (now (table .entry))) (now (out .entry)) (now (out .exit)) to len ⌝ }
+{
+    let mut j = 0usize;
+    while j < len {
+        out[to + j] = table[out[to + j] as usize];
+        j += 1;
+    }
+}
+
+// Whether the first len symbols are zero.
+pub fn all_zero(xs: &[u8], len: usize) -> bool
+    requires { ⌜ len ≤ length (now xs) ⌝ }
+    ensures { λ r. ⌜ r ≡ allZero (now (xs .entry)) len ⌝ }
+{
+    let mut j = 0usize;
+    while j < len {
+        if xs[j] != 0 {
+            return false;
+        }
+        j += 1;
+    }
+    true
+}
+
+// Half a symbol: the one whose double it is.
+fn half(q: u8) -> u8
+    ensures { λ h. ⌜ 2 ⊗ h ≡ q ⌝ }
+{
+    (q >> 1) ^ (std::num::wrapping_sub_u8(0, q & 1) & 142)
+}
+
+// A table of the inverses of all symbols; of zero, zero.
+pub fn inverses(table: &mut [u8])
+    requires { ⌜ length (now table) ≡ 256 ⌝ }
+    ensures { λ _. ⌜ Inverses (now (table .exit)) ⌝ }
+{
+    table[0] = 0;
+    let mut i = 0usize;
+    let mut p = 1u8;
+    let mut q = 1u8;
+    while i < 255 {
+        table[p as usize] = q;
+        p = product(p, 2);
+        q = half(q);
+        i += 1;
+    }
+}

@@ -1,0 +1,6 @@
+pub mod Says
+pub mod Runs
+pub mod Solve
+pub mod Put
+pub mod Fits
+pub mod Room

@@ -1,0 +1,125 @@
+-- A tray and sums in runs: where they lie, and a turn of each loop over them.
+-- Assumes nothing.
+use mathlib.Core.Path.{_≡_, refl, sym, ap, ap₂, _∙_, subst}
+use mathlib.Core.List.{List}
+use Prim.Native.Nat.{ℕ, _+_, _*_, _<_, _≤_}
+use native.Mathlib.Nat.{not-suc-le-zero, add-comm, add-mul, mul-assoc, mul-comm, le-mul-of-pos-right}
+use native.Mathlib.Decide.{ℕ-discrete}
+use native.Mathlib.Omega.{arith}
+use lib.ListN.{length, getD}
+use Rattle.lists.proofs.Numbers.{cell-in, cell-same}
+use Rattle.algebra.specs.Field.{Ops}
+use Rattle.algebra.specs.Sum.{sum}
+use Rattle.algebra.proofs.Ring.{add-zero, add-assoc as plus-assoc}
+use Rattle.algebra.proofs.Sum.{sum-zero, sum-add-one}
+use Rattle.symbol.specs.Arithmetic.{_⊕_}
+use Rattle.symbol.specs.Elem.{elem, ops}
+use Rattle.symbol.proofs.Elem.{laws, elem-⊕}
+use Rattle.kernel.specs.Runs.{Run, added, Spaced, addedSpaced}
+use Rattle.kernel.proofs.Rows.{row-before, row-end}
+use Rattle.share.specs.Inner.{InRuns, DigitAdded, AcrossAdded, DigitsAdded}
+
+module _ (s run count a : ℕ) (symbols sums : List ℕ) (t : InRuns s run count a symbols sums) where
+  -- run q of the sums, and its run of the tray
+  pub sums-run : (q : ℕ) → q < count → q * run + run ≤ length sums
+  sums-run q h = omega (arith, row-before q count run h, t .room)
+
+  pub tray-run : (q : ℕ) → q < count → (q * s + a) * run + run ≤ length symbols
+  tray-run q h = omega (arith, row-before (q * s + a) (count * s) run (cell-in count s q a h (t .digit-in)), t .long)
+
+  pub tray-number : (q : ℕ) → q < count → q * s + a < length symbols
+  tray-number q h = omega (arith, tray-run q h, le-mul-of-pos-right (q * s + a) (t .some), t .some)
+
+  -- s runs are within the tray
+  whole : count * (s * run) ≡ length symbols
+  whole = sym (mul-assoc count s run) ∙ sym (t .long)
+
+  pub period-in : s * run ≤ length symbols
+  period-in = omega (arith, whole, le-mul-of-pos-right (s * run) (t .some-runs), mul-comm (s * run) count)
+
+  pub first-in : (i : ℕ) → i < run → a * run + i < s * run
+  first-in i h = cell-in s run a i (t .digit-in) h
+
+  pub across-sums : (i : ℕ) → i < run → i + count * run < length sums + run
+  across-sums i h = omega (arith, t .room)
+
+  pub across-tray : (i : ℕ) → i < run → a * run + i + count * (s * run) < length symbols + s * run
+  across-tray i h = omega (arith, whole, first-in i h)
+
+module _ (s run a : ℕ) (symbols was : List ℕ) where
+  pub runs-none : DigitAdded s run 0 a symbols was was
+  runs-none = record { same = refl; done = λ q i h. absurd (not-suc-le-zero h); rest = λ n h. refl }
+
+  -- one run more
+  pub runs-more : (q : ℕ) (is new : List ℕ) → DigitAdded s run q a symbols was is → Run (added is (q * run) symbols ((q * s + a) * run)) is new (q * run) run →
+      DigitAdded s run (q + 1) a symbols was new
+  unfolding added
+  runs-more q is new d r = record {
+    same = r .long ∙ d .same;
+    done = λ k i h l. go k i l (ℕ-discrete k q) h;
+    rest = λ n h. let e = row-end q run in r .high n (omega arith) ∙ d .rest n (omega arith);
+  }
+    where
+      go : (k i : ℕ) → i < run → Dec (k ≡ q) → k < q + 1 → getD new (k * run + i) 0 ≡ getD was (k * run + i) 0 ⊕ getD symbols ((k * s + a) * run + i) 0
+      go k i l (yes e) h = rw e (r .done i l ∙ ap (λ (y : ℕ). y ⊕ getD symbols ((q * s + a) * run + i) 0) (d .rest (q * run + i) (omega arith)))
+      go k i l (no e) h = r .low (k * run + i) (omega (arith, row-before k q run (omega arith))) ∙ d .done k i (omega arith) l
+
+  pub runs-end : (q count : ℕ) (is : List ℕ) → DigitAdded s run q a symbols was is → q ≤ count → count ≤ q → DigitAdded s run count a symbols was is
+  runs-end q count is d h l = subst (λ n. DigitAdded s run n a symbols was is) (omega arith) d
+
+  module _ (count : ℕ) where
+    pub across-none : AcrossAdded s run count a 0 symbols was was
+    across-none = record { same = refl; done = λ q i h l. absurd (not-suc-le-zero l); later = λ q i h l. refl; rest = λ k h. refl }
+
+    -- number n of each run
+    pub across-more : (n : ℕ) (is new : List ℕ) → n < run → AcrossAdded s run count a n symbols was is →
+        Spaced (addedSpaced is n run symbols (a * run + n) (s * run)) is new n run count → AcrossAdded s run count a (n + 1) symbols was new
+    unfolding addedSpaced
+    across-more n is new below d r = record {
+      same = r .long ∙ d .same;
+      done = λ q i h l m. go q i h m (ℕ-discrete i n) l;
+      later = λ q i h l. other q i l (λ e. omega arith) ∙ d .later q i (omega arith) l;
+      rest = λ k h. r .other k (λ j b e. omega (arith, cell-in count run j n b below)) ∙ d .rest k h;
+    }
+      where
+        other : (q i : ℕ) → i < run → ¬ (i ≡ n) → getD new (q * run + i) 0 ≡ getD is (q * run + i) 0
+        other q i l f = r .other (q * run + i) (λ j b e. f (cell-same run q j i n l below (e ∙ add-comm n (j * run)) .1))
+
+        layer : (q : ℕ) → a * run + n + q * (s * run) ≡ (q * s + a) * run + n
+        layer q = let e : (q * s + a) * run ≡ q * (s * run) + a * run = add-mul (q * s) a run ∙ ap (λ y. y + a * run) (mul-assoc q s run) in omega arith
+
+        go : (q i : ℕ) → q < count → i < run → Dec (i ≡ n) → i < n + 1 → getD new (q * run + i) 0 ≡ getD was (q * run + i) 0 ⊕ getD symbols ((q * s + a) * run + i) 0
+        go q i h m (yes e) l =
+            rw e (ap (λ k. getD new k 0) (add-comm (q * run) n) ∙ r .done q h
+            ∙ ap₂ _⊕_ (ap (λ k. getD is k 0) (add-comm n (q * run)) ∙ d .later q n (omega arith) below) (ap (λ k. getD symbols k 0) (layer q)))
+        go q i h m (no f) l = other q i m f ∙ d .done q i h (omega arith) m
+
+    pub across-end : (n : ℕ) (is : List ℕ) → AcrossAdded s run count a n symbols was is → n ≤ run → run ≤ n → DigitAdded s run count a symbols was is
+    across-end n is d h l = record { same = d .same; done = λ q i b c. d .done q i b (omega arith) c; rest = d .rest }
+
+-- digit after digit
+module _ (s run count : ℕ) (symbols was : List ℕ) where
+  pub digits-none : DigitsAdded s run count 0 symbols was was
+  digits-none = record {
+    same = refl;
+    done = λ q i h l. sym (ap (ops .add (elem (getD was (q * run + i) 0))) (sum-zero ops _) ∙ add-zero ops laws (elem (getD was (q * run + i) 0)));
+    rest = λ k h. refl;
+  }
+
+  pub digits-more : (n : ℕ) (is new : List ℕ) → DigitsAdded s run count n symbols was is → DigitAdded s run count n symbols is new →
+      DigitsAdded s run count (n + 1) symbols was new
+  digits-more n is new d r = record {
+    same = r .same ∙ d .same;
+    done = λ q i h l.
+        ap elem (r .done q i h l) ∙ elem-⊕ _ _
+        ∙ ap (λ y. ops .add y (elem (getD symbols ((q * s + n) * run + i) 0))) (d .done q i h l)
+        ∙ plus-assoc ops laws _ _ _
+        ∙ ap (ops .add (elem (getD was (q * run + i) 0))) (sym (sum-add-one ops n _));
+    rest = λ k h. r .rest k h ∙ d .rest k h;
+  }
+
+  pub digits-end : (n : ℕ) (is : List ℕ) → DigitsAdded s run count n symbols was is → n ≤ s → s ≤ n → DigitsAdded s run count s symbols was is
+  digits-end n is d h l = subst (λ m. DigitsAdded s run count m symbols was is) (omega arith) d
+
+pub in-runs : (s run count a : ℕ) (symbols was is : List ℕ) → InRuns s run count 0 symbols was → length is ≡ length was → a < s → InRuns s run count a symbols is
+in-runs s run count a symbols was is t e h = record { some = t .some; low = t .low; some-runs = t .some-runs; digit-in = h; long = t .long; room = rw e (t .room) }

@@ -1,0 +1,76 @@
+-- The sums over the groups: the runs of a layout, and what adding their digits one after another comes to.
+-- Assumes nothing.
+use mathlib.Core.Path.{_≡_, sym, ap, ap₂, _∙_, subst}
+use mathlib.Core.List.{List}
+use Prim.Native.Nat.{ℕ, suc, _+_, _-_, _*_, _/_, _%_, _^_, min, _<_}
+use native.Mathlib.Nat.{mul-assoc, mul-comm, div-lt-iff-lt-mul, mod-lt, div-add-mod', pow-suc, le-of-lt}
+use native.Mathlib.Omega.{arith}
+use lib.ListN.{getD}
+use lib.Pow.{pow-add}
+use Rattle.algebra.specs.Field.{Ops}
+use Rattle.algebra.specs.Sum.{sum}
+use Rattle.algebra.specs.Layers.{layerOf}
+use Rattle.algebra.proofs.Layers.{power-pos}
+use Rattle.algebra.proofs.Cabinet.{group-sum}
+use Rattle.symbol.specs.Elem.{elem, ops, gf256}
+use Rattle.layout.specs.declared.Layout.{Layout}
+use Rattle.layout.specs.Layout.{digits, layers, groups, layerLimit, Admissible}
+use Rattle.layout.proofs.Facts.{bounds, power-in}
+use Rattle.layout.proofs.Numbers.{groups-are}
+use Rattle.codeword.specs.Codeword.{shapeOf}
+use Rattle.codeword.proofs.Usable.{usable}
+use Rattle.share.specs.Inner.{InRuns, DigitsAdded, sumAt, Summing, Summed}
+
+pub groups-pos : (l : Layout) → Admissible l → 0 < groups l
+groups-pos l a = rw (groups-are l a) (power-pos (digits l) (l .racks - 1) (bounds l a .digits-low))
+
+module _ (l : Layout) (h s run count : ℕ) (a : Admissible l) (host : h < l .racks) (es : s ≡ digits l) (er : run ≡ min (s ^ h) (layerLimit + 1))
+    (ec : count ≡ min (s ^ (l .racks - 1 - h)) (layerLimit + 1)) where
+  run-is : run ≡ digits l ^ h
+  run-is = er ∙ ap (λ b. min (b ^ h) (layerLimit + 1)) es ∙ omega (arith, power-in l a h (le-of-lt host))
+
+  run-pos : 0 < run
+  run-pos = rw run-is (power-pos (digits l) h (bounds l a .digits-low))
+
+  count-is : count ≡ digits l ^ (l .racks - 1 - h)
+  count-is = ec ∙ ap (λ b. min (b ^ (l .racks - 1 - h)) (layerLimit + 1)) es ∙ omega (arith, power-in l a (l .racks - 1 - h) (omega arith))
+
+  -- the runs are all groups
+  count-whole : count * run ≡ groups l
+  count-whole =
+      ap₂ _*_ count-is run-is
+      ∙ sym (pow-add (digits l) (l .racks - 1 - h) h)
+      ∙ (let e : l .racks - 1 - h + h ≡ l .racks - 1 = omega arith in ap (λ n. digits l ^ n) e)
+      ∙ sym (groups-are l a)
+
+  layers-whole : layers l ≡ count * s * run
+  layers-whole =
+      (let e : l .racks ≡ suc (l .racks - 1) = omega arith in ap (λ n. digits l ^ n) e)
+      ∙ pow-suc (digits l) (l .racks - 1)
+      ∙ ap₂ _*_ (sym (groups-are l a) ∙ sym count-whole) (sym es)
+      ∙ mul-assoc count run s ∙ ap (λ n. count * n) (mul-comm run s) ∙ sym (mul-assoc count s run)
+
+  pub runs-of : (symbols sums : List ℕ) → Summing l h symbols sums → InRuns s run count 0 symbols sums
+  runs-of symbols sums t = record {
+    some = run-pos;
+    low = rw run-is (power-in l a h (le-of-lt host));
+    some-runs = rw count-is (power-pos (digits l) (l .racks - 1 - h) (bounds l a .digits-low));
+    digit-in = omega (arith, es, bounds l a .digits-low);
+    long = t .long ∙ layers-whole;
+    room = rw count-whole (t .room);
+  }
+
+  -- number i of run q is group q·s^h + i, and its layers are those added
+  pub summed : (symbols was is : List ℕ) → DigitsAdded s run count s symbols was is → Summed l h symbols was is
+  summed symbols was is d = record { same = d .same; done = at; rest = λ p k. d .rest p (rw count-whole k) }
+    where
+      at : (p : ℕ) → p < groups l → elem (getD is p 0) ≡ ops .add (elem (getD was p 0)) (sumAt l h symbols p)
+      at p k =
+          subst (λ n. elem (getD is n 0) ≡ ops .add (elem (getD was n 0)) (sum ops s (λ b. elem (getD symbols ((p / run * s + b) * run + p % run) 0)))) (div-add-mod' p run)
+          (d .done (p / run) (p % run) (div-lt-iff-lt-mul run-pos .1 (rw count-whole k)) (mod-lt p run-pos))
+          ∙ ap (ops .add (elem (getD was p 0))) layered
+        where
+          layered : sum ops s (λ b. elem (getD symbols ((p / run * s + b) * run + p % run) 0)) ≡ sumAt l h symbols p
+          layered = unfold layerOf in
+              ap₂ (λ n r. sum ops n (λ b. elem (getD symbols ((p / r * n + b) * r + p % r) 0))) es run-is
+              ∙ sym (group-sum (shapeOf gf256 l) (usable l a .fits) h host p (rw (usable l a .groups-are) at k) (λ j. elem (getD symbols j 0)))

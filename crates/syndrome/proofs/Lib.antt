@@ -1,0 +1,5 @@
+pub mod Digits
+pub mod Points
+pub mod Terms
+pub mod Sums
+pub mod Blocks

@@ -1,0 +1,177 @@
+// Checks of a block of layers at a time: the points of a tray in consecutive layers, and the sums of the checks over the trays that are not listed. A row of
+// the sums has a check, and a column a layer of the block. A block is a power of the digits' base, so that within it the digit of a low rack repeats and that
+// of a high rack stays.
+use layout::Layout;
+use layout::power::capped_power;
+use symbol::ladder::product;
+ghost use mathlib.Core.Path.{_≡_};
+ghost use Prim.Native.Nat.{ℕ, _+_, _*_, _/_, _^_, _<_, _≤_};
+ghost use lib.ListN.{length, getD};
+ghost use Rattle.symbol.specs.Elem.{elem, gf256};
+ghost use Rattle.kernel.specs.Runs.{Run};
+ghost use Rattle.layout.specs.Layout.{trays, digits, layers, Admissible};
+ghost use Rattle.codeword.specs.Codeword.{symbolAt, pointAt};
+ghost use Rattle.syndrome.specs.Syndrome.{blockLimit, Block, Listed, Room, stair, TrayPoints, Terms, Later, TrayTerms, KeptTerms, Sums};
+
+// The most layers of a block.
+pub const BLOCK: usize = 256;
+
+// Room for a row of a block for each tray.
+pub const ROOM: usize = layout::TRAYS as usize * BLOCK;
+
+// How many digits run through a block: as many as the limits of a block and of a layer allow.
+pub fn block_digits(l: Layout) -> u32
+    requires { ⌜ Admissible l ⌝ }
+    ensures { λ e. ⌜ (e ≤ l .racks) × (digits l ^ e ≤ blockLimit) ⌝ }
+{
+    let s = layout::digit_count(l) as usize;
+    let b = l.racks;
+    let mut w = 1usize;
+    let mut e = 0u32;
+    while e < b {
+        w = w * s;
+        if BLOCK < w {
+            return e;
+        }
+        e += 1;
+    }
+    e
+}
+
+// So many layers.
+pub fn block_width(l: Layout, e: u32) -> usize
+    requires { ⌜ Admissible l × (e ≤ l .racks) ⌝ }
+    ensures { λ w. ⌜ w ≡ digits l ^ e ⌝ }
+{
+    capped_power(layout::digit_count(l), e) as usize
+}
+
+// s runs of equal symbols, each run z times the one before.
+fn stairs(row: &mut [u8], run: usize, s: usize, first: u8)
+    requires { ⌜ (s * run ≤ length (now row)) × (0 < run) ⌝ }
+    ensures { λ _. ⌜ Run (stair first run) (now (row .entry)) (now (row .exit)) 0 (s * run) ⌝ }
+{
+    let mut a = 0usize;
+    let mut v = first;
+    while a < s {
+        kernel::fill(row, a * run, run, v);
+        v = product(v, 2);
+        a += 1;
+    }
+}
+
+// The points of a tray whose digit runs through the block.
+fn waves(row: &mut [u8], l: Layout, w: usize, first: usize, x: u32, run: usize)
+    requires { ⌜ Block l w first × (x < trays l) × (w ≤ length (now row)) × (run ≡ digits l ^ (x / l .size)) × (run < w) ⌝ }
+    ensures { λ _. ⌜ TrayPoints l w first x (now (row .exit)) ⌝ }
+{
+    let s = layout::digit_count(l) as usize;
+    let p = codeword::point_power(l, x, 0, 1);
+    stairs(row, run, s, p.0);
+    kernel::extend(row, s * run, w / (s * run));
+}
+
+// The points of tray x in the layers of a block.
+pub fn tray_points(row: &mut [u8], l: Layout, w: usize, first: usize, x: u32)
+    requires { ⌜ Block l w first × (x < trays l) × (w ≤ length (now row)) ⌝ }
+    ensures { λ _. ⌜ TrayPoints l w first x (now (row .exit)) ⌝ }
+{
+    let run = block_width(l, x / l.size);
+    if run < w {
+        waves(row, l, w, first, x, run);
+        return;
+    }
+    let p = codeword::point_power(l, x, first as u32, 1);
+    kernel::fill(row, 0, w, p.0);
+}
+
+// Adds the terms of a tray to the checks from 1 on: its symbols times the powers of its points.
+fn later_terms(sums: &mut [u8], w: usize, r: usize, cur: &mut [u8], row: &[u8])
+    requires { ⌜ Room w r (now sums) (now cur) (now row) × (0 < r) ⌝ }
+    ensures { λ _. ⌜ Later w r (now (row .entry)) (now (cur .entry)) (now (sums .entry)) (now (sums .exit)) ⌝ }
+{
+    let mut t = 1usize;
+    while t < r {
+        kernel::accrue(sums, t * w, w, cur, row);
+        t += 1;
+    }
+}
+
+// Adds the terms of a tray to the first r checks.
+pub fn add_terms(sums: &mut [u8], w: usize, r: usize, cur: &mut [u8], row: &[u8])
+    requires { ⌜ Room w r (now sums) (now cur) (now row) ⌝ }
+    ensures { λ _. ⌜ Terms w r (now (row .entry)) (now (cur .entry)) (now (sums .entry)) (now (sums .exit)) ⌝ }
+{
+    if r == 0 {
+        return;
+    }
+    kernel::add(sums, 0, w, cur, 0);
+    later_terms(sums, w, r, cur, row);
+}
+
+// Adds the terms of tray x of a codeword.
+fn tray_terms(
+    sums: &mut [u8],
+    l: Layout,
+    w: usize,
+    first: usize,
+    r: usize,
+    c: &[u8],
+    x: u32,
+    cur: &mut [u8],
+    row: &mut [u8],
+)
+    requires { ⌜ Block l w first × Room w r (now sums) (now cur) (now row) × (length (now c) ≡ trays l * layers l) × (x < trays l) ⌝ }
+    ensures { λ _. ⌜ TrayTerms l w first r (now (c .entry)) x (now (sums .entry)) (now (sums .exit)) ⌝ }
+{
+    let total = layout::layer_count(l) as usize;
+    kernel::copy(cur, 0, w, c, x as usize * total + first);
+    tray_points(row, l, w, first, x);
+    add_terms(sums, w, r, cur, row);
+}
+
+// Adds them unless the tray is listed: its bytes are not looked at.
+fn kept_terms(
+    sums: &mut [u8],
+    l: Layout,
+    w: usize,
+    first: usize,
+    r: usize,
+    c: &[u8],
+    es: &[u32],
+    x: u32,
+    cur: &mut [u8],
+    row: &mut [u8],
+)
+    requires { ⌜ Block l w first × Room w r (now sums) (now cur) (now row) × (length (now c) ≡ trays l * layers l) × Listed l (now es) × (x < trays l) ⌝ }
+    ensures { λ _. ⌜ KeptTerms l w first r (now (c .entry)) (now (es .entry)) x (now (sums .entry)) (now (sums .exit)) ⌝ }
+{
+    if !lists::is_absent(es, x) {
+        return;
+    }
+    tray_terms(sums, l, w, first, r, c, x, cur, row);
+}
+
+// The first r checks of a block's layers, over the trays that are not listed.
+pub fn sum_kept(
+    sums: &mut [u8],
+    l: Layout,
+    w: usize,
+    first: usize,
+    r: usize,
+    c: &[u8],
+    es: &[u32],
+    cur: &mut [u8],
+    row: &mut [u8],
+)
+    requires { ⌜ Block l w first × Room w r (now sums) (now cur) (now row) × (length (now c) ≡ trays l * layers l) × Listed l (now es) ⌝ }
+    ensures { λ _. ⌜ Sums l w first r (now (c .entry)) (now (es .entry)) (trays l) (now (sums .exit)) ⌝ }
+{
+    let n = layout::tray_count(l);
+    kernel::fill(sums, 0, r * w, 0);
+    let mut x = 0u32;
+    while x < n {
+        kept_terms(sums, l, w, first, r, c, es, x, cur, row);
+        x += 1;
+    }
+}

@@ -1,0 +1,106 @@
+-- The first broken check, block after block.
+-- Assumes nothing.
+use mathlib.Core.Path.{_≡_, sym, ap, _∙_, subst}
+use mathlib.Core.List.{List}
+use Prim.Native.Nat.{ℕ, _+_, _-_, _*_, _<_, _≤_}
+use native.Mathlib.Nat.{not-suc-le-zero}
+use native.Mathlib.Decide.{decLt}
+use native.Mathlib.Omega.{arith}
+use mir.Val.{Fits}
+use mir.Syntax.{w8, w32, w64}
+use lib.ListN.{length, getD}
+use Rattle.algebra.specs.Field.{Ops}
+use Rattle.algebra.specs.Sum.{sum, pow}
+use Rattle.algebra.specs.Lagrange.{check}
+use Rattle.algebra.specs.Erasure.{fill}
+use Rattle.algebra.proofs.Sum.{sum-congr}
+use Rattle.symbol.specs.Elem.{elem, ops, gf256}
+use Rattle.symbol.proofs.Elem.{elem-zero, elem-nil}
+use Rattle.kernel.specs.Runs.{cell}
+use Rattle.kernel.proofs.Rows.{row-end, row-before, cell-is}
+use Rattle.layout.specs.declared.Layout.{Layout}
+use Rattle.layout.specs.Layout.{trays, checks, layers, Admissible}
+use Rattle.codeword.specs.Codeword.{symbolAt, pointAt, checkAt}
+use Rattle.codeword.specs.Test.{FirstBad}
+use Rattle.syndrome.specs.Syndrome.{Block, Listed, entryOf, survivorAt, Room, Sums}
+use Rattle.testing.specs.Inner.{FirstIn, FirstBroken}
+
+-- a row and a column lie in the sums
+pub sum-in : (sums : List ℕ) (w r t j : ℕ) → r * w ≤ length sums → t < r → j < w → t * w + j < length sums
+sum-in sums w r t j h ht hj = let e = row-before t r w ht in omega arith
+
+pub row-fits : (sums : List ℕ) (w r t j : ℕ) → r * w ≤ length sums → t < r → j < w → Fits w64 (length sums) → Fits w64 (t * w)
+row-fits sums w r t j h ht hj f = let e = sum-in sums w r t j h ht hj in omega arith
+
+pub sum-fits : (sums : List ℕ) (w r t j : ℕ) → r * w ≤ length sums → t < r → j < w → Fits w64 (length sums) → Fits w64 (t * w + j)
+sum-fits sums w r t j h ht hj f = let e = sum-in sums w r t j h ht hj in omega arith
+
+pub sums-in : (w r : ℕ) (sums new cur row : List ℕ) → Room w r sums cur row → length new ≡ length sums → r * w ≤ length new
+sums-in w r sums new cur row g e = rw e (g .sums-long)
+
+-- an empty list leaves no tray out
+pub none-listed : (l : Layout) (es : List ℕ) → length es ≡ 0 → Listed l es
+none-listed l es e = record {
+  places = record { apart = λ j k hj hk q. absurd (omega arith); inside = λ k h. absurd (omega arith) };
+  few = omega arith;
+}
+
+survivor-all : (l : Layout) (es c : List ℕ) → length es ≡ 0 → (j x : ℕ) → survivorAt l es c j x ≡ symbolAt gf256 l c x j
+unfolding survivorAt fill
+survivor-all l es c e j x = ap (λ n. fill (entryOf es) (λ k. ops .zero) n (λ y. symbolAt gf256 l c y j) x) e
+
+-- so the sums are the checks
+sums-are : (l : Layout) (w first r : ℕ) (c es sums : List ℕ) → length es ≡ 0 → Sums l w first r c es (trays l) sums → (t j : ℕ) → t < r → j < w →
+    cell w sums t j ≡ checkAt gf256 l c (first + j) t
+unfolding checkAt check
+sums-are l w first r c es sums e s t j ht hj =
+    s .at t j ht hj ∙ sum-congr ops (trays l) _ _ (λ x h. ap (ops .mul (pow ops (pointAt gf256 l (first + j) x) t)) (survivor-all l es c e (first + j) x))
+
+pub first-of : (l : Layout) (w first r : ℕ) (c es sums : List ℕ) (j t : ℕ) → length es ≡ 0 → r ≡ checks l → Sums l w first r c es (trays l) sums →
+    ((i : ℕ) → Fits w8 (getD sums i 0)) → FirstIn w r sums j t → FirstBroken l w first c j t
+first-of l w first r c es sums j t e er s bytes f = record {
+  column-in = f .column-in;
+  earlier = λ i h v b. zero i v (let k = f .column-in in omega arith) (omega arith) (f .earlier i h v (omega arith));
+  check-in = λ h. let k = f .check-in h in omega arith;
+  broken = λ h q. f .broken h (elem-nil (bytes (t * w + j) .fits) (cell-is w sums t j ∙ sums-are l w first r c es sums e s t j (f .check-in h) h ∙ q));
+  below = λ h v b. zero j v h (let k = f .check-in h in omega arith) (f .below h v b);
+}
+  where
+    zero : (i v : ℕ) → i < w → v < r → getD sums (v * w + i) 0 ≡ 0 → checkAt gf256 l c (first + i) v ≡ ops .zero
+    zero i v hi hv q = sym (sums-are l w first r c es sums e s v i hv hi) ∙ sym (cell-is w sums v i) ∙ ap elem q ∙ elem-zero
+
+-- ---- block after block
+module _ (l : Layout) (c : List ℕ) where
+  abbrev pub SoundTo : ℕ → Type 0
+  SoundTo n = (i : ℕ) → i < n → (v : ℕ) → v < checks l → checkAt gf256 l c i v ≡ ops .zero
+
+  pub sound-none : (w : ℕ) → SoundTo (0 * w)
+  sound-none w i h = absurd (omega arith)
+
+  pub sound-more : (w q j t : ℕ) → SoundTo (q * w) → FirstBroken l w (q * w) c j t → w ≤ j → SoundTo ((q + 1) * w)
+  sound-more w q j t s f n i h v b = go (decLt i (q * w))
+    where
+      go : Dec (i < q * w) → checkAt gf256 l c i v ≡ ops .zero
+      go (yes k) = s i k v b
+      go (no k) =
+          let e = row-end q w in
+          let p : q * w + (i - q * w) ≡ i = omega arith in
+          subst (λ m. checkAt gf256 l c m v ≡ ops .zero) p (f .earlier (i - q * w) (omega arith) v b)
+
+  pub sound-end : (w q count : ℕ) → SoundTo (q * w) → q ≤ count → count ≤ q → count * w ≡ layers l → SoundTo (layers l)
+  sound-end w q count s h k e i b = let f : q ≡ count = omega arith in s i (rw (f, e) b)
+
+  pub first-bad : (w q j t : ℕ) → SoundTo (q * w) → FirstBroken l w (q * w) c j t → j < w → q * w + w ≤ layers l → FirstBad gf256 l c (q * w + j) t
+  first-bad w q j t s f h inside = record {
+    layer-in = omega arith;
+    check-in = f .check-in h;
+    broken = f .broken h;
+    earlier-layers = λ i b v k. go i b v k (decLt i (q * w));
+    earlier-checks = f .below h;
+  }
+    where
+      go : (i : ℕ) → i < q * w + j → (v : ℕ) → v < checks l → Dec (i < q * w) → checkAt gf256 l c i v ≡ ops .zero
+      go i b v k (yes d) = s i d v k
+      go i b v k (no d) =
+          let p : q * w + (i - q * w) ≡ i = omega arith in
+          subst (λ m. checkAt gf256 l c m v ≡ ops .zero) p (f .earlier (i - q * w) (omega arith) v k)

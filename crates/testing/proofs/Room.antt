@@ -1,0 +1,70 @@
+-- Room to work in.
+-- Assumes nothing.
+use mathlib.Core.Path.{_≡_, refl}
+use mathlib.Core.List.{List}
+use Prim.Native.Nat.{ℕ, _+_, _*_, _/_, _^_, _<_, _≤_}
+use native.Mathlib.Nat.{mul-le-mul, div-le-self}
+use native.Mathlib.Omega.{arith}
+use mir.Val.{Fits}
+use mir.Syntax.{w32, w64}
+use lib.ListN.{length, replicate, length-replicate}
+use Rattle.layout.specs.declared.Layout.{Layout}
+use Rattle.layout.specs.Layout.{checks, digits, layers, trayLimit, Admissible}
+use Rattle.codeword.specs.Inner.{Scannable}
+use Rattle.syndrome.specs.Syndrome.{blockLimit, Block, Room}
+use Rattle.testing.specs.Inner.{FirstBroken}
+use Rattle.syndrome.proofs.Blocks.{start-fits, width-pos, count-whole, block-of}
+
+-- the arrays
+abbrev pub roomOf : List ℕ
+roomOf = replicate (trayLimit * blockLimit) 0
+
+abbrev pub rowOf : List ℕ
+rowOf = replicate blockLimit 0
+
+pub room : (l : Layout) (e : ℕ) → Admissible l → digits l ^ e ≤ blockLimit → Room (digits l ^ e) (checks l) roomOf rowOf rowOf
+room l e a h = record {
+  sums-long = rw (length-replicate {A = ℕ} (trayLimit * blockLimit) 0) (mul-le-mul few h);
+  cur-long = rw (length-replicate {A = ℕ} blockLimit 0) h;
+  row-long = rw (length-replicate {A = ℕ} blockLimit 0) h;
+}
+  where
+    few : checks l ≤ trayLimit
+    few = let b = a .trays-high in omega arith
+
+pub room-here : (l : Layout) (e w r : ℕ) (sums₀ cur₀ row₀ sums cur row : List ℕ) → w ≡ digits l ^ e → r ≡ checks l → Room (digits l ^ e) (checks l) sums₀ cur₀ row₀ →
+    length sums ≡ length sums₀ → length cur ≡ length cur₀ → length row ≡ length row₀ → Room w r sums cur row
+room-here l e w r sums₀ cur₀ row₀ sums cur row ew er g a b d = record {
+  sums-long = rw (a, ew, er) (g .sums-long);
+  cur-long = rw (b, ew) (g .cur-long);
+  row-long = rw (d, ew) (g .row-long);
+}
+
+pub whole-word : (l : Layout) (total : ℕ) (c : List ℕ) → Scannable l total c → Scannable l (layers l) c
+whole-word l total c p = record { adm = p .adm; total-is = refl; long = p .long }
+
+-- ---- the blocks
+module _ (l : Layout) (e w total : ℕ) (c : List ℕ) (h : e ≤ l .racks) (p : Scannable l total c) (ew : w ≡ digits l ^ e) where
+  pub width-some : 0 < w
+  width-some = width-pos l e w total (p .adm) h ew (p .total-is)
+
+  pub block-at : (q : ℕ) → q < total / w → Block l w (q * w)
+  block-at = block-of l e w total (p .adm) h ew (p .total-is)
+
+  pub first-fits : (q : ℕ) → q < total / w → Fits w64 (q * w)
+  first-fits q b = start-fits l w (q * w) (block-at q b)
+
+  pub layer-fits : (q j : ℕ) → q < total / w → j < w → Fits w64 (q * w + j)
+  layer-fits q j b k = let i = block-at q b .inside in let a = p .adm in omega arith
+
+  pub layer-small : (q j : ℕ) → q < total / w → j < w → Fits w32 (q * w + j)
+  layer-small q j b k = let i = block-at q b .inside in let a = p .adm in omega arith
+
+  pub next-fits : (q : ℕ) → q < total / w → Fits w64 (q + 1)
+  next-fits q b = let d = div-le-self total w in let a = p .adm in let t = p .total-is in omega arith
+
+  pub count-all : total / w * w ≡ layers l
+  count-all = count-whole l e w total (p .adm) h ew (p .total-is)
+
+  pub check-small : (first j t : ℕ) → FirstBroken l w first c j t → j < w → Fits w32 t
+  check-small first j t f k = let i = f .check-in k in let a = p .adm in omega arith
