@@ -122,4 +122,4 @@ module _ (s run count : ℕ) (symbols was : List ℕ) where
   digits-end n is d h l = subst (λ m. DigitsAdded s run count m symbols was is) (omega arith) d
 
 pub in-runs : (s run count a : ℕ) (symbols was is : List ℕ) → InRuns s run count 0 symbols was → length is ≡ length was → a < s → InRuns s run count a symbols is
-in-runs s run count a symbols was is t e h = record { some = t .some; low = t .low; some-runs = t .some-runs; digit-in = h; long = t .long; room = rw e (t .room) }
+in-runs s run count a symbols was is t e h = record { some = t .some; some-runs = t .some-runs; digit-in = h; long = t .long; room = rw e (t .room) }

@@ -53,7 +53,6 @@ module _ (l : Layout) (h s run count : ℕ) (a : Admissible l) (host : h < l .ra
   pub runs-of : (symbols sums : List ℕ) → Summing l h symbols sums → InRuns s run count 0 symbols sums
   runs-of symbols sums t = record {
     some = run-pos;
-    low = rw run-is (power-in l a h (le-of-lt host));
     some-runs = rw count-is (power-pos (digits l) (l .racks - 1 - h) (bounds l a .digits-low));
     digit-in = omega (arith, es, bounds l a .digits-low);
     long = t .long ∙ layers-whole;

@@ -12,7 +12,7 @@ use Rattle.algebra.specs.Cabinet.{groupSum}
 use Rattle.symbol.specs.Arithmetic.{_⊕_}
 use Rattle.symbol.specs.Elem.{Elem, elem, ops, gf256}
 use Rattle.layout.specs.declared.Layout.{Layout}
-use Rattle.layout.specs.Layout.{layers, groups, layerLimit, Admissible}
+use Rattle.layout.specs.Layout.{layers, groups, Admissible}
 use Rattle.codeword.specs.Codeword.{shapeOf}
 use Rattle.share.specs.Many.{manyGrounds, partAt}
 
@@ -24,7 +24,6 @@ grounds l e lent host helper given room =
 -- `count` runs of the sums, and for each of them s runs of the tray, one for each digit a
 pub record InRuns (s run count a : ℕ) (symbols sums : List ℕ) : Type 0 where
   pub some : 0 < run
-  pub low : run ≤ layerLimit
   pub some-runs : 0 < count
   pub digit-in : a < s
   pub long : length symbols ≡ count * s * run

@@ -16,6 +16,9 @@ ghost use Rattle.share.specs.Share.{shareRefusal, shareBuffer, addRefusa
 ghost use Rattle.share.specs.Many.{sharesOf, fedMany, manyRefusal, manyBuffer, addManyRefusal, addManyBuffer};
 ghost use Rattle.share.specs.Inner.{grounds, InRuns, DigitAdded, DigitsAdded, Summing, sumAt, Summed, Added, Weighing, Feeding, Gathering};
 
+// Runs shorter than this are added across.
+const SHORT: usize = 4;
+
 // Adds a tray's symbols with digit a, run after run: in the tray the runs of the s digits take turns, in the sums each run follows the one before.
 fn add_runs(s: usize, run: usize, count: usize, a: usize, symbols: &[u8], sums: &mut [u8])
     requires { ⌜ InRuns s run count a (now symbols) (now sums) ⌝ }
@@ -40,12 +43,12 @@ fn add_across(s: usize, run: usize, count: usize, a: usize, symbols: &[u8], sums
     }
 }
 
-// The same: across where the runs are short and many.
+// The same: across where the runs are short.
 fn add_digit(s: usize, run: usize, count: usize, a: usize, symbols: &[u8], sums: &mut [u8])
     requires { ⌜ InRuns s run count a (now symbols) (now sums) ⌝ }
     ensures { λ _. ⌜ DigitAdded s run count a (now (symbols .entry)) (now (sums .entry)) (now (sums .exit)) ⌝ }
 {
-    if run * run <= count {
+    if run < SHORT {
         add_across(s, run, count, a, symbols, sums);
         return;
     }
