@@ -93,11 +93,11 @@ module _ (l : Layout) (codeword spare : List ℕ) (lost done tray first end x y 
       given : part ≡ partGiven l codeword spare lost done tray first end
       given = p ∙ ap₂ (λ a b. partGiven l codeword spare a done b first end) xs ys
 
-      pub part-read : (r : PartNumbers) → r ≡ partNumbers l lost tray first (length part) → PartShown l codeword spare lost done tray first end r
+      pub part-read : (m : ℕ) → m ≡ layers l → (r : PartNumbers) → r ≡ partNumbers lost tray first (tray * m + first) (length part) → PartShown l codeword spare lost done tray first end r
       unfolding partGiven run
-      part-read r s =
+      part-read m k r s =
           let q = eq-eqb (partRefusal l (length codeword) (length spare) lost done tray first end) 0 none in
-          subst (PartShown l codeword spare lost done tray first end) (sym s) (record {
+          subst (PartShown l codeword spare lost done tray first end) (sym (s ∙ ap (λ i. partNumbers lost tray first (tray * i + first) (length part)) k)) (record {
             refusal-is = sym none;
             source-is = simp q;
             offset-is = simp q;

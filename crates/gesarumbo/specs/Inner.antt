@@ -1,13 +1,11 @@
 -- What an inner function gives. Nothing here has to be believed.
 -- Assumes nothing.
 use mathlib.Core.Bool.{cond}
-use Prim.Native.Nat.{ℕ, _+_, _*_}
+use Prim.Native.Nat.{ℕ}
 use lib.Dec.{eqb}
-use Rattle.layout.specs.declared.Layout.{Layout}
-use Rattle.layout.specs.Layout.{layers}
 use Rattle.gesarumbo.specs.declared.numbers.PartNumbers.{PartNumbers}
 
--- the numbers of a part of n symbols that was read
-abbrev pub partNumbers : Layout → ℕ → ℕ → ℕ → ℕ → PartNumbers
-partNumbers l lost tray first n =
-    record { refusal = 0; source = cond (eqb tray lost) 2 1; offset = cond (eqb tray lost) first (tray * layers l + first); length = n }
+-- the numbers of a part of n symbols that was read, which begins at `start` if it lies in the codeword
+abbrev pub partNumbers : ℕ → ℕ → ℕ → ℕ → ℕ → PartNumbers
+partNumbers lost tray first start n =
+    record { refusal = 0; source = cond (eqb tray lost) 2 1; offset = cond (eqb tray lost) first start; length = n }

@@ -183,7 +183,8 @@ pub extern "C" fn gesarumbo_read_part<'a>(
             length: 0,
         };
     }
-    numbers::part_numbers(l, lost, tray, first, length)
+    let start = tray as usize * layout::layer_count(l) as usize + first as usize;
+    numbers::part_numbers(lost, tray, first, start, length)
 }
 
 #[no_mangle]

@@ -1,6 +1,5 @@
 // The structs that cross to C, as in c/gesarumbo.h, and the numbers that they have for an answer.
 use codeword::Tested;
-use layout::Layout;
 use layout::Measured;
 use margin::LossMargin;
 use repair::Repaired;
@@ -8,8 +7,6 @@ use scrub::Report;
 use scrub::Scrubbed;
 use scrub::Walk;
 ghost use mathlib.Core.Path.{_≡_};
-ghost use Prim.Native.Nat.{_+_, _*_, _≤_};
-ghost use Rattle.layout.specs.Layout.{layers, trayLimit, layerLimit, Admissible};
 ghost use Rattle.gesarumbo.specs.Boundary.{measureNumbers, testNumbers, marginNumbers, repairNumbers, scrubNumbers};
 ghost use Rattle.gesarumbo.specs.Inner.{partNumbers};
 
@@ -191,10 +188,9 @@ pub fn scrub_numbers(answer: Scrubbed) -> ScrubNumbers
     }
 }
 
-// The numbers of a part that was read: from the spare for the lost tray, from the codeword for any other.
-pub fn part_numbers(l: Layout, lost: u32, tray: u32, first: u32, length: usize) -> PartNumbers
-    requires { ⌜ Admissible l × (tray * layers l + first ≤ trayLimit * layerLimit) ⌝ }
-    ensures { λ r. ⌜ r ≡ partNumbers l lost tray first length ⌝ }
+// The numbers of a part that was read: from the spare for the lost tray, from the codeword, where it begins at `start`, for any other.
+pub fn part_numbers(lost: u32, tray: u32, first: u32, start: usize, length: usize) -> PartNumbers
+    ensures { λ r. ⌜ r ≡ partNumbers lost tray first start length ⌝ }
 {
     if tray == lost {
         return PartNumbers {
@@ -207,7 +203,7 @@ pub fn part_numbers(l: Layout, lost: u32, tray: u32, first: u32, length: usize) 
     PartNumbers {
         refusal: 0,
         source: 1,
-        offset: tray as usize * layout::layer_count(l) as usize + first as usize,
+        offset: start,
         length: length,
     }
 }

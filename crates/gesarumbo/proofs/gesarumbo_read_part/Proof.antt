@@ -28,8 +28,12 @@ gesarumbo-read-part-spec =
     let s = c .before .before .before .before .before .before .before .args in
     part-refused (s .l) (s .codeword .now) (s .spare .now) (s .lost) (s .done) (s .tray) (s .first) (s .end) _ _ _ (c .before .before .before .before .of .ensures) (c .before .before .before .of2 .ensures)
     (c .before .read-part .ensures .1) (c .if1 .taken))
-    (λ c κs. let g = given c in (g .readable .adm, omega (arith, g .readable .rises, run-high g refl refl)))
+    (λ c κs. given c .readable .adm)
+    (λ c. search needs)
+    (λ c. let g = given (c .before) in record { fits = omega (arith, run-high g refl (c .layer-count .ensures)) })
+    (λ c. let g = given (c .before) in record { fits = omega (arith, g .readable .rises, run-high g refl (c .layer-count .ensures)) })
+    (λ c κs. search needs)
     (λ c.
-    let s = c .before .before .before .before .before .before .before .before .args in
-    part-read (s .l) (s .codeword .now) (s .spare .now) (s .lost) (s .done) (s .tray) (s .first) (s .end) _ _ _ (c .before .before .before .before .before .of .ensures) (c .before .before .before .before .of2 .ensures)
-    (c .before .before .read-part .ensures .1) (c .before .if1 .left) _ (c .before .before .read-part .ensures .0) _ (c .part-numbers .ensures)))
+    let s = c .before .before .before .before .before .before .before .before .before .args in
+    part-read (s .l) (s .codeword .now) (s .spare .now) (s .lost) (s .done) (s .tray) (s .first) (s .end) _ _ _ (c .before .before .before .before .before .before .of .ensures) (c .before .before .before .before .before .of2 .ensures)
+    (c .before .before .before .read-part .ensures .1) (c .before .before .if1 .left) _ (c .before .before .before .read-part .ensures .0) _ (c .before .layer-count .ensures) _ (c .part-numbers .ensures)))

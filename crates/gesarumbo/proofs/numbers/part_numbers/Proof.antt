@@ -1,5 +1,3 @@
-use native.Mathlib.Omega.{arith}
-use mathlib.Core.Path.{sym}
 use borrow.Author.Tests.{eq-eqb, ne-eqb}
 use borrow.Author.Needs.{needs}
 use Rattle.gesarumbo.proofs.numbers.part_numbers.Statement.{statement}
@@ -9,8 +7,4 @@ pub part-numbers-spec : {M : Type 1} → statement M
 part-numbers-spec =
     tie.close (tie.spec
     (λ c. let a = c .before .args in simp (eq-eqb (a .tray) (a .lost) (c .if1 .taken)))
-    (λ c κs. search needs)
-    (λ c. search needs)
-    (λ c. record { fits = rw (c .layer-count .ensures) (omega (arith, c .before .before .pre .1)) })
-    (λ c. record { fits = rw (c .layer-count .ensures) (omega (arith, c .before .before .pre .1)) })
-    (λ c. let a = c .before .before .args in simp (ne-eqb (a .tray) (a .lost) (c .before .if1 .left), sym (c .layer-count .ensures))))
+    (λ c. let a = c .before .args in simp (ne-eqb (a .tray) (a .lost) (c .if1 .left))))
