@@ -3,7 +3,7 @@
 use crate::answer::Answer;
 use crate::cabinet::Cabinet;
 use crate::calls::repair::budget;
-use crate::calls::{share_many, Call};
+use crate::calls::{many_shares, Call};
 use crate::inputs::{Inputs, Value};
 use crate::pair;
 use crate::random::Random;
@@ -45,7 +45,7 @@ impl Given {
         for &helper in &helpers {
             let rack = &codeword[cabinet.rack(helper)];
             let noise = random.bytes(lost.len() * cabinet.numbers.groups);
-            let inputs = share_many::inputs(cabinet, lost.len(), host, helper, rack, noise);
+            let inputs = many_shares(cabinet, lost.len(), host, helper, rack, noise);
             let (call, inputs) = pair::SHARE.either(random, inputs);
             shares.extend(answer(call, &inputs).buffer());
         }

@@ -19,7 +19,7 @@ pub mod write_image;
 
 use crate::answer::Answer;
 use crate::cabinet::Cabinet;
-use crate::inputs::{Inputs, Kind};
+use crate::inputs::{Inputs, Kind, Value};
 use crate::random::Random;
 use crate::source::Source;
 
@@ -57,6 +57,45 @@ pub const CALLS: [&Call; 16] = [
     &walk_reset::CALL,
     &walk::CALL,
 ];
+
+/// The inputs of a call for one share: layout, host rack, the rack or tray that gives, its bytes and
+/// the share.
+const ONE_SHARE: &[Kind] = &[
+    Kind::Layout,
+    Kind::Small,
+    Kind::Small,
+    Kind::Bytes,
+    Kind::Bytes,
+];
+
+/// Those of a call for several: the number of lost trays comes second.
+const MANY_SHARES: &[Kind] = &[
+    Kind::Layout,
+    Kind::Small,
+    Kind::Small,
+    Kind::Small,
+    Kind::Bytes,
+    Kind::Bytes,
+];
+
+/// The inputs of a call for several shares.
+pub fn many_shares(
+    cabinet: &Cabinet,
+    count: usize,
+    host: u32,
+    giver: u32,
+    bytes: &[u8],
+    shares: Vec<u8>,
+) -> Inputs {
+    Inputs(vec![
+        Value::Layout(cabinet.layout),
+        Value::Small(count as u32),
+        Value::Small(host),
+        Value::Small(giver),
+        Value::Bytes(bytes.to_vec()),
+        Value::Bytes(shares),
+    ])
+}
 
 /// A number of lost trays: mostly one that a repair can do, at times none or one
 /// more than that.

@@ -1,22 +1,16 @@
 //! A helper's share for one lost tray.
 
-use super::{library_layout, reference_layout, share_many, Call};
+use super::{library_layout, reference_layout, share_many, Call, ONE_SHARE};
 use crate::answer::Answer;
 use crate::cabinet::Cabinet;
-use crate::inputs::{Inputs, Kind};
+use crate::inputs::Inputs;
 use crate::lent::Lent;
 use crate::pair::for_one;
 use crate::source::Source;
 
 pub const CALL: Call = Call {
     name: "share",
-    shape: &[
-        Kind::Layout,
-        Kind::Small,
-        Kind::Small,
-        Kind::Bytes,
-        Kind::Bytes,
-    ],
+    shape: ONE_SHARE,
     grounds: &[1, 2, 3, 6],
     example,
     library,

@@ -1,46 +1,21 @@
 //! One tray's part, added to its rack's shares for several lost trays.
 
-use super::{any_lost_count, library_layout, reference_layout, Call};
+use super::{any_lost_count, library_layout, many_shares, reference_layout, Call, MANY_SHARES};
 use crate::answer::Answer;
 use crate::cabinet::Cabinet;
-use crate::inputs::{Inputs, Kind, Value};
+use crate::inputs::Inputs;
 use crate::lent::Lent;
 use crate::random::Random;
 use crate::source::Source;
 
 pub const CALL: Call = Call {
     name: "share_add_e",
-    shape: &[
-        Kind::Layout,
-        Kind::Small,
-        Kind::Small,
-        Kind::Small,
-        Kind::Bytes,
-        Kind::Bytes,
-    ],
+    shape: MANY_SHARES,
     grounds: &[1, 2, 3, 12, 6],
     example,
     library,
     reference,
 };
-
-pub fn inputs(
-    cabinet: &Cabinet,
-    count: usize,
-    host: u32,
-    tray: u32,
-    symbols: &[u8],
-    share: Vec<u8>,
-) -> Inputs {
-    Inputs(vec![
-        Value::Layout(cabinet.layout),
-        Value::Small(count as u32),
-        Value::Small(host),
-        Value::Small(tray),
-        Value::Bytes(symbols.to_vec()),
-        Value::Bytes(share),
-    ])
-}
 
 /// Any bytes are a tray's, and any are shares as far as they have been built up.
 pub fn draw(random: &mut Random, cabinet: &Cabinet, count: usize) -> Inputs {
@@ -49,7 +24,7 @@ pub fn draw(random: &mut Random, cabinet: &Cabinet, count: usize) -> Inputs {
     let tray = random.pick(&cabinet.trays_of(helper));
     let symbols = random.bytes(cabinet.numbers.layers);
     let share = random.bytes(count * cabinet.numbers.groups);
-    inputs(cabinet, count, host, tray, &symbols, share)
+    many_shares(cabinet, count, host, tray, &symbols, share)
 }
 
 fn example(source: &mut Source, cabinet: &Cabinet) -> Inputs {

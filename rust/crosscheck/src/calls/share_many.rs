@@ -1,46 +1,21 @@
 //! A helper's shares for several lost trays.
 
-use super::{any_lost_count, library_layout, reference_layout, Call};
+use super::{any_lost_count, library_layout, many_shares, reference_layout, Call, MANY_SHARES};
 use crate::answer::Answer;
 use crate::cabinet::Cabinet;
-use crate::inputs::{Inputs, Kind, Value};
+use crate::inputs::Inputs;
 use crate::lent::Lent;
 use crate::random::Random;
 use crate::source::Source;
 
 pub const CALL: Call = Call {
     name: "share_e",
-    shape: &[
-        Kind::Layout,
-        Kind::Small,
-        Kind::Small,
-        Kind::Small,
-        Kind::Bytes,
-        Kind::Bytes,
-    ],
+    shape: MANY_SHARES,
     grounds: &[1, 2, 3, 12, 6],
     example,
     library,
     reference,
 };
-
-pub fn inputs(
-    cabinet: &Cabinet,
-    count: usize,
-    host: u32,
-    helper: u32,
-    rack: &[u8],
-    share: Vec<u8>,
-) -> Inputs {
-    Inputs(vec![
-        Value::Layout(cabinet.layout),
-        Value::Small(count as u32),
-        Value::Small(host),
-        Value::Small(helper),
-        Value::Bytes(rack.to_vec()),
-        Value::Bytes(share),
-    ])
-}
 
 /// Any bytes are a helper's: a codeword's are not needed.
 pub fn draw(random: &mut Random, cabinet: &Cabinet, count: usize) -> Inputs {
@@ -48,7 +23,7 @@ pub fn draw(random: &mut Random, cabinet: &Cabinet, count: usize) -> Inputs {
     let helper = random.pick(&cabinet.other_racks(host));
     let rack = random.bytes(cabinet.rack(0).len());
     let share = random.bytes(count * cabinet.numbers.groups);
-    inputs(cabinet, count, host, helper, &rack, share)
+    many_shares(cabinet, count, host, helper, &rack, share)
 }
 
 fn example(source: &mut Source, cabinet: &Cabinet) -> Inputs {

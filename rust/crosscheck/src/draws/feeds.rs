@@ -2,7 +2,7 @@
 //! and with refused calls between, and the shares must be those of the whole rack.
 
 use super::Draw;
-use crate::calls::{share_add_many, share_many};
+use crate::calls::many_shares;
 use crate::crosscheck::Crosscheck;
 use crate::inputs::Value;
 use crate::pair;
@@ -44,13 +44,13 @@ fn case(all: &mut Crosscheck) {
         let place = left.swap_remove(random.below(left.len()));
         let symbols = &rack[cabinet.tray(place)];
         let tray = helper * cabinet.layout[1] + place;
-        let inputs = share_add_many::inputs(&cabinet, count, host, tray, symbols, held);
+        let inputs = many_shares(&cabinet, count, host, tray, symbols, held);
         let (call, inputs) = pair::SHARE_ADD.either(random, inputs);
         held = all.run.compare(call, &inputs).buffer().to_vec();
     }
     let random = &mut all.source.random;
     let noise = random.bytes(length);
-    let inputs = share_many::inputs(&cabinet, count, host, helper, &rack, noise);
+    let inputs = many_shares(&cabinet, count, host, helper, &rack, noise);
     let (call, inputs) = pair::SHARE.either(random, inputs);
     let whole = all.run.compare(call, &inputs);
     all.run.claim(held == whole.buffer(), || {
