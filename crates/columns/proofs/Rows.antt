@@ -208,8 +208,8 @@ solved-more w v run m i sums points coefs was is y s f g = record { at = λ k j 
         ∙ sum-congr ops m _ (λ t. ops .mul (cell w sums t j) (coeff ops (basis ops (column v points (j / run % v)) i m) t)) (λ t b. ap (ops .mul (cell w sums t j)) (f .at t (j / run % v) b (inside j)))
         ∙ ap (solve ops (column v points (j / run % v)) m (λ t. cell w sums t j)) (sym q)
 
-pub solved-end : (w v run m i : ℕ) (sums points found : List ℕ) → Solved w v run m sums points found i → i ≤ m → m ≤ i → Solved w v run m sums points found m
-solved-end w v run m i sums points found s h l = let e : i ≡ m = omega arith in subst (λ k. Solved w v run m sums points found k) e s
+pub solved-end : (w v run m n i : ℕ) (sums points found : List ℕ) → Solved w v run m sums points found i → i ≤ n → n ≤ i → Solved w v run m sums points found n
+solved-end w v run m n i sums points found s h l = let e : i ≡ n = omega arith in subst (λ k. Solved w v run m sums points found k) e s
 
 pub systems-next : (w v run turns m : ℕ) (was is sums before after old row : List ℕ) → Systems w v run turns m was sums before old → length is ≡ length was → length after ≡ length before →
     length row ≡ length old → Systems w v run turns m is sums after row

@@ -190,8 +190,34 @@ fn combine(
     }
 }
 
-// The unknowns of every system, a row for each. `coefs` is room for a row of columns for each point, `row` for a row of places, and `table` has the inverses
-// of all symbols.
+// The first n unknowns of every system, a row for each. `coefs` is room for a row of columns for each point, `row` for a row of places, and `table` has the
+// inverses of all symbols.
+pub fn solve_first(
+    found: &mut [u8],
+    w: usize,
+    v: usize,
+    run: usize,
+    turns: usize,
+    m: usize,
+    n: usize,
+    sums: &[u8],
+    points: &[u8],
+    coefs: &mut [u8],
+    row: &mut [u8],
+    table: &[u8],
+)
+    requires { ⌜ Systems w v run turns m (now found) (now sums) (now coefs) (now row) × (m * v ≤ length (now points)) × Inverses (now table) × (n ≤ m) ⌝ }
+    ensures { λ _. ⌜ Solved w v run m (now (sums .entry)) (now (points .entry)) (now (found .exit)) n ⌝ }
+{
+    let mut i = 0usize;
+    while i < n {
+        coefficients(coefs, row, v, m, i, points, table);
+        combine(found, w, v, run, turns, m, i, sums, coefs, row);
+        i += 1;
+    }
+}
+
+// All of them.
 pub fn solve(
     found: &mut [u8],
     w: usize,
@@ -208,10 +234,18 @@ pub fn solve(
     requires { ⌜ Systems w v run turns m (now found) (now sums) (now coefs) (now row) × (m * v ≤ length (now points)) × Inverses (now table) ⌝ }
     ensures { λ _. ⌜ Solved w v run m (now (sums .entry)) (now (points .entry)) (now (found .exit)) m ⌝ }
 {
-    let mut i = 0usize;
-    while i < m {
-        coefficients(coefs, row, v, m, i, points, table);
-        combine(found, w, v, run, turns, m, i, sums, coefs, row);
-        i += 1;
-    }
+    solve_first(
+        found,
+        w,
+        v,
+        run,
+        turns,
+        m,
+        m,
+        sums,
+        points,
+        coefs,
+        row,
+        table,
+    );
 }

@@ -1,117 +1,166 @@
--- The layers of a group, written symbol by symbol and one after another, and that the rule fixes them so.
+-- The systems of a block solved and written, digit after digit, and that the rule fixes the block so.
 -- Assumes nothing.
-use mathlib.Core.Path.{_≡_, refl, sym, ap, ap₂, _∙_, subst}
+use mathlib.Core.Path.{_≡_, refl, sym, ap, _∙_, subst}
 use mathlib.Core.List.{List}
-use Prim.Native.Nat.{ℕ, _+_, _*_, _/_, _<_}
-use native.Mathlib.Omega.{arith}
+use Prim.Native.Nat.{ℕ, _+_, _-_, _*_, _/_, _%_, _<_, _≤_}
+use native.Mathlib.Nat.{mod-one, mul-one, one-mul, not-suc-le-zero}
 use native.Mathlib.Decide.{ℕ-discrete}
-use lib.Arith.{digits-div, digits-mod}
-use lib.ListN.{length, getD, set, length-set}
-use lib.Seq.{getD-set-same, getD-set-other}
-use Rattle.lists.proofs.Numbers.{cell-in, cell-same}
+use native.Mathlib.Omega.{arith}
+use lib.ListN.{length, getD}
+use Rattle.lists.proofs.Numbers.{cell-in}
+use Rattle.algebra.specs.Coding.{InRange}
 use Rattle.algebra.specs.Lagrange.{solve}
-use Rattle.algebra.specs.Erasure.{erased}
+use Rattle.algebra.specs.Erasure.{rest, erased}
 use Rattle.algebra.specs.Points.{place}
-use Rattle.algebra.specs.Layers.{digit, groupOf, layerOf}
+use Rattle.algebra.specs.Layers.{digit, layerOf}
 use Rattle.algebra.proofs.Lagrange.{solve-congr}
 use Rattle.algebra.proofs.Erasure.{erased-congr}
 use Rattle.algebra.proofs.Layers.{digit-below, layer-digit, layer-group, layer-back}
-use Rattle.symbol.specs.Elem.{Elem, elem, ops, gf256}
+use Rattle.symbol.specs.Elem.{Elem, elem, ops, coding, gf256}
+use Rattle.symbol.proofs.Elem.{val-elem}
+use Rattle.kernel.specs.Runs.{cell}
+use Rattle.kernel.proofs.Rows.{cell-is}
+use Rattle.columns.specs.Columns.{column, Systems, Solved}
 use Rattle.layout.specs.declared.Layout.{Layout}
 use Rattle.layout.specs.Layout.{digits, layers, groups, Admissible}
 use Rattle.layout.proofs.Facts.{bounds}
+use Rattle.layout.proofs.Numbers.{layer-below}
 use Rattle.codeword.specs.Codeword.{shapeOf}
 use Rattle.codeword.proofs.Usable.{usable}
-use Rattle.lagrange.specs.Solve.{symbolsOf, solvedAt}
-use Rattle.rule.specs.Rule.{groupAt}
-use Rattle.rule.specs.Lost.{firstLost, lostPlace, Losses, Ruled, Piece}
+use Rattle.syndrome.specs.Syndrome.{Block}
+use Rattle.rule.specs.Rule.{groupAt, rackSymbol}
+use Rattle.rule.specs.Lost.{firstLost, lostPlace, Losses, Piece}
 use Rattle.rule.specs.Inner.{layerSum, lostSymbol}
 use Rattle.rule.proofs.Lost.{lost-places, is-ruled}
-use Rattle.sums.specs.Inner.{sumAt, sumsAt, Holding}
-use Rattle.group.specs.Inner.{restSide, foundSymbol, Losing, Column, Layered}
+use Rattle.sums.specs.Inner.{sumAt, BlockSums}
+use Rattle.group.specs.Inner.{Lying, LostPlaces, Rests, PutRows, foundAt, DigitMended, BlockMended, Mending, Workspace}
 
-module _ (n j : ℕ) (inside : j < n) (value : ℕ → ℕ) where
-  pub column-none : (old : List ℕ) → Column n 0 j value old old
-  column-none old = record { long = refl; done = λ i k. absurd (omega arith); kept = λ i k hk d. refl }
+-- ---- room
+pub space-next : (e w : ℕ) (rests found places coefs row cur rests′ found′ places′ coefs′ row′ cur′ : List ℕ) → Workspace e w rests found places coefs row cur → length rests′ ≡ length rests →
+    length found′ ≡ length found → length places′ ≡ length places → length coefs′ ≡ length coefs → length row′ ≡ length row → length cur′ ≡ length cur → Workspace e w rests′ found′ places′ coefs′ row′ cur′
+space-next e w rests found places coefs row cur rests′ found′ places′ coefs′ row′ cur′ g a b c d f k = record {
+  rests-long = rw a (g .rests-long);
+  found-long = rw b (g .found-long);
+  places-long = rw c (g .places-long);
+  coefs-long = rw d (g .coefs-long);
+  row-long = rw f (g .row-long);
+  cur-long = rw k (g .cur-long);
+}
 
-  pub column-more : (i at v : ℕ) (old new : List ℕ) → at ≡ i * n + j → at < length new → v ≡ value i → Column n i j value old new → Column n (i + 1) j value old (set new at v)
-  column-more i at v old new ea hat ev c = record {
-    long = length-set new at v ∙ c .long;
-    done = λ k q. go k q (ℕ-discrete k i);
-    kept = λ k y hy d. getD-set-other new at (k * n + y) v 0 (λ e. d (cell-same n k i y j hy inside (e ∙ ea) .1)) ∙ c .kept k y hy d;
+pub systems-of : (e w : ℕ) (rests found places coefs row cur rests′ row′ : List ℕ) → 0 < w → Workspace e w rests found places coefs row cur → length rests′ ≡ length rests → length row′ ≡ length row →
+    Systems w 1 w 1 e found rests′ coefs row′
+systems-of e w rests found places coefs row cur rests′ row′ p g a b = record {
+  run-low = p;
+  columns-low = omega arith;
+  turns-low = omega arith;
+  width = sym (one-mul w);
+  found-long = g .found-long;
+  sums-long = rw a (g .rests-long);
+  coefs-long = rw (mul-one e) (g .coefs-long);
+  row-long = rw b (g .row-long);
+}
+
+pub found-in : (e w : ℕ) (rests found places coefs row cur found′ : List ℕ) → Workspace e w rests found places coefs row cur → length found′ ≡ length found → e * w ≤ length found′
+found-in e w rests found places coefs row cur found′ g a = rw a (g .found-long)
+
+pub points-in : (e w : ℕ) (rests found places coefs row cur : List ℕ) → Workspace e w rests found places coefs row cur → e * 1 ≤ length places
+points-in e w rests found places coefs row cur g = rw (mul-one e) (g .places-long)
+
+module _ (l : Layout) (h : ℕ) (lost host : List ℕ) (w first : ℕ) (sums : List ℕ) where
+  -- ---- a digit
+  module _ (a start run count stride : ℕ) (places rests found : List ℕ) (t : Lying l h w first a start run count stride) (p : LostPlaces l lost places)
+      (r : Rests l lost host w a start run stride sums rests) (s : Solved w 1 w (length lost) rests places found (length lost)) where
+    -- what the solver gives is the lost symbol
+    found-is : (i j : ℕ) → i < length lost → j < w → cell w found i j ≡ foundAt l lost host h w first sums a j i
+    unfolding foundAt erased column cell
+    found-is i j hi hj =
+        s .at i j hi hj
+        ∙ solve-congr ops (column 1 places (j / w % 1)) (λ k. place (shapeOf gf256 l) (lostPlace l lost k)) i (length lost) hi
+        (λ k hk. ap (λ n. elem (getD places n 0)) (number k (j / w % 1) (mod-one (j / w))) ∙ p .at k hk) _ _ (λ m hm. r .at m j hm hj)
+        ∙ ap (λ y. solve ops (λ k. place (shapeOf gf256 l) (lostPlace l lost k)) (length lost)
+        (rest ops (place (shapeOf gf256 l)) (l .size) (lostPlace l lost) (length lost) (λ m. cell w sums (m * digits l + a) j) (λ g. rackSymbol gf256 l host g y)) i) (t .at j hj)
+      where
+        number : (k c : ℕ) → c ≡ 0 → k * 1 + c ≡ k
+        number k c e = omega arith
+
+    pub digit-mended : (old new : List ℕ) → PutRows (layers l) w start run stride found old new (length lost) → DigitMended l h lost host w first sums a old new
+    digit-mended old new g = record {
+      long = g .long;
+      done = λ i j hi hj.
+          ap (λ y. elem (getD new (i * layers l + y) 0)) (sym (t .at j hj)) ∙ ap elem (g .done i j hi hj) ∙ cell-is w found i j ∙ found-is i j hi hj;
+      kept = λ i y hy f. g .kept i y hy (λ j hj e. f j hj (e ∙ t .at j hj));
+    }
+
+  -- ---- digit after digit
+  pub mended-none : (old : List ℕ) → BlockMended l h lost host w first sums 0 old old
+  mended-none old = record { long = refl; done = λ i b j hi hb. absurd (not-suc-le-zero hb); kept = λ i y hy f. refl }
+
+  pub mended-more : (table : List ℕ) (a : ℕ) (old mid new : List ℕ) → Mending l h lost host w first sums table → a < digits l → BlockMended l h lost host w first sums a old mid →
+      DigitMended l h lost host w first sums a mid new → BlockMended l h lost host w first sums (a + 1) old new
+  mended-more table a old mid new q ha g d = record {
+    long = d .long ∙ g .long;
+    done = λ i b j hi hb hj. go i b j hi hb hj (ℕ-discrete b a);
+    kept = λ i y hy f. d .kept i y hy (λ j hj. f a j ha hj) ∙ g .kept i y hy f;
   }
     where
-      go : (k : ℕ) → k < i + 1 → Dec (k ≡ i) → getD (set new at v) (k * n + j) 0 ≡ value k
-      go k q (yes e) = ap (λ y. getD (set new at v) (y * n + j) 0) e ∙ ap (λ y. getD (set new at v) y 0) (sym ea) ∙ getD-set-same new at v 0 hat ∙ ev ∙ ap value (sym e)
-      go k q (no d) = getD-set-other new at (k * n + j) v 0 (λ e. d (cell-same n k i j j inside inside (e ∙ ea) .0)) ∙ c .done k (omega arith)
+      pos : 0 < digits l
+      pos = bounds l (q .losing .adm) .digits-low
 
--- what the solver gives in a layer is the lost symbol there
-pub found-is : (l : Layout) (lost host sums places rests : List ℕ) (a j i : ℕ) → i < length lost → Holding (λ k. place (shapeOf gf256 l) (lostPlace l lost k)) (length lost) places →
-    Holding (restSide l lost host sums a j) (length lost) rests → solvedAt places rests i .val ≡ foundSymbol l lost host sums a j i
-unfolding solvedAt symbolsOf foundSymbol restSide erased
-found-is l lost host sums places rests a j i k P S =
-    ap (λ (y : Elem). y .val) (ap (λ n. solve ops (symbolsOf places) n (symbolsOf rests) i) (P .long)
-    ∙ solve-congr ops (symbolsOf places) (λ k. place (shapeOf gf256 l) (lostPlace l lost k)) i (length lost) k (P .are) (symbolsOf rests) (restSide l lost host sums a j) (S .are))
+      go : (i b j : ℕ) → i < length lost → b < a + 1 → j < w → Dec (b ≡ a) → elem (getD new (i * layers l + layerOf (digits l) h (first + j) b) 0) ≡ foundAt l lost host h w first sums b j i
+      go i b j hi hb hj (yes e) =
+          subst (λ b. elem (getD new (i * layers l + layerOf (digits l) h (first + j) b) 0) ≡ foundAt l lost host h w first sums b j i) (sym e) (d .done i j hi hj)
+      go i b j hi hb hj (no n) =
+          ap elem (d .kept i (layerOf (digits l) h (first + j) b)
+          (layer-below l (q .losing .adm) h (first + j) b (q .losing .host-in) (let i = q .groups-in in omega arith) (omega arith))
+          (λ k hk e. n (sym (layer-digit (digits l) pos h (first + j) b (omega arith)) ∙ ap (λ y. digit (digits l) y h) e ∙ layer-digit (digits l) pos h (first + k) a ha)))
+          ∙ g .done i b j hi (omega arith) hj
 
-module _ (l : Layout) (h : ℕ) (lost host : List ℕ) (q : Losing l h lost host) (p : ℕ) (sums : List ℕ) where
-  -- the host rack is that of the first tray listed
-  host-is : (j : ℕ) → groupAt l (firstLost l lost) j ≡ groupOf (digits l) h j
-  host-is j = ap (λ i. groupOf (digits l) i j) (q .one-rack 0 (q .some))
+  pub mended-end : (a s : ℕ) (old new : List ℕ) → s ≡ digits l → BlockMended l h lost host w first sums a old new → a ≤ s → s ≤ a → BlockMended l h lost host w first sums (digits l) old new
+  mended-end a s old new es g p q = let e : a ≡ digits l = omega arith in subst (λ n. BlockMended l h lost host w first sums n old new) e g
+
+-- a block written whole, by the host's own sums, is as the rule fixes it
+module _ (l : Layout) (lost helpers shares host : List ℕ) (w first : ℕ) (sums : List ℕ) (adm : Admissible l) (given : Losses l lost helpers) (block : Block l w first)
+    (inside : first + w ≤ groups l) (S : BlockSums l (firstLost l lost / l .size) w first helpers shares (length lost) sums) where
+  abbrev h : ℕ
+  h = firstLost l lost / l .size
 
   pos : 0 < digits l
-  pos = bounds l (q .adm) .digits-low
+  pos = bounds l adm .digits-low
 
-  pub layered-none : (old : List ℕ) → Layered l h lost host p sums 0 old old
-  layered-none old = record { long = refl; done = λ i k j hj e d. absurd (omega arith); kept = λ i j hj d. refl }
+  group-is : (y b j : ℕ) → b < digits l → y ≡ layerOf (digits l) h (first + j) b → groupAt l (firstLost l lost) y ≡ first + j
+  group-is y b j hb e = ap (groupAt l (firstLost l lost)) e ∙ layer-group (digits l) pos h (first + j) b hb
 
-  pub layered-more : (a j : ℕ) (places rests old mid new : List ℕ) → a < digits l → j ≡ layerOf (digits l) h p a → Holding (λ k. place (shapeOf gf256 l) (lostPlace l lost k)) (length lost) places →
-      Holding (restSide l lost host sums a j) (length lost) rests → (total : ℕ) → total ≡ layers l →
-      Layered l h lost host p sums a old mid → Column total (length places) j (λ i. solvedAt places rests i .val) mid new → Layered l h lost host p sums (a + 1) old new
-  layered-more a j places rests old mid new ha ej P S total et r c = record {
-    long = c .long ∙ r .long;
-    done = λ i k y hy e d. go i k y hy e d (ℕ-discrete (digit (digits l) y h) a);
-    kept = λ i y hy d. column-kept i y hy (λ e. d (ap (groupAt l (firstLost l lost)) e ∙ host-is j ∙ in-group)) ∙ r .kept i y hy d;
+  -- a layer of the block, by its group and digit
+  module _ (y j : ℕ) (hj : j < w) (eg : groupAt l (firstLost l lost) y ≡ first + j) where
+    layer-is : layerOf (digits l) h (first + j) (digit (digits l) y h) ≡ y
+    layer-is = ap (λ p. layerOf (digits l) h p (digit (digits l) y h)) (sym eg) ∙ layer-back (digits l) pos h y
+
+    sum-is : (m : ℕ) → m < length lost → cell w sums (m * digits l + digit (digits l) y h) j ≡ layerSum gf256 l lost helpers shares y m
+    unfolding layerSum sumAt
+    sum-is m hm =
+        S .at m (digit (digits l) y h) j hm (digit-below (digits l) pos y h) hj
+        ∙ ap (λ r. sumAt l h r helpers shares (length lost) m (digit (digits l) y h)) (sym eg)
+
+    symbol-is : (i : ℕ) → foundAt l lost host h w first sums (digit (digits l) y h) j i .val ≡ lostSymbol gf256 l lost helpers shares host i y
+    unfolding foundAt lostSymbol
+    symbol-is i =
+        ap (λ (v : Elem). v .val) (erased-congr ops (place (shapeOf gf256 l)) (l .size) (lostPlace l lost) (length lost) (lost-places gf256 l (usable l adm) lost helpers given) _ _ _ _
+        sum-is (record { at = λ g hg out. ap (rackSymbol gf256 l host g) layer-is }) i)
+
+    written : (old new : List ℕ) → InRange coding new → length new ≡ length lost * layers l → BlockMended l h lost host w first sums (digits l) old new →
+        (i : ℕ) → i < length lost → y < layers l → getD new (i * layers l + y) 0 ≡ lostSymbol gf256 l lost helpers shares host i y
+    written old new range long q i k hy =
+        sym (val-elem _ (range .at (i * layers l + y) (rw long (cell-in (length lost) (layers l) i y k hy))))
+        ∙ ap (λ (v : Elem). v .val) (ap (λ x. elem (getD new (i * layers l + x) 0)) (sym layer-is) ∙ q .done i (digit (digits l) y h) j k (digit-below (digits l) pos y h) hj)
+        ∙ symbol-is i
+
+  pub mended-piece : (old new : List ℕ) → InRange coding new → length new ≡ length lost * layers l → BlockMended l (firstLost l lost / l .size) lost host w first sums (digits l) old new →
+      Piece gf256 l lost helpers shares host first w old new
+  mended-piece old new range long q = record {
+    long = q .long;
+    done = λ p low high. is-ruled gf256 l (usable l adm) lost helpers given shares host p (omega arith) new (λ i k y hy e.
+        let b : p - first < w = omega arith in
+        let f : p ≡ first + (p - first) = omega arith in
+        written y (p - first) b (e ∙ f) old new range long q i k hy);
+    kept = λ i k y hy out. q .kept i y hy (λ b j hb hj e. out (let g : groupAt l (firstLost l lost) y ≡ first + j = group-is y b j hb e in (omega arith, omega arith)));
   }
-    where
-      in-group : groupOf (digits l) h j ≡ p
-      in-group = ap (groupOf (digits l) h) ej ∙ layer-group (digits l) pos h p a ha
-
-      column-kept : (i y : ℕ) → y < layers l → ¬ (y ≡ j) → getD new (i * layers l + y) 0 ≡ getD mid (i * layers l + y) 0
-      column-kept i y hy d = subst (λ n. getD new (i * n + y) 0 ≡ getD mid (i * n + y) 0) et (c .kept i y (rw et hy) d)
-
-      go : (i : ℕ) → i < length lost → (y : ℕ) → y < layers l → groupAt l (firstLost l lost) y ≡ p → digit (digits l) y h < a + 1 → Dec (digit (digits l) y h ≡ a) →
-          getD new (i * layers l + y) 0 ≡ foundSymbol l lost host sums (digit (digits l) y h) y i
-      go i k y hy e d (yes t) =
-          let here : y ≡ j = sym (layer-back (digits l) pos h y) ∙ ap₂ (layerOf (digits l) h) (sym (host-is y) ∙ e) t ∙ sym ej in
-          ap₂ (λ n z. getD new (i * n + z) 0) (sym et) here ∙ c .done i (rw (P .long) k) ∙ found-is l lost host sums places rests a j i k P S
-          ∙ ap₂ (λ b z. foundSymbol l lost host sums b z i) (sym t) (sym here)
-      go i k y hy e d (no t) =
-          column-kept i y hy (λ z. t (ap (λ w. digit (digits l) w h) (z ∙ ej) ∙ layer-digit (digits l) pos h p a ha)) ∙ r .done i k y hy e (omega arith)
-
--- a group written whole, by the host's own sums, is as the rule fixes it
-pub layered-piece : (l : Layout) (lost helpers shares host : List ℕ) (p : ℕ) (sums : List ℕ) → Admissible l → Losses l lost helpers → p < groups l →
-    Holding (sumsAt l (firstLost l lost / l .size) p helpers shares (length lost)) (length lost * digits l) sums →
-    (old new : List ℕ) → Layered l (firstLost l lost / l .size) lost host p sums (digits l) old new → Piece gf256 l lost helpers shares host p 1 old new
-unfolding foundSymbol lostSymbol layerSum sumsAt sumAt
-layered-piece l lost helpers shares host p sums adm given hp S old new q = record {
-  long = q .long;
-  done = λ r g k. let e : p ≡ r = omega arith in subst (λ n. Ruled gf256 l lost helpers shares host n new) e (is-ruled gf256 l (usable l adm) lost helpers given shares host p hp new written);
-  kept = λ i k j hj out. q .kept i j hj (λ e. out (omega arith, omega arith));
-}
-  where
-    h : ℕ
-    h = firstLost l lost / l .size
-
-    sum-is : (j : ℕ) → groupAt l (firstLost l lost) j ≡ p → (m : ℕ) → m < length lost →
-        elem (getD sums (m * digits l + digit (digits l) j (firstLost l lost / l .size)) 0) ≡ layerSum gf256 l lost helpers shares j m
-    sum-is j e m hm =
-        let d = digit-below (digits l) (bounds l adm .digits-low) j (firstLost l lost / l .size) in
-        S .are _ (cell-in (length lost) (digits l) m _ hm d)
-        ∙ ap₂ (sumAt l (firstLost l lost / l .size) p helpers shares (length lost)) (digits-div m d) (digits-mod m d)
-        ∙ ap (λ r. sumAt l (firstLost l lost / l .size) r helpers shares (length lost) m (digit (digits l) j (firstLost l lost / l .size))) (sym e)
-
-    written : (i : ℕ) → i < length lost → (j : ℕ) → j < layers l → groupAt l (firstLost l lost) j ≡ p → getD new (i * layers l + j) 0 ≡ lostSymbol gf256 l lost helpers shares host i j
-    written i k j hj e =
-        q .done i k j hj e (digit-below (digits l) (bounds l adm .digits-low) j (firstLost l lost / l .size))
-        ∙ ap (λ (y : Elem). y .val) (erased-congr ops (place (shapeOf gf256 l)) (l .size) (lostPlace l lost) (length lost) (lost-places gf256 l (usable l adm) lost helpers given) _ _ _ _
-        (sum-is j e) (record { at = λ g hg out. refl }) i)

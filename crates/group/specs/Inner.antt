@@ -1,33 +1,58 @@
--- What the functions of one group of a repair are told and give: the system of a layer's lost symbols. Nothing here has to be believed.
+-- What the functions of a block of groups are told and give: where its layers lie, and the systems of their lost symbols. Nothing here has to be believed.
 -- Assumes nothing.
 use mathlib.Core.Path.{_≡_}
 use mathlib.Core.List.{List}
-use Prim.Native.Nat.{ℕ, _+_, _*_, _/_, _<_, _≤_}
+use Prim.Native.Nat.{ℕ, _+_, _*_, _/_, _%_, _<_, _≤_}
 use lib.ListN.{length, getD}
+use Rattle.algebra.specs.Sum.{sum, pow}
 use Rattle.algebra.specs.Erasure.{rest, erased, fill}
 use Rattle.algebra.specs.Points.{place}
-use Rattle.algebra.specs.Layers.{digit}
+use Rattle.algebra.specs.Layers.{layerOf}
 use Rattle.symbol.specs.Elem.{Elem, elem, ops, gf256}
+use Rattle.kernel.specs.Runs.{cell, Inverses}
 use Rattle.layout.specs.declared.Layout.{Layout}
-use Rattle.layout.specs.Layout.{digits, layers, groups, trayLimit, layerLimit, Admissible}
+use Rattle.layout.specs.Layout.{digits, layers, groups, Admissible}
 use Rattle.codeword.specs.Codeword.{shapeOf}
-use Rattle.rule.specs.Rule.{groupAt, rackSymbol}
-use Rattle.rule.specs.Lost.{firstLost, lostPlace, Losses}
-use Rattle.sums.specs.Inner.{Holding}
+use Rattle.syndrome.specs.Syndrome.{Block}
+use Rattle.rule.specs.Rule.{rackSymbol}
+use Rattle.rule.specs.Lost.{lostPlace}
 
-module _ (l : Layout) (lost host : List ℕ) where
-  -- the host rack's symbols in layer j, zero at the lost places
-  unfoldable pub soundSymbol : ℕ → ℕ → Elem
-  soundSymbol j = fill (lostPlace l lost) (λ k. ops .zero) (length lost) (λ g. rackSymbol gf256 l host g j)
+-- where number j of a buffer stands that lies in runs, each so far behind the one before
+unfoldable pub spot : (start run stride j : ℕ) → ℕ
+spot start run stride j = start + j / run * stride + j % run
 
-  -- what the lost symbols of layer j, which has the digit a, must sum up to with the weight m, where a buffer holds the host's sums
-  unfoldable pub restSide : List ℕ → ℕ → ℕ → ℕ → Elem
-  restSide sums a j = rest ops (place (shapeOf gf256 l)) (l .size) (lostPlace l lost) (length lost) (λ m. elem (getD sums (m * digits l + a) 0)) (λ g. rackSymbol gf256 l host g j)
+-- what stands there
+unfoldable pub gathered : List ℕ → (start run stride j : ℕ) → ℕ
+gathered src start run stride j = getD src (spot start run stride j) 0
 
-  -- the number of the i-th lost tray there
-  unfoldable pub foundSymbol : List ℕ → ℕ → ℕ → ℕ → ℕ
-  foundSymbol sums a j i =
-      (erased ops (place (shapeOf gf256 l)) (l .size) (lostPlace l lost) (length lost) (λ m. elem (getD sums (m * digits l + a) 0)) (λ g. rackSymbol gf256 l host g j) i) .val
+-- the runs lie in a buffer of so many
+pub record Inside (start run count stride long : ℕ) : Type 0 where
+  pub some : 0 < run
+  pub apart : run ≤ stride
+  pub at : (c : ℕ) → c < count → start + c * stride + run ≤ long
+
+-- numbers below n of another buffer stand there, and everything else is as it was
+pub record Scattered (start run stride n : ℕ) (src : List ℕ) (from : ℕ) (was is : List ℕ) : Type 0 where
+  pub long : length is ≡ length was
+  pub done : (j : ℕ) → j < n → getD is (spot start run stride j) 0 ≡ getD src (from + j) 0
+  pub other : (i : ℕ) → ((j : ℕ) → j < n → ¬ (i ≡ spot start run stride j)) → getD is i 0 ≡ getD was i 0
+
+-- w layers of a tray, in runs
+pub record InTray (l : Layout) (w start run count stride : ℕ) : Type 0 where
+  pub some : 0 < w
+  pub inside : Inside start run count stride (layers l)
+  pub whole : count * run ≡ w
+
+-- a block of groups
+pub record Groups (l : Layout) (h w first : ℕ) : Type 0 where
+  pub block : Block l w first
+  pub host-in : h < l .racks
+  pub groups-in : first + w ≤ groups l
+
+-- its layers with the digit a
+pub record Lying (l : Layout) (h w first a start run count stride : ℕ) : Type 0 where
+  pub in-tray : InTray l w start run count stride
+  pub at : (j : ℕ) → j < w → spot start run stride j ≡ layerOf (digits l) h (first + j) a
 
 -- lost trays of the host rack h, and the rack's buffer
 pub record Losing (l : Layout) (h : ℕ) (lost host : List ℕ) : Type 0 where
@@ -38,47 +63,73 @@ pub record Losing (l : Layout) (h : ℕ) (lost host : List ℕ) : Type 0 where
   pub one-rack : (i : ℕ) → i < length lost → getD lost i 0 / l .size ≡ h
   pub host-long : length host ≡ l .size * layers l
 
--- what `mend_layers` is told: the host's sums of group p, and the spare
-pub record Solved (l : Layout) (h : ℕ) (lost host : List ℕ) (p : ℕ) (sums spare : List ℕ) : Type 0 where
+-- the factors of the lost places
+pub record LostPlaces (l : Layout) (lost places : List ℕ) : Type 0 where
+  pub at : (i : ℕ) → i < length lost → elem (getD places i 0) ≡ place (shapeOf gf256 l) (lostPlace l lost i)
+
+-- the host rack's symbols in layer y, zero at the lost places
+unfoldable pub soundSymbol : (l : Layout) (lost host : List ℕ) (y g : ℕ) → Elem
+soundSymbol l lost host y = fill (lostPlace l lost) (λ k. ops .zero) (length lost) (λ g. rackSymbol gf256 l host g y)
+
+-- the part of place g added to the sums of the weights below e, with the symbols of a word for each column
+pub record PlaceTerms (l : Layout) (w e : ℕ) (symbol : ℕ → Elem) (g : ℕ) (was is : List ℕ) : Type 0 where
+  pub at : (m j : ℕ) → m < e → j < w → cell w is m j ≡ ops .add (cell w was m j) (ops .mul (pow ops (place (shapeOf gf256 l) g) m) (symbol j))
+
+-- every s-th row of the sums, from row a on
+pub record Begun (w e s a : ℕ) (sums rests : List ℕ) : Type 0 where
+  pub at : (m j : ℕ) → m < e → j < w → cell w rests m j ≡ cell w sums (m * s + a) j
+
+-- the same with the parts of the places below g added
+pub record Growing (l : Layout) (lost host : List ℕ) (w a start run stride : ℕ) (sums rests : List ℕ) (g : ℕ) : Type 0 where
+  pub at : (m j : ℕ) → m < length lost → j < w →
+      cell w rests m j
+      ≡ ops .add (cell w sums (m * digits l + a) j) (sum ops g (λ y. ops .mul (pow ops (place (shapeOf gf256 l) y) m) (soundSymbol l lost host (spot start run stride j) y)))
+
+-- what the lost symbols must sum up to, a row for each weight
+pub record Rests (l : Layout) (lost host : List ℕ) (w a start run stride : ℕ) (sums rests : List ℕ) : Type 0 where
+  pub at : (m j : ℕ) → m < length lost → j < w →
+      cell w rests m j
+      ≡ rest ops (place (shapeOf gf256 l)) (l .size) (lostPlace l lost) (length lost) (λ m. cell w sums (m * digits l + a) j) (λ g. rackSymbol gf256 l host g (spot start run stride j)) m
+
+-- the rows below n of what was found stand in the runs of as many trays, and everything else is as it was
+pub record PutRows (total w start run stride : ℕ) (found was is : List ℕ) (n : ℕ) : Type 0 where
+  pub long : length is ≡ length was
+  pub done : (i j : ℕ) → i < n → j < w → getD is (i * total + spot start run stride j) 0 ≡ getD found (i * w + j) 0
+  pub kept : (i y : ℕ) → y < total → ((j : ℕ) → j < w → ¬ (y ≡ spot start run stride j)) → getD is (i * total + y) 0 ≡ getD was (i * total + y) 0
+
+-- the lost symbols of the layer of group first + j with the digit a, where a buffer holds the block's host sums: the i-th of them
+unfoldable pub foundAt : (l : Layout) (lost host : List ℕ) (h w first : ℕ) (sums : List ℕ) (a j i : ℕ) → Elem
+foundAt l lost host h w first sums a j i =
+    erased ops (place (shapeOf gf256 l)) (l .size) (lostPlace l lost) (length lost) (λ m. cell w sums (m * digits l + a) j)
+    (λ g. rackSymbol gf256 l host g (layerOf (digits l) h (first + j) a)) i
+
+-- the layers of the block with the digit a are written, all others are as they were
+pub record DigitMended (l : Layout) (h : ℕ) (lost host : List ℕ) (w first : ℕ) (sums : List ℕ) (a : ℕ) (old new : List ℕ) : Type 0 where
+  pub long : length new ≡ length old
+  pub done : (i j : ℕ) → i < length lost → j < w → elem (getD new (i * layers l + layerOf (digits l) h (first + j) a) 0) ≡ foundAt l lost host h w first sums a j i
+  pub kept : (i y : ℕ) → y < layers l → ((j : ℕ) → j < w → ¬ (y ≡ layerOf (digits l) h (first + j) a)) → getD new (i * layers l + y) 0 ≡ getD old (i * layers l + y) 0
+
+-- the layers of the block with a digit below a are written, all others are as they were
+pub record BlockMended (l : Layout) (h : ℕ) (lost host : List ℕ) (w first : ℕ) (sums : List ℕ) (a : ℕ) (old new : List ℕ) : Type 0 where
+  pub long : length new ≡ length old
+  pub done : (i b j : ℕ) → i < length lost → b < a → j < w →
+      elem (getD new (i * layers l + layerOf (digits l) h (first + j) b) 0) ≡ foundAt l lost host h w first sums b j i
+  pub kept : (i y : ℕ) → y < layers l → ((b j : ℕ) → b < digits l → j < w → ¬ (y ≡ layerOf (digits l) h (first + j) b)) →
+      getD new (i * layers l + y) 0 ≡ getD old (i * layers l + y) 0
+
+-- what is told of a block: the lost trays, its groups, the host's sums and the inverses of all symbols
+pub record Mending (l : Layout) (h : ℕ) (lost host : List ℕ) (w first : ℕ) (sums table : List ℕ) : Type 0 where
   pub losing : Losing l h lost host
-  pub group-in : p < groups l
-  pub sums-long : length sums ≡ length lost * digits l
-  pub spare-long : length spare ≡ length lost * layers l
+  pub block : Block l w first
+  pub groups-in : first + w ≤ groups l
+  pub sums-long : length lost * digits l * w ≤ length sums
+  pub inverses : Inverses table
 
--- what `write_layers` is told: the same with the factors of the lost places and room to solve in
-pub record Layering (l : Layout) (h : ℕ) (lost host : List ℕ) (p : ℕ) (sums places rests scratch spare : List ℕ) : Type 0 where
-  pub solved : Solved l h lost host p sums spare
-  pub places-are : Holding (λ i. place (shapeOf gf256 l) (lostPlace l lost i)) (length lost) places
-  pub rests-long : length rests ≡ length lost
-  pub scratch-long : length scratch ≡ length lost
-
--- what `write_layer` is told
-pub record Writing (total j : ℕ) (places rests scratch spare : List ℕ) : Type 0 where
-  pub total-high : total ≤ layerLimit
-  pub layer-in : j < total
-  pub few : length places ≤ trayLimit
-  pub rests-long : length rests ≡ length places
-  pub scratch-long : length scratch ≡ length places
-  pub spare-long : length spare ≡ length places * total
-
--- one layer of the spare is written
-pub record Column (n many j : ℕ) (value : ℕ → ℕ) (old new : List ℕ) : Type 0 where
-  pub long : length new ≡ length old
-  pub done : (i : ℕ) → i < many → getD new (i * n + j) 0 ≡ value i
-  pub kept : (i k : ℕ) → k < n → ¬ (k ≡ j) → getD new (i * n + k) 0 ≡ getD old (i * n + k) 0
-
--- the layers of group p with a digit below a are written, by a buffer of the host's sums
-pub record Layered (l : Layout) (h : ℕ) (lost host : List ℕ) (p : ℕ) (sums : List ℕ) (a : ℕ) (old new : List ℕ) : Type 0 where
-  pub long : length new ≡ length old
-  pub done : (i : ℕ) → i < length lost → (j : ℕ) → j < layers l → groupAt l (firstLost l lost) j ≡ p → digit (digits l) j h < a →
-      getD new (i * layers l + j) 0 ≡ foundSymbol l lost host sums (digit (digits l) j h) j i
-  pub kept : (i j : ℕ) → j < layers l → ¬ (groupAt l (firstLost l lost) j ≡ p) → getD new (i * layers l + j) 0 ≡ getD old (i * layers l + j) 0
-
--- what `mend_group` is told
-pub record Mending (l : Layout) (lost helpers shares host : List ℕ) (p : ℕ) (spare : List ℕ) : Type 0 where
-  pub adm : Admissible l
-  pub losses : Losses l lost helpers
-  pub group-in : p < groups l
-  pub shares-long : length shares ≡ l .helpers * (length lost * groups l)
-  pub host-long : length host ≡ l .size * layers l
-  pub spare-long : length spare ≡ length lost * layers l
+-- room for e rows of w symbols, and for what they are solved by
+pub record Workspace (e w : ℕ) (rests found places coefs row cur : List ℕ) : Type 0 where
+  pub rests-long : e * w ≤ length rests
+  pub found-long : e * w ≤ length found
+  pub places-long : e ≤ length places
+  pub coefs-long : e ≤ length coefs
+  pub row-long : w ≤ length row
+  pub cur-long : w ≤ length cur

@@ -1,176 +1,262 @@
-// One group of a repair of e lost trays. In each layer of the group the e host rack sums are one system for the e lost symbols, solved by the one solver.
-// Promises that the group's layers of the spare are as the rule fixes them, and every other byte as it was.
+// A block of groups of a repair of e lost trays, by the host's rack sums of the block. In each layer the e sums are one system for the e lost symbols; all
+// layers of the block with one digit are solved at a time. Never looks at the old bytes of the lost trays. Promises that the block's layers of the spare are
+// as the rule fixes them (`mended-piece` in proofs/Mend.antt), and every other byte as it was.
 use layout::Layout;
-use symbol::Symbol;
 ghost use mathlib.Core.Path.{_≡_};
-ghost use Prim.Native.Nat.{_*_, _<_, _≤_};
+ghost use Prim.Native.Nat.{_+_, _*_, _<_, _≤_};
 ghost use lib.ListN.{length};
-ghost use Rattle.algebra.specs.Lagrange.{check};
-ghost use Rattle.algebra.specs.Points.{place};
-ghost use Rattle.symbol.specs.Elem.{elem, ops, gf256};
-ghost use Rattle.layout.specs.Layout.{digits, layers, trayLimit, Admissible};
-ghost use Rattle.codeword.specs.Codeword.{shapeOf};
-ghost use Rattle.lagrange.specs.Solve.{solvedAt};
-ghost use Rattle.rule.specs.Lost.{lostPlace, Piece};
-ghost use Rattle.sums.specs.Inner.{Holding};
-ghost use Rattle.group.specs.Inner.{soundSymbol, restSide, Losing, Layering, Writing, Solved, Column, Layered, Mending};
+ghost use Rattle.symbol.specs.Elem.{gf256};
+ghost use Rattle.kernel.specs.Runs.{Run};
+ghost use Rattle.layout.specs.Layout.{digits, layers, Admissible};
+ghost use Rattle.syndrome.specs.Syndrome.{Room};
+ghost use Rattle.rule.specs.Rule.{rackSymbol};
+ghost use Rattle.group.specs.Inner.{spot, gathered, Inside, Scattered, InTray, Groups, Lying, Losing, LostPlaces, soundSymbol, PlaceTerms, Begun, Rests, PutRows, DigitMended, BlockMended, Mending, Workspace};
+
+// Where the layers of a block with one digit lie in a tray: so many runs of consecutive layers, each as far behind the one before.
+struct Runs {
+    start: usize,
+    run: usize,
+    count: usize,
+    stride: usize,
+}
+
+// The runs of the layers with digit a. In runs of s^h the groups' layers are consecutive.
+fn runs_of(l: Layout, h: u32, w: usize, first: u32, a: u32) -> Runs
+    requires { ⌜ Groups l h w first × (a < digits l) ⌝ }
+    ensures { λ r. ⌜ Lying l h w first a (r .start) (r .run) (r .count) (r .stride) ⌝ }
+{
+    let s = layout::digit_count(l) as usize;
+    let q = syndrome::block_width(l, h);
+    let run = lists::smaller(w as u64, q as u64) as usize;
+    let start = layout::layer_of(l, h, first, a) as usize;
+    Runs {
+        start,
+        run,
+        count: w / run,
+        stride: s * run,
+    }
+}
+
+// A copy of another buffer's runs, one after another.
+fn gather(out: &mut [u8], src: &[u8], start: usize, run: usize, count: usize, stride: usize)
+    requires { ⌜ Inside start run count stride (length (now src)) × (count * run ≤ length (now out)) ⌝ }
+    ensures { λ _. ⌜ Run (gathered (now (src .entry)) start run stride) (now (out .entry)) (now (out .exit)) 0 (count * run) ⌝ }
+{
+    let mut c = 0usize;
+    while c < count {
+        kernel::copy(out, c * run, run, src, start + c * stride);
+        c += 1;
+    }
+}
+
+// The way back.
+fn scatter(
+    out: &mut [u8],
+    start: usize,
+    run: usize,
+    count: usize,
+    stride: usize,
+    src: &[u8],
+    from: usize,
+)
+    requires { ⌜ Inside start run count stride (length (now out)) × (from + count * run ≤ length (now src)) ⌝ }
+    ensures { λ _. ⌜ Scattered start run stride (count * run) (now (src .entry)) from (now (out .entry)) (now (out .exit)) ⌝ }
+{
+    let mut c = 0usize;
+    while c < count {
+        kernel::copy(out, start + c * stride, run, src, from + c * run);
+        c += 1;
+    }
+}
 
 // Writes the factors of the lost places.
-fn fill_places(l: Layout, lost: &[u32], out: &mut [u8])
-    requires { ⌜ Admissible l × (length (now out) ≡ length (now lost)) ⌝ }
-    ensures { λ _. ⌜ Holding (λ i. place (shapeOf gf256 l) (lostPlace l (now (lost .entry)) i)) (length (now (lost .entry))) (now (out .exit)) ⌝ }
+fn fill_places(l: Layout, lost: &[u32], places: &mut [u8])
+    requires { ⌜ Admissible l × (length (now lost) ≤ length (now places)) ⌝ }
+    ensures { λ _. ⌜ LostPlaces l (now (lost .entry)) (now (places .exit)) ⌝ }
 {
     let u = l.size;
     let mut i = 0usize;
     while i < lost.len() {
-        out[i] = codeword::place_power(l, lost[i] % u, 1).0;
+        places[i] = codeword::place_power(l, lost[i] % u, 1).0;
         i += 1;
     }
 }
 
-// The symbol at place g of the host rack in layer j, zero at a lost place.
-fn sound_symbol(l: Layout, h: u32, total: u32, lost: &[u32], host: &[u8], g: u32, j: u32) -> Symbol
-    requires { ⌜ Losing l h (now lost) (now host) × (total ≡ layers l) × (g < l .size) × (j < layers l) ⌝ }
-    ensures { λ r. ⌜ elem (r .0) ≡ soundSymbol l (now (lost .entry)) (now (host .entry)) j g ⌝ }
+// Adds the terms of place g of the host rack.
+fn place_terms(
+    rests: &mut [u8],
+    l: Layout,
+    w: usize,
+    e: usize,
+    r: Runs,
+    host: &[u8],
+    g: u32,
+    cur: &mut [u8],
+    row: &mut [u8],
+)
+    requires { ⌜ Admissible l × InTray l w (r .start) (r .run) (r .count) (r .stride) × Room w e (now rests) (now cur) (now row) × (length (now host) ≡ l .size * layers l) × (g < l .size) ⌝ }
+    ensures { λ _. ⌜ PlaceTerms l w e (λ j. rackSymbol gf256 l (now (host .entry)) g (spot (r .start) (r .run) (r .stride) j)) g (now (rests .entry)) (now (rests .exit)) ⌝ }
+{
+    let total = layout::layer_count(l) as usize;
+    let start = g as usize * total + r.start;
+    gather(cur, host, start, r.run, r.count, r.stride);
+    let p = codeword::place_power(l, g, 1);
+    kernel::fill(row, 0, w, p.0);
+    syndrome::add_terms(rests, w, e, cur, row);
+}
+
+// Adds them unless the tray there is lost: its bytes are not looked at.
+fn sound_terms(
+    rests: &mut [u8],
+    l: Layout,
+    h: u32,
+    lost: &[u32],
+    w: usize,
+    r: Runs,
+    host: &[u8],
+    g: u32,
+    cur: &mut [u8],
+    row: &mut [u8],
+)
+    requires { ⌜ Losing l h (now lost) (now host) × InTray l w (r .start) (r .run) (r .count) (r .stride) × Room w (length (now lost)) (now rests) (now cur) (now row) × (g < l .size) ⌝ }
+    ensures { λ _. ⌜ PlaceTerms l w (length (now (lost .entry))) (λ j. soundSymbol l (now (lost .entry)) (now (host .entry)) (spot (r .start) (r .run) (r .stride) j) g) g (now (rests .entry)) (now (rests .exit)) ⌝ }
 {
     let u = l.size;
     if !lists::is_absent(lost, h * u + g) {
-        return Symbol(0);
+        return;
     }
-    let at = codeword::cell(total, g, j);
-    Symbol(host[at])
+    place_terms(rests, l, w, lost.len(), r, host, g, cur, row);
 }
 
-// The sum of the host rack's sound symbols in layer j, each times the m-th power of its place's factor.
-fn sound_sum(l: Layout, h: u32, total: u32, lost: &[u32], host: &[u8], j: u32, m: u32) -> Symbol
-    requires { ⌜ Losing l h (now lost) (now host) × (total ≡ layers l) × (j < layers l) × (m ≤ trayLimit) ⌝ }
-    ensures { λ r. ⌜ elem (r .0) ≡ check ops (place (shapeOf gf256 l)) (l .size) (soundSymbol l (now (lost .entry)) (now (host .entry)) j) m ⌝ }
+// Every s-th row of the sums, from row a on.
+fn begin_rests(rests: &mut [u8], w: usize, e: usize, s: usize, a: usize, sums: &[u8])
+    requires { ⌜ (e * w ≤ length (now rests)) × (e * s * w ≤ length (now sums)) × (a < s) × (0 < w) ⌝ }
+    ensures { λ _. ⌜ Begun w e s a (now (sums .entry)) (now (rests .exit)) ⌝ }
 {
-    let u = l.size;
-    let mut sum = Symbol(0);
-    let mut g = 0u32;
-    while g < u {
-        let symbol = sound_symbol(l, h, total, lost, host, g, j);
-        sum = sum.add(codeword::place_power(l, g, m).mul(symbol));
-        g += 1;
-    }
-    sum
-}
-
-// Writes what the lost symbols of layer j, which has the digit a, must sum up to, weight after weight.
-fn fill_rests(
-    l: Layout,
-    h: u32,
-    total: u32,
-    lost: &[u32],
-    host: &[u8],
-    j: u32,
-    a: u32,
-    sums: &[u8],
-    out: &mut [u8],
-)
-    requires { ⌜ Losing l h (now lost) (now host) × (total ≡ layers l) × (j < layers l) × (a < digits l) × (length (now sums) ≡ length (now lost) * digits l) × (length (now out) ≡ length (now lost)) ⌝ }
-    ensures { λ _. ⌜ Holding (restSide l (now (lost .entry)) (now (host .entry)) (now (sums .entry)) a j) (length (now (lost .entry))) (now (out .exit)) ⌝ }
-{
-    let s = layout::digit_count(l) as usize;
     let mut m = 0usize;
-    while m < out.len() {
-        let sound = sound_sum(l, h, total, lost, host, j, m as u32);
-        let sum = Symbol(sums[m * s + a as usize]);
-        out[m] = sum.add(sound).0;
+    while m < e {
+        kernel::copy(rests, m * w, w, sums, (m * s + a) * w);
         m += 1;
     }
 }
 
-// Writes the lost symbols of layer j, by the factors of the lost places and what the symbols must sum up to.
-fn write_layer(
-    total: u32,
-    j: u32,
-    places: &[u8],
-    rests: &[u8],
-    scratch: &mut [u8],
-    spare: &mut [u8],
+// What the lost symbols of the layers with digit a must sum up to: the host's sums less the terms of its sound trays.
+fn fill_rests(
+    rests: &mut [u8],
+    l: Layout,
+    h: u32,
+    lost: &[u32],
+    w: usize,
+    a: u32,
+    r: Runs,
+    host: &[u8],
+    sums: &[u8],
+    cur: &mut [u8],
+    row: &mut [u8],
 )
-    requires { ⌜ Writing total j (now places) (now rests) (now scratch) (now spare) ⌝ }
-    ensures { λ _. ⌜ Column total (length (now (places .entry))) j (λ i. solvedAt (now (places .entry)) (now (rests .entry)) i .val) (now (spare .entry)) (now (spare .exit)) ⌝ }
+    requires { ⌜ Losing l h (now lost) (now host) × InTray l w (r .start) (r .run) (r .count) (r .stride) × Room w (length (now lost)) (now rests) (now cur) (now row) × (a < digits l) × (length (now lost) * digits l * w ≤ length (now sums)) ⌝ }
+    ensures { λ _. ⌜ Rests l (now (lost .entry)) (now (host .entry)) w a (r .start) (r .run) (r .stride) (now (sums .entry)) (now (rests .exit)) ⌝ }
 {
+    let u = l.size;
+    let s = layout::digit_count(l) as usize;
+    begin_rests(rests, w, lost.len(), s, a as usize, sums);
+    let mut g = 0u32;
+    while g < u {
+        sound_terms(rests, l, h, lost, w, r, host, g, cur, row);
+        g += 1;
+    }
+}
+
+// Writes e rows of what was found, each into the runs of its tray.
+fn put_rows(spare: &mut [u8], l: Layout, w: usize, e: usize, r: Runs, found: &[u8])
+    requires { ⌜ Admissible l × InTray l w (r .start) (r .run) (r .count) (r .stride) × (length (now spare) ≡ e * layers l) × (e * w ≤ length (now found)) ⌝ }
+    ensures { λ _. ⌜ PutRows (layers l) w (r .start) (r .run) (r .stride) (now (found .entry)) (now (spare .entry)) (now (spare .exit)) e ⌝ }
+{
+    let total = layout::layer_count(l) as usize;
+    let start = r.start;
+    let run = r.run;
+    let count = r.count;
+    let stride = r.stride;
     let mut i = 0usize;
-    while i < places.len() {
-        let at = codeword::cell(total, i as u32, j);
-        let symbol = lagrange::solve_one(places, rests, i, scratch);
-        spare[at] = symbol.0;
+    while i < e {
+        scatter(spare, i * total + start, run, count, stride, found, i * w);
         i += 1;
     }
 }
 
-// Writes the lost symbols of the group's layers, by the host's rack sums.
-fn write_layers(
+// Repairs the layers of the block with digit a.
+fn mend_digit(
     l: Layout,
     h: u32,
     lost: &[u32],
     host: &[u8],
-    p: u32,
+    w: usize,
+    first: u32,
+    a: u32,
     sums: &[u8],
-    places: &[u8],
     rests: &mut [u8],
-    scratch: &mut [u8],
+    found: &mut [u8],
+    places: &[u8],
+    coefs: &mut [u8],
+    row: &mut [u8],
+    cur: &mut [u8],
+    table: &[u8],
     spare: &mut [u8],
 )
-    requires { ⌜ Layering l h (now lost) (now host) p (now sums) (now places) (now rests) (now scratch) (now spare) ⌝ }
-    ensures { λ _. ⌜ Layered l h (now (lost .entry)) (now (host .entry)) p (now (sums .entry)) (digits l) (now (spare .entry)) (now (spare .exit)) ⌝ }
+    requires { ⌜ Mending l h (now lost) (now host) w first (now sums) (now table) × (a < digits l) × Workspace (length (now lost)) w (now rests) (now found) (now places) (now coefs) (now row) (now cur) × LostPlaces l (now lost) (now places) × (length (now spare) ≡ length (now lost) * layers l) ⌝ }
+    ensures { λ _. ⌜ DigitMended l h (now (lost .entry)) (now (host .entry)) w first (now (sums .entry)) a (now (spare .entry)) (now (spare .exit)) ⌝ }
+{
+    let e = lost.len();
+    let r = runs_of(l, h, w, first, a);
+    fill_rests(rests, l, h, lost, w, a, r, host, sums, cur, row);
+    columns::solve(found, w, 1, w, 1, e, rests, places, coefs, row, table);
+    put_rows(spare, l, w, e, r, found);
+}
+
+// Repairs the lost trays' layers in a block of groups, by the host's sums of the block. The other buffers are room to work in, and `table` has the inverses
+// of all symbols.
+pub fn mend_block(
+    l: Layout,
+    h: u32,
+    lost: &[u32],
+    host: &[u8],
+    w: usize,
+    first: u32,
+    sums: &[u8],
+    rests: &mut [u8],
+    found: &mut [u8],
+    places: &mut [u8],
+    coefs: &mut [u8],
+    row: &mut [u8],
+    cur: &mut [u8],
+    table: &[u8],
+    spare: &mut [u8],
+)
+    requires { ⌜ Mending l h (now lost) (now host) w first (now sums) (now table) × Workspace (length (now lost)) w (now rests) (now found) (now places) (now coefs) (now row) (now cur) × (length (now spare) ≡ length (now lost) * layers l) ⌝ }
+    ensures { λ _. ⌜ BlockMended l h (now (lost .entry)) (now (host .entry)) w first (now (sums .entry)) (digits l) (now (spare .entry)) (now (spare .exit)) ⌝ }
 {
     let s = layout::digit_count(l);
-    let total = layout::layer_count(l);
+    fill_places(l, lost, places);
     let mut a = 0u32;
     while a < s {
-        let j = layout::layer_of(l, h, p, a);
-        fill_rests(l, h, total, lost, host, j, a, sums, rests);
-        write_layer(total, j, places, rests, scratch, spare);
+        mend_digit(
+            l,
+            h,
+            lost,
+            host,
+            w,
+            first,
+            a,
+            sums,
+            rests,
+            found,
+            places,
+            coefs,
+            row,
+            cur,
+            table,
+            spare,
+        );
         a += 1;
     }
-}
-
-// Writes the lost symbols of the group's layers, with room for the systems.
-fn mend_layers(l: Layout, h: u32, lost: &[u32], host: &[u8], p: u32, sums: &[u8], spare: &mut [u8])
-    requires { ⌜ Solved l h (now lost) (now host) p (now sums) (now spare) ⌝ }
-    ensures { λ _. ⌜ Layered l h (now (lost .entry)) (now (host .entry)) p (now (sums .entry)) (digits l) (now (spare .entry)) (now (spare .exit)) ⌝ }
-{
-    let mut places = [0u8; layout::TRAYS as usize];
-    let mut rests = [0u8; layout::TRAYS as usize];
-    let mut scratch = [0u8; layout::TRAYS as usize];
-    let e = lost.len();
-    fill_places(l, lost, &mut places[..e]);
-    write_layers(
-        l,
-        h,
-        lost,
-        host,
-        p,
-        sums,
-        &places[..e],
-        &mut rests[..e],
-        &mut scratch[..e],
-        spare,
-    );
-}
-
-// Repairs group p of the lost trays.
-pub fn mend_group(
-    l: Layout,
-    lost: &[u32],
-    helpers: &[u32],
-    shares: &[u8],
-    host: &[u8],
-    p: u32,
-    spare: &mut [u8],
-)
-    requires { ⌜ Mending l (now lost) (now helpers) (now shares) (now host) p (now spare) ⌝ }
-    ensures { λ _. ⌜ Piece gf256 l (now (lost .entry)) (now (helpers .entry)) (now (shares .entry)) (now (host .entry)) p 1 (now (spare .entry)) (now (spare .exit)) ⌝ }
-{
-    let mut sums = [0u8; layout::TRAYS as usize];
-    let h = lost[0] / l.size;
-    let e = lost.len();
-    let n = e * layout::digit_count(l) as usize;
-    sums::find_sums(l, h, helpers, shares, e as u32, p, &mut sums[..n]);
-    mend_layers(l, h, lost, host, p, &sums[..n], spare);
 }

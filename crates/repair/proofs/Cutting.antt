@@ -24,7 +24,8 @@ use Rattle.repair.specs.declared.Repaired.the-variants.{Done}
 use Rattle.repair.specs.Repair.{report, RepairDone}
 use Rattle.repair.specs.Calls.{Calls, none, done, refused, Uncut, Cut, DoneCall, Does}
 use Rattle.repair.proofs.Refusals.{repairable, accepted}
-use Rattle.repair.proofs.Pieces.{ruled-kept, kept-at}
+use Rattle.pieces.proofs.Pieces.{ruled-kept}
+use Rattle.repair.proofs.Pieces.{kept-at}
 
 module _ {A : Type 0} (f : Field A) (l : Layout) (ok : Usable f l) (adm : Admissible l) (lost helpers : List ℕ) (given : Losses l lost helpers) (shares host start : List ℕ) where
   -- what the rule fixes for a host rack it fixes for one that is alike in the sound trays

@@ -35,8 +35,3 @@ pub record Repairable (l : Layout) (lost helpers : List ℕ) (shares host spare 
   pub spare-long : spare ≡ length lost * layers l
   pub losses : Losses l lost helpers
   pub first-in : first ≤ groups l
-
--- what `some_groups` is told
-pub record Piecing (l : Layout) (lost helpers shares host : List ℕ) (first count : ℕ) (spare : List ℕ) : Type 0 where
-  pub given : Repairable l lost helpers (length shares) (length host) (length spare) first
-  pub within : first + count ≤ groups l

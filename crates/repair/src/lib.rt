@@ -9,9 +9,8 @@ ghost use Prim.Native.Nat.{_*_, _<_};
 ghost use lib.Dec.{eqb};
 ghost use Rattle.symbol.specs.Elem.{gf256};
 ghost use Rattle.layout.specs.Layout.{Admissible};
-ghost use Rattle.rule.specs.Lost.{Piece};
 ghost use Rattle.repair.specs.Repair.{oneRack, repairRefusal, RepairAnswer};
-ghost use Rattle.repair.specs.Inner.{numberRefusal, countRefusal, Piecing};
+ghost use Rattle.repair.specs.Inner.{numberRefusal, countRefusal};
 
 // What a repair answers: the groups done, the symbols crossed and those still to come; or a ground.
 pub enum Repaired {
@@ -130,27 +129,6 @@ fn refusal(
     count_refusal(l, lost, helpers, first)
 }
 
-// Repairs `count` groups from `first` on.
-fn some_groups(
-    l: Layout,
-    lost: &[u32],
-    helpers: &[u32],
-    shares: &[u8],
-    host: &[u8],
-    first: u32,
-    count: u32,
-    spare: &mut [u8],
-)
-    requires { ⌜ Piecing l (now lost) (now helpers) (now shares) (now host) first count (now spare) ⌝ }
-    ensures { λ _. ⌜ Piece gf256 l (now (lost .entry)) (now (helpers .entry)) (now (shares .entry)) (now (host .entry)) first count (now (spare .entry)) (now (spare .exit)) ⌝ }
-{
-    let mut k = 0u32;
-    while k < count {
-        group::mend_group(l, lost, helpers, shares, host, first + k, spare);
-        k += 1;
-    }
-}
-
 // Repairs a piece of the lost trays, all of one rack, in the spare, or refuses and writes nothing.
 pub fn repair_many(
     l: Layout,
@@ -180,7 +158,7 @@ pub fn repair_many(
     }
     let left = layout::group_count(l) as u64 - first;
     let count = lists::smaller(budget, left);
-    some_groups(
+    pieces::mend_groups(
         l,
         lost,
         helpers,

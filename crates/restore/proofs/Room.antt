@@ -12,7 +12,7 @@ use Rattle.lists.proofs.Numbers.{mul-below}
 use Rattle.layout.specs.declared.Layout.{Layout}
 use Rattle.layout.specs.Layout.{trays, checks, digits, layers, trayLimit, layerLimit, Admissible}
 use Rattle.layout.proofs.Facts.{bounds}
-use Rattle.syndrome.specs.Syndrome.{blockLimit, Block, Listed, Room}
+use Rattle.syndrome.specs.Syndrome.{blockLimit, roomLimit, Block, Listed, Room}
 use Rattle.restore.specs.Restored.{Erasing}
 use Rattle.restore.specs.Inner.{Workspace}
 
@@ -41,19 +41,16 @@ erasing-next l total es c d p e = record { adm = p .adm; total-is = p .total-is;
 
 -- the arrays
 abbrev pub roomOf : List ℕ
-roomOf = replicate (trayLimit * blockLimit) 0
+roomOf = replicate roomLimit 0
 
 abbrev pub rowOf : List ℕ
 rowOf = replicate blockLimit 0
 
-pub space : (l : Layout) (e : ℕ) → Admissible l → digits l ^ e ≤ blockLimit → Workspace l (digits l ^ e) roomOf roomOf roomOf roomOf rowOf
-space l e a h = record { sums-long = fits; found-long = fits; points-long = fits; coefs-long = fits; row-long = rw (length-replicate {A = ℕ} blockLimit 0) h }
+pub space : (l : Layout) (e : ℕ) → digits l ^ e ≤ blockLimit → checks l * digits l ^ e ≤ roomLimit → Workspace l (digits l ^ e) roomOf roomOf roomOf roomOf rowOf
+space l e h k = record { sums-long = fits; found-long = fits; points-long = fits; coefs-long = fits; row-long = rw (length-replicate {A = ℕ} blockLimit 0) h }
   where
-    few : checks l ≤ trayLimit
-    few = let b = a .trays-high in omega arith
-
     fits : checks l * digits l ^ e ≤ length roomOf
-    fits = rw (length-replicate {A = ℕ} (trayLimit * blockLimit) 0) (mul-le-mul few h)
+    fits = rw (length-replicate {A = ℕ} roomLimit 0) k
 
 pub found-next : (l : Layout) (w : ℕ) (sums found new points coefs row : List ℕ) → Workspace l w sums found points coefs row → length new ≡ length found → checks l * w ≤ length new
 found-next l w sums found new points coefs row g e = rw e (g .found-long)

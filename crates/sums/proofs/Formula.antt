@@ -29,15 +29,14 @@ use Rattle.layout.specs.Layout.{digits, parityRacks, Admissible}
 use Rattle.layout.proofs.Facts.{bounds}
 use Rattle.codeword.specs.Codeword.{shapeOf, pointAt}
 use Rattle.codeword.proofs.Usable.{usable}
-use Rattle.lagrange.specs.Solve.{symbolsOf, solvedAt}
 use Rattle.rule.specs.Lost.{sentSymbol}
 use Rattle.rule.proofs.Rule.{helping-from}
-use Rattle.sums.specs.Inner.{helperAt, placePoint, unknownPoint, sideTerm, rightSide, sumAt, Chosen, Holding}
+use Rattle.sums.specs.Inner.{helperAt, placePoint, unknownPoint, sideTerm, rightSide, sumAt, Chosen}
 use Rattle.sums.proofs.Steps.{rack-point, digits-under}
 
-module _ (l : Layout) (h p : ℕ) (helpers : List ℕ) (ch : Chosen l h p helpers) (shares : List ℕ) (e m : ℕ) where
+module _ (l : Layout) (h p : ℕ) (helpers : List ℕ) (ch : Chosen l h helpers) (shares : List ℕ) (e m : ℕ) where
   adm : Admissible l
-  adm = ch .frame .adm
+  adm = ch .adm
 
   n : ℕ
   n = digits l + (l .racks - 1)
@@ -49,7 +48,7 @@ module _ (l : Layout) (h p : ℕ) (helpers : List ℕ) (ch : Chosen l h p helper
   Q = placePoint l h p
 
   help : Helping (shapeOf gf256 l) h (helperAt helpers) (l .helpers) (parityRacks l)
-  help = helping-from gf256 l (usable l adm) h helpers (ch .frame .host-in) (ch .inside) (ch .rising) (ch .other)
+  help = helping-from gf256 l (usable l adm) h helpers (ch .host-in) (ch .inside) (ch .rising) (ch .other)
 
   K-rising : Rising K (l .helpers) n
   unfolding K n
@@ -96,14 +95,10 @@ module _ (l : Layout) (h p : ℕ) (helpers : List ℕ) (ch : Chosen l h p helper
       ∙ sum-congr ops (l .helpers) _ _ (λ k q. helper-point k t q)
 
   -- so what the solver gives, less the weight of the host's point, is the host's sum
-  pub solved-is : (points sides : List ℕ) → Holding (unknownPoint l h p helpers) (parityRacks l) points → Holding (rightSide l h p helpers shares e m) (parityRacks l) sides →
-      (a : ℕ) → a < digits l →
-      ops .mul (ops .inv (pow ops (pointAt gf256 l (layerOf (digits l) h p a) (h * l .size)) m)) (solvedAt points sides a) ≡ sumAt l h p helpers shares e m a
-  unfolding solvedAt symbolsOf sumAt hostSum erased known unknownPoint placePoint n K Q Y W
-  solved-is points sides P S a q =
+  pub solved-is : (a : ℕ) → a < digits l →
+      ops .mul (ops .inv (pow ops (point (shapeOf gf256 l) h a 0) m)) (solve ops (unknownPoint l h p helpers) (parityRacks l) (rightSide l h p helpers shares e m) a) ≡ sumAt l h p helpers shares e m a
+  unfolding sumAt hostSum erased known unknownPoint placePoint n K Q Y W
+  solved-is a k =
       let inside : a < parityRacks l = omega (arith, digits-under l adm) in
-      ap₂ (λ y w. ops .mul (ops .inv (pow ops y m)) w)
-      (rack-point l adm h (layerOf (digits l) h p a) ∙ ap (λ d. point (shapeOf gf256 l) h d 0) (layer-digit (digits l) (bounds l adm .digits-low) h p a q))
-      (ap (λ k. solve ops (symbolsOf points) k (symbolsOf sides) a) (P .long)
-      ∙ solve-congr ops (symbolsOf points) (unknownPoint l h p helpers) a (parityRacks l) inside (P .are) (symbolsOf sides) (rightSide l h p helpers shares e m) (S .are)
-      ∙ sym (solve-congr ops _ _ a (parityRacks l) inside (λ k r. refl) (rest ops Q n (free K (l .helpers)) (parityRacks l) (zeros ops) W) _ (λ t r. side t)))
+      ap (ops .mul (ops .inv (pow ops (point (shapeOf gf256 l) h a 0) m)))
+      (sym (solve-congr ops _ _ a (parityRacks l) inside (λ k r. refl) (rest ops Q n (free K (l .helpers)) (parityRacks l) (zeros ops) W) _ (λ t r. side t)))

@@ -1,4 +1,5 @@
 pub mod Steps
+pub mod Sides
+pub mod Points
 pub mod Formula
 pub mod Rows
-pub mod Arrays

@@ -1,61 +1,209 @@
--- The host's sums, written weight after weight.
+-- The systems solved, and the host's sums written row by row and weight after weight.
 -- Assumes nothing.
-use mathlib.Core.Path.{_≡_, refl, sym, ap, ap₂, _∙_}
+use mathlib.Core.Path.{_≡_, refl, sym, ap, ap₂, _∙_, subst}
 use mathlib.Core.List.{List}
-use Prim.Native.Nat.{ℕ, _+_, _-_, _*_, _<_, _≤_}
-use native.Mathlib.Nat.{one-mul, add-mul, mul-le-mul-right}
+use Prim.Native.Nat.{ℕ, _+_, _-_, _*_, _/_, _%_, _<_, _≤_}
+use native.Mathlib.Nat.{mod-lt, not-suc-le-zero, mul-one, mul-le-mul, le-trans, add-mul, one-mul}
 use native.Mathlib.Decide.{ℕ-discrete, decLt}
 use native.Mathlib.Omega.{arith}
-use lib.Arith.{digits-div, digits-mod}
-use lib.ListN.{length, getD, set, length-set}
-use lib.Seq.{getD-set-same, getD-set-other}
-use Rattle.algebra.specs.Sum.{pow}
-use Rattle.algebra.specs.Layers.{layerOf}
-use Rattle.symbol.specs.Elem.{elem, ops, gf256}
+use mir.Val.{Fits}
+use mir.Syntax.{w32, w64}
+use lib.ListN.{length, getD}
+use Rattle.lists.proofs.Numbers.{cell-in}
+use Rattle.algebra.specs.Field.{Ops}
+use Rattle.algebra.specs.Sum.{sum, pow}
+use Rattle.algebra.specs.Lagrange.{solve}
+use Rattle.algebra.specs.Points.{point}
+use Rattle.algebra.proofs.Ring.{zero-add, mul-comm}
+use Rattle.algebra.proofs.Lagrange.{solve-congr}
+use Rattle.symbol.specs.Arithmetic.{_⊕_, _⊗_}
+use Rattle.symbol.specs.Elem.{Elem, elem, ops, gf256}
+use Rattle.symbol.proofs.Elem.{laws, elem-zero, elem-⊕, elem-⊗}
+use Rattle.kernel.specs.Runs.{cell, Run, filled, addedMultiple}
+use Rattle.kernel.proofs.Rows.{row-before, cell-is, cell-other}
+use Rattle.columns.specs.Columns.{column, Systems, Solved}
 use Rattle.layout.specs.declared.Layout.{Layout}
-use Rattle.layout.specs.Layout.{digits, parityRacks}
-use Rattle.codeword.specs.Codeword.{pointAt}
-use Rattle.lagrange.specs.Solve.{solvedAt}
-use Rattle.sums.specs.Inner.{unknownPoint, rightSide, sumAt, sumsAt, Chosen, Holding, Row}
+use Rattle.layout.specs.Layout.{digits, parityRacks, trayLimit, Admissible}
+use Rattle.layout.proofs.Facts.{bounds}
+use Rattle.codeword.specs.Codeword.{shapeOf}
+use Rattle.sums.specs.Inner.{unknownPoint, sideTerm, rightSide, sumAt, Chosen, Cycle, PointsTo, Workspace, FoundSums, RowTimes, Weighing, Weighed, SidesTo, SumsTo, BlockSums, Summing}
+use Rattle.sums.proofs.Steps.{digits-under, sums-high}
+use Rattle.sums.proofs.Points.{columns-in}
 use Rattle.sums.proofs.Formula.{solved-is}
 
-module _ (l : Layout) (h p m : ℕ) (points sides : List ℕ) where
-  pub row-none : (old : List ℕ) → Row l h p m points sides 0 old old
-  row-none old = record { long = refl; done = λ k q. absurd (omega arith); kept = λ n q. refl }
+module _ (l : Layout) (h w first : ℕ) (helpers : List ℕ) (v run : ℕ) (g : Cycle l h w first helpers v run) where
+  pub points-room : (n : ℕ) (sides found points coefs row points′ : List ℕ) → n ≡ parityRacks l → Workspace l w sides found points coefs row → length points′ ≡ length points →
+      n * v ≤ length points′
+  points-room n sides found points coefs row points′ en k e = rw (en, e) (le-trans (mul-le-mul (le-of (parityRacks l)) (columns-in l h w first helpers v run g)) (k .points-long))
+    where
+      le-of : (n : ℕ) → n ≤ n
+      le-of n = omega arith
 
-  pub row-more : (a at v : ℕ) (old new : List ℕ) → at ≡ m * digits l + a → at < length new →
-      elem v ≡ ops .mul (ops .inv (pow ops (pointAt gf256 l (layerOf (digits l) h p a) (h * l .size)) m)) (solvedAt points sides a) →
-      Row l h p m points sides a old new → Row l h p m points sides (a + 1) old (set new at v)
-  row-more a at v old new ea inside ev r = record {
-    long = length-set new at v ∙ r .long;
-    done = λ k q. go k q (ℕ-discrete k a);
-    kept = λ n q. getD-set-other new at n v 0 (λ e. absurd (omega arith)) ∙ r .kept n q;
+  pub systems-of : (n : ℕ) (sides found points coefs row row′ : List ℕ) → n ≡ parityRacks l → Workspace l w sides found points coefs row → length row′ ≡ length row →
+      Systems w v run 1 n found sides coefs row′
+  systems-of n sides found points coefs row row′ en k e = record {
+    run-low = g .run-low;
+    columns-low = g .columns-low;
+    turns-low = omega arith;
+    width = g .width ∙ ap (λ y. y * run) (sym (mul-one v));
+    found-long = rw en (k .found-long);
+    sums-long = rw en (k .sides-long);
+    coefs-long = rw en (le-trans (mul-le-mul (le-of (parityRacks l)) (columns-in l h w first helpers v run g)) (k .coefs-long));
+    row-long = rw e (k .row-long);
   }
     where
-      go : (k : ℕ) → k < a + 1 → Dec (k ≡ a) →
-          elem (getD (set new at v) (m * digits l + k) 0) ≡ ops .mul (ops .inv (pow ops (pointAt gf256 l (layerOf (digits l) h p k) (h * l .size)) m)) (solvedAt points sides k)
-      go k q (yes e) =
-          ap (λ i. elem (getD (set new at v) (m * digits l + i) 0)) e ∙ ap (λ i. elem (getD (set new at v) i 0)) (sym ea) ∙ ap elem (getD-set-same new at v 0 inside) ∙ ev
-          ∙ ap (λ i. ops .mul (ops .inv (pow ops (pointAt gf256 l (layerOf (digits l) h p i) (h * l .size)) m)) (solvedAt points sides i)) (sym e)
-      go k q (no d) = ap elem (getD-set-other new at (m * digits l + k) v 0 (λ e. d (omega arith))) ∙ r .done k (omega arith)
+      le-of : (n : ℕ) → n ≤ n
+      le-of n = omega arith
+
+  pub found-of : (n s : ℕ) (sides points found : List ℕ) → Admissible l → n ≡ parityRacks l → s ≡ digits l → PointsTo l h first helpers v run (parityRacks l) points →
+      Solved w v run n sides points found s → FoundSums l h w first helpers sides found
+  unfolding column
+  found-of n s sides points found a en es p f = record {
+    at = λ i j hi hj.
+        let k : i < parityRacks l = (let d = digits-under l a in omega arith) in
+        f .at i j (rw es hi) hj ∙ ap (λ k. solve ops (column v points (j / run % v)) k (λ t. cell w sides t j) i) en
+        ∙ solve-congr ops (column v points (j / run % v)) (unknownPoint l h (first + j) helpers) i (parityRacks l) k
+        (λ k q. p .at k (j / run % v) q (mod-lt (j / run) (g .columns-low)) ∙ g .alike k j q hj) (λ t. cell w sides t j) (λ t. cell w sides t j) (λ t q. refl);
+  }
+
+  pub first-under : (n s : ℕ) → Admissible l → n ≡ parityRacks l → s ≡ digits l → s ≤ n
+  first-under n s a en es = rw (en, es) (digits-under l a)
+
+pub times-of : (w q a f : ℕ) (found was mid is : List ℕ) → Run (filled 0) was mid (q * w) w → Run (addedMultiple mid (q * w) found (a * w) f) mid is (q * w) w → RowTimes w q a f found was is
+unfolding filled addedMultiple
+times-of w q a f found was mid is z r = record {
+  long = r .long ∙ z .long;
+  here = λ j h.
+      sym (cell-is w is q j) ∙ ap elem (r .done j h ∙ ap (λ y. y ⊕ getD found (a * w + j) 0 ⊗ f) (z .done j h))
+      ∙ elem-⊕ 0 (getD found (a * w + j) 0 ⊗ f) ∙ ap₂ (ops .add) elem-zero (elem-⊗ (getD found (a * w + j) 0) f) ∙ zero-add ops laws _ ∙ mul-comm ops laws _ _
+      ∙ ap (ops .mul (elem f)) (cell-is w found a j);
+  others = λ x j h d. cell-other _ mid is q w r x j h d ∙ cell-other _ was mid q w z x j h d;
+}
+
+module _ (l : Layout) (h w m : ℕ) (found was : List ℕ) where
+  pub weighed-none : Weighed l h w m 0 found was was
+  weighed-none = record { long = refl; done = λ a j q. absurd (not-suc-le-zero q); kept = λ x j q k. refl }
+
+  pub weighed-more : (a s f p : ℕ) (is new : List ℕ) → s ≡ digits l → elem p ≡ pow ops (point (shapeOf gf256 l) h a 0) m → elem f ≡ ops .inv (elem p) →
+      Weighed l h w m a found was is → RowTimes w (m * s + a) a f found is new → Weighed l h w m (a + 1) found was new
+  weighed-more a s f p is new es ep ef g r = record {
+    long = r .long ∙ g .long;
+    done = λ b j hb hj. go b j hb hj (ℕ-discrete b a);
+    kept = λ x j hx hj. r .others x j hj (λ e. let z = here in omega arith) ∙ g .kept x j hx hj;
+  }
+    where
+      here : m * s + a ≡ m * digits l + a
+      here = ap (λ n. m * n + a) es
+
+      go : (b j : ℕ) → b < a + 1 → j < w → Dec (b ≡ a) → cell w new (m * digits l + b) j ≡ ops .mul (ops .inv (pow ops (point (shapeOf gf256 l) h b 0) m)) (cell w found b j)
+      go b j hb hj (yes e) =
+          subst (λ n. cell w new (m * digits l + n) j ≡ ops .mul (ops .inv (pow ops (point (shapeOf gf256 l) h n 0) m)) (cell w found n j)) (sym e)
+          (ap (λ n. cell w new n j) (sym here) ∙ r .here j hj ∙ ap (λ y. ops .mul y (cell w found a j)) (ef ∙ ap (ops .inv) ep))
+      go b j hb hj (no d) = r .others (m * digits l + b) j hj (λ e. d (let z = here in omega arith)) ∙ g .done b j (omega arith) hj
+
+  pub weighed-end : (a s : ℕ) (is : List ℕ) → Weighed l h w m a found was is → a ≤ s → s ≤ a → s ≡ digits l → Weighed l h w m (digits l) found was is
+  weighed-end a s is g p q e = let t : a ≡ digits l = omega arith in subst (λ n. Weighed l h w m n found was is) t g
 
 -- a row lies within all of them
-pub row-within : (m e n : ℕ) → m < e → m * n + n ≤ e * n
-row-within m e n h = rw (sym (ap (λ y. m * n + y) (one-mul n)), sym (add-mul m 1 n)) (mul-le-mul-right n (omega arith))
+module _ (l : Layout) (h w e m : ℕ) (found sums : List ℕ) (g : Weighing l h w e m found sums) where
+  pub weigh-layout : Admissible l
+  weigh-layout = g .adm
 
--- one weight more
-pub rows-more : (l : Layout) (h p : ℕ) (helpers : List ℕ) → Chosen l h p helpers → (shares : List ℕ) (e m : ℕ) (points sides old new : List ℕ) →
-    Holding (unknownPoint l h p helpers) (parityRacks l) points → Holding (rightSide l h p helpers shares e m) (parityRacks l) sides → Row l h p m points sides (digits l) old new →
-    ((i : ℕ) → i < m * digits l → elem (getD old i 0) ≡ sumsAt l h p helpers shares e i) → (i : ℕ) → i < (m + 1) * digits l → elem (getD new i 0) ≡ sumsAt l h p helpers shares e i
-unfolding sumsAt
-rows-more l h p helpers ch shares e m points sides old new P S r before i hi = go (decLt i (m * digits l))
-  where
-    go : Dec (i < m * digits l) → elem (getD new i 0) ≡ sumsAt l h p helpers shares e i
-    go (yes k) = ap elem (r .kept i k) ∙ before i k
-    go (no k) =
-        let size : (m + 1) * digits l ≡ m * digits l + digits l = add-mul m 1 (digits l) ∙ ap (λ y. m * digits l + y) (one-mul (digits l)) in
-        let b = i - m * digits l in
-        let here : m * digits l + b ≡ i = omega arith in
-        let hb : b < digits l = omega arith in
-        ap (λ y. elem (getD new y 0)) (sym here) ∙ r .done b hb ∙ solved-is l h p helpers ch shares e m points sides P S b hb
-        ∙ sym (ap₂ (sumAt l h p helpers shares e) (digits-div m hb) (digits-mod m hb)) ∙ ap (sumsAt l h p helpers shares e) here
+  pub weigh-host : h < l .racks
+  weigh-host = g .host-in
+
+  pub weigh-under : m ≤ trayLimit
+  weigh-under = let b = bounds l (g .adm) in let f = g .few in let t = g .weight-in in omega arith
+
+  module _ (a s : ℕ) (ha : a < s) (es : s ≡ digits l) where
+    row-number : m * s + a < e * digits l
+    row-number = rw es (cell-in e (digits l) m a (g .weight-in) (rw (sym es) ha))
+
+    row-small : m * s + a < trayLimit
+    row-small = let q = sums-high l (g .adm) e (g .few) in omega (arith, row-number)
+
+    pub row-fits : Fits w32 (m * s)
+    row-fits = record { fits = omega (arith, row-small) }
+
+    pub row-fits-2 : Fits w32 (m * s + a)
+    row-fits-2 = record { fits = omega (arith, row-small) }
+
+    pub row-wide : Fits w64 (m * s + a)
+    row-wide = record { fits = omega (arith, row-small) }
+
+    pub digit-low : a < digits l
+    digit-low = rw (sym es) ha
+
+    pub sums-row : (is : List ℕ) → length is ≡ length sums → (m * s + a) * w + w ≤ length is
+    sums-row is k = rw k (le-trans (row-before (m * s + a) (e * digits l) w row-number) (g .sums-long))
+
+    pub found-row : a * w + w ≤ length found
+    found-row = le-trans (row-before a (parityRacks l) w (let d = digits-under l (g .adm) in omega arith)) (g .found-long)
+
+-- weight after weight
+module _ (l : Layout) (h w first : ℕ) (helpers shares : List ℕ) (e : ℕ) where
+  pub weights-none : (sums : List ℕ) → SumsTo l h w first helpers shares e 0 sums
+  weights-none sums = record { at = λ m a j q. absurd (not-suc-le-zero q) }
+
+  pub weights-more : (m : ℕ) (sides found was is : List ℕ) → Chosen l h helpers → SidesTo l h w first helpers shares e m (l .helpers) sides → FoundSums l h w first helpers sides found →
+      Weighed l h w m (digits l) found was is → SumsTo l h w first helpers shares e m was → SumsTo l h w first helpers shares e (m + 1) is
+  unfolding rightSide
+  weights-more m sides found was is ch s f g t = record { at = λ n a j hn ha hj. go n a j hn ha hj (ℕ-discrete n m) }
+    where
+      sum-is : (a j : ℕ) → a < digits l → j < w → cell w is (m * digits l + a) j ≡ sumAt l h (first + j) helpers shares e m a
+      sum-is a j ha hj =
+          let k : a < parityRacks l = (let d = digits-under l (ch .adm) in omega arith) in
+          g .done a j ha hj
+          ∙ ap (ops .mul (ops .inv (pow ops (point (shapeOf gf256 l) h a 0) m)))
+          (f .at a j ha hj ∙ solve-congr ops (unknownPoint l h (first + j) helpers) (unknownPoint l h (first + j) helpers) a (parityRacks l) k (λ i q. refl)
+          (λ t. cell w sides t j) (rightSide l h (first + j) helpers shares e m) (λ t q. s .at t j q hj))
+          ∙ solved-is l h (first + j) helpers ch shares e m a ha
+
+      go : (n a j : ℕ) → n < m + 1 → a < digits l → j < w → Dec (n ≡ m) → cell w is (n * digits l + a) j ≡ sumAt l h (first + j) helpers shares e n a
+      go n a j hn ha hj (yes q) = subst (λ n. cell w is (n * digits l + a) j ≡ sumAt l h (first + j) helpers shares e n a) (sym q) (sum-is a j ha hj)
+      go n a j hn ha hj (no d) = g .kept (n * digits l + a) j (cell-in m (digits l) n a (omega arith) ha) hj ∙ t .at n a j (omega arith) ha hj
+
+  pub weights-end : (m : ℕ) (sums : List ℕ) → SumsTo l h w first helpers shares e m sums → e ≤ m → BlockSums l h w first helpers shares e sums
+  weights-end m sums g q = record { at = λ n a j hn ha hj. g .at n a j (omega arith) ha hj }
+
+-- ---- places
+module _ (l : Layout) (h w first : ℕ) (helpers shares : List ℕ) (e : ℕ) (sums sides found points coefs row cur : List ℕ)
+    (g : Summing l h w first helpers shares e sums sides found points coefs row cur) where
+  pub space-of : (sides′ row′ : List ℕ) → length sides′ ≡ length sides → length row′ ≡ length row → Workspace l w sides′ found points coefs row′
+  space-of sides′ row′ es er = record {
+    sides-long = rw es (g .room .sides-long);
+    found-long = g .room .found-long;
+    points-long = g .room .points-long;
+    coefs-long = g .room .coefs-long;
+    row-long = rw er (g .room .row-long);
+  }
+
+  pub weight-fits : (m : ℕ) → m < e → Fits w32 (m + 1)
+  weight-fits m h = let b = bounds l (g .received .chosen .adm) in record { fits = omega (arith, g .received .few) }
+
+  pub weighing-of : (m : ℕ) (found′ : List ℕ) → m < e → length found′ ≡ length found → Weighing l h w e m found′ sums
+  weighing-of m found′ hm ef = record {
+    adm = g .received .chosen .adm;
+    host-in = g .received .chosen .host-in;
+    few = g .received .few;
+    weight-in = hm;
+    found-long = rw ef (g .room .found-long);
+    sums-long = g .sums-long;
+  }
+
+  pub summing-next : (sums′ sides′ found′ points′ coefs′ row′ cur′ : List ℕ) → length sums′ ≡ length sums → length sides′ ≡ length sides → length found′ ≡ length found →
+      length points′ ≡ length points → length coefs′ ≡ length coefs → length row′ ≡ length row → length cur′ ≡ length cur →
+      Summing l h w first helpers shares e sums′ sides′ found′ points′ coefs′ row′ cur′
+  summing-next sums′ sides′ found′ points′ coefs′ row′ cur′ e1 e2 e3 e4 e5 e6 e7 = record {
+    received = g .received;
+    block = g .block;
+    sums-long = rw e1 (g .sums-long);
+    room = record {
+      sides-long = rw e2 (g .room .sides-long);
+      found-long = rw e3 (g .room .found-long);
+      points-long = rw e4 (g .room .points-long);
+      coefs-long = rw e5 (g .room .coefs-long);
+      row-long = rw e6 (g .room .row-long);
+    };
+    cur-long = rw e7 (g .cur-long);
+  }

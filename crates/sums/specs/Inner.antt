@@ -1,18 +1,22 @@
--- What the functions of a group's host rack sums are told and give: the systems of its checks. Nothing here has to be believed.
+-- What the functions of the host rack sums of a block of groups are told and give: the systems of its checks, a column for each group. Nothing here has to be
+-- believed.
 -- Assumes nothing.
 use mathlib.Core.Path.{_≡_}
 use mathlib.Core.List.{List}
 use Prim.Native.Nat.{ℕ, _+_, _*_, _/_, _%_, _<_, _≤_}
 use lib.ListN.{length, getD}
 use Rattle.algebra.specs.Sum.{sum, pow}
+use Rattle.algebra.specs.Lagrange.{solve}
+use Rattle.algebra.specs.Points.{point}
 use Rattle.algebra.specs.Layers.{digit, layerOf}
 use Rattle.algebra.specs.Group.{free, groupPoint}
 use Rattle.algebra.specs.Repair.{helperPlace, hostSum}
 use Rattle.symbol.specs.Elem.{Elem, elem, ops, gf256}
+use Rattle.kernel.specs.Runs.{cell}
 use Rattle.layout.specs.declared.Layout.{Layout}
 use Rattle.layout.specs.Layout.{digits, groups, parityRacks, trayLimit, Admissible}
 use Rattle.codeword.specs.Codeword.{shapeOf, pointAt}
-use Rattle.lagrange.specs.Solve.{solvedAt}
+use Rattle.syndrome.specs.Syndrome.{Block}
 use Rattle.rule.specs.Lost.{sentSymbol}
 
 abbrev pub helperAt : List ℕ → ℕ → ℕ
@@ -42,34 +46,25 @@ module _ (l : Layout) (h p : ℕ) where
     sumAt a =
         hostSum (shapeOf gf256 l) h (digit (digits l) (layerOf (digits l) h p 0)) (helperAt helpers) (l .helpers) (parityRacks l) m (sentSymbol gf256 l e shares m p) a
 
-  -- all of them, weight after weight
-  unfoldable pub sumsAt : List ℕ → List ℕ → ℕ → ℕ → Elem
-  sumsAt helpers shares e n = sumAt helpers shares e (n / digits l) (n % digits l)
+-- a host rack and d helpers out of the others
+pub record Chosen (l : Layout) (h : ℕ) (helpers : List ℕ) : Type 0 where
+  pub adm : Admissible l
+  pub host-in : h < l .racks
+  pub many : length helpers ≡ l .helpers
+  pub inside : (k : ℕ) → k < l .helpers → getD helpers k 0 < l .racks
+  pub rising : (k : ℕ) → k + 1 < l .helpers → getD helpers k 0 < getD helpers (k + 1) 0
+  pub other : (k : ℕ) → k < l .helpers → ¬ (getD helpers k 0 ≡ h)
 
-  -- a group of a layout for the host rack h
-  pub record Frame : Type 0 where
-    pub adm : Admissible l
-    pub host-in : h < l .racks
-    pub group-in : p < groups l
+-- the same with their shares for e lost trays
+pub record Received (l : Layout) (h : ℕ) (helpers shares : List ℕ) (e : ℕ) : Type 0 where
+  pub chosen : Chosen l h helpers
+  pub few : e + l .dimension % l .size ≤ l .size
+  pub shares-long : length shares ≡ l .helpers * (e * groups l)
 
-  -- the same with d helpers
-  pub record Chosen (helpers : List ℕ) : Type 0 where
-    pub frame : Frame
-    pub many : length helpers ≡ l .helpers
-    pub inside : (k : ℕ) → k < l .helpers → getD helpers k 0 < l .racks
-    pub rising : (k : ℕ) → k + 1 < l .helpers → getD helpers k 0 < getD helpers (k + 1) 0
-    pub other : (k : ℕ) → k < l .helpers → ¬ (getD helpers k 0 ≡ h)
-
-  -- and with their shares for e lost trays
-  pub record Received (helpers shares : List ℕ) (e : ℕ) : Type 0 where
-    pub chosen : Chosen helpers
-    pub few : e + l .dimension % l .size ≤ l .size
-    pub shares-long : length shares ≡ l .helpers * (e * groups l)
-
-  -- and a weight
-  pub record Sided (helpers shares : List ℕ) (e m : ℕ) : Type 0 where
-    pub received : Received helpers shares e
-    pub weight-in : m < e
+-- w groups from the group `first` on
+pub record Groups (l : Layout) (w first : ℕ) : Type 0 where
+  pub block : Block l w first
+  pub inside : first + w ≤ groups l
 
 -- what `free_place` is told
 pub record Choosing (s h : ℕ) (helpers : List ℕ) (i : ℕ) : Type 0 where
@@ -79,41 +74,111 @@ pub record Choosing (s h : ℕ) (helpers : List ℕ) (i : ℕ) : Type 0 where
   pub inside : (k : ℕ) → k < length helpers → getD helpers k 0 < trayLimit
   pub other : (k : ℕ) → k < length helpers → ¬ (getD helpers k 0 ≡ h)
 
--- a buffer of n symbols that are F
-pub record Holding (F : ℕ → Elem) (n : ℕ) (out : List ℕ) : Type 0 where
-  pub long : length out ≡ n
-  pub are : (i : ℕ) → i < n → elem (getD out i 0) ≡ F i
+-- a row of the points at place 0 of rack i, to the power t
+pub record RackPowers (l : Layout) (h w first i t : ℕ) (row : List ℕ) : Type 0 where
+  pub at : (j : ℕ) → j < w → elem (getD row j 0) ≡ pow ops (pointAt gf256 l (layerOf (digits l) h (first + j) 0) (i * l .size)) t
 
--- what `host_sum` is told
-pub record Weighing (l : Layout) (h p m a : ℕ) (points sides scratch : List ℕ) : Type 0 where
-  pub frame : Frame l h p
-  pub digit-in : a < digits l
-  pub weight-high : m ≤ trayLimit
-  pub points-long : length points ≡ parityRacks l
-  pub sides-long : length sides ≡ parityRacks l
-  pub scratch-long : length scratch ≡ parityRacks l
+-- the right sides of weight m, as far as the helpers below n
+pub record SidesTo (l : Layout) (h w first : ℕ) (helpers shares : List ℕ) (e m n : ℕ) (sides : List ℕ) : Type 0 where
+  pub at : (t j : ℕ) → t < parityRacks l → j < w → cell w sides t j ≡ sum ops n (sideTerm l h (first + j) helpers shares e m t)
 
--- what `fill_sums` is told
-pub record Rowing (l : Layout) (h p m : ℕ) (points sides scratch sums : List ℕ) : Type 0 where
-  pub frame : Frame l h p
-  pub weight-high : m < trayLimit
-  pub row-in : m * digits l + digits l ≤ length sums
-  pub row-high : length sums ≤ trayLimit
-  pub points-long : length points ≡ parityRacks l
-  pub sides-long : length sides ≡ parityRacks l
-  pub scratch-long : length scratch ≡ parityRacks l
+-- helper k's part is added
+pub record ShareAdded (l : Layout) (h w first : ℕ) (helpers shares : List ℕ) (e m k : ℕ) (was is : List ℕ) : Type 0 where
+  pub at : (t j : ℕ) → t < parityRacks l → j < w → cell w is t j ≡ ops .add (cell w was t j) (sideTerm l h (first + j) helpers shares e m t k)
 
--- the first a sums of weight m are written, by a buffer of points and one of right sides
-pub record Row (l : Layout) (h p m : ℕ) (points sides : List ℕ) (a : ℕ) (old new : List ℕ) : Type 0 where
-  pub long : length new ≡ length old
-  pub done : (k : ℕ) → k < a →
-      elem (getD new (m * digits l + k) 0) ≡ ops .mul (ops .inv (pow ops (pointAt gf256 l (layerOf (digits l) h p k) (h * l .size)) m)) (solvedAt points sides k)
-  pub kept : (n : ℕ) → n < m * digits l → getD new n 0 ≡ getD old n 0
+-- helper k's share of weight m, each symbol times the m-th power of the helper's point
+pub record ShareTerms (l : Layout) (h w first : ℕ) (helpers shares : List ℕ) (e m k : ℕ) (cur : List ℕ) : Type 0 where
+  pub at : (j : ℕ) → j < w →
+      elem (getD cur j 0) ≡ ops .mul (pow ops (pointAt gf256 l (layerOf (digits l) h (first + j) 0) (helperAt helpers k * l .size)) m) (sentSymbol gf256 l e shares m (first + j) k)
 
--- what `some_sums` is told
-pub record Gathering (l : Layout) (h p : ℕ) (helpers shares : List ℕ) (e : ℕ) (points sides scratch sums : List ℕ) : Type 0 where
-  pub received : Received l h p helpers shares e
-  pub points-are : Holding (unknownPoint l h p helpers) (parityRacks l) points
-  pub sides-long : length sides ≡ parityRacks l
-  pub scratch-long : length scratch ≡ parityRacks l
-  pub sums-long : length sums ≡ e * digits l
+-- what `share_terms` and `add_share` are told
+pub record Sharing (l : Layout) (h w first : ℕ) (helpers shares : List ℕ) (e m k : ℕ) (cur row : List ℕ) : Type 0 where
+  pub received : Received l h helpers shares e
+  pub block : Groups l w first
+  pub weight-in : m < e
+  pub helper-in : k < l .helpers
+  pub cur-long : w ≤ length cur
+  pub row-long : w ≤ length row
+
+-- what `block_sides` is told
+pub record Sided (l : Layout) (h w first : ℕ) (helpers shares : List ℕ) (e m : ℕ) (sides cur row : List ℕ) : Type 0 where
+  pub received : Received l h helpers shares e
+  pub block : Groups l w first
+  pub weight-in : m < e
+  pub sides-long : parityRacks l * w ≤ length sides
+  pub cur-long : w ≤ length cur
+  pub row-long : w ≤ length row
+
+-- v columns that stand for runs of so many groups with the same points
+pub record Cycle (l : Layout) (h w first : ℕ) (helpers : List ℕ) (v run : ℕ) : Type 0 where
+  pub columns-low : 0 < v
+  pub run-low : 0 < run
+  pub width : w ≡ v * run
+  pub alike : (i j : ℕ) → i < parityRacks l → j < w → unknownPoint l h (first + j / run % v * run) helpers i ≡ unknownPoint l h (first + j) helpers i
+
+-- what `unknown_row` and `unknown_points` are told
+pub record Pointed (l : Layout) (h w first : ℕ) (helpers : List ℕ) (v run : ℕ) (points row : List ℕ) : Type 0 where
+  pub chosen : Chosen l h helpers
+  pub block : Groups l w first
+  pub run-low : 0 < run
+  pub width : w ≡ v * run
+  pub points-long : parityRacks l * v ≤ length points
+  pub row-long : w ≤ length row
+
+-- the points of the unknowns below n
+pub record PointsTo (l : Layout) (h first : ℕ) (helpers : List ℕ) (v run n : ℕ) (points : List ℕ) : Type 0 where
+  pub at : (i c : ℕ) → i < n → c < v → cell v points i c ≡ unknownPoint l h (first + c * run) helpers i
+
+-- those of unknown i are written, the others are as they were
+pub record PointRow (l : Layout) (h first : ℕ) (helpers : List ℕ) (v run i : ℕ) (was is : List ℕ) : Type 0 where
+  pub here : (c : ℕ) → c < v → cell v is i c ≡ unknownPoint l h (first + c * run) helpers i
+  pub others : (x c : ℕ) → c < v → ¬ (x ≡ i) → cell v is x c ≡ cell v was x c
+
+-- room for the R checks of a block, and for as many rows more
+pub record Workspace (l : Layout) (w : ℕ) (sides found points coefs row : List ℕ) : Type 0 where
+  pub sides-long : parityRacks l * w ≤ length sides
+  pub found-long : parityRacks l * w ≤ length found
+  pub points-long : parityRacks l * w ≤ length points
+  pub coefs-long : parityRacks l * w ≤ length coefs
+  pub row-long : w ≤ length row
+
+-- the host's unknowns that make up for the right sides
+pub record FoundSums (l : Layout) (h w first : ℕ) (helpers sides found : List ℕ) : Type 0 where
+  pub at : (i j : ℕ) → i < digits l → j < w → cell w found i j ≡ solve ops (unknownPoint l h (first + j) helpers) (parityRacks l) (λ t. cell w sides t j) i
+
+-- row q is row a of what was found, times f; the others are as they were
+pub record RowTimes (w q a f : ℕ) (found was is : List ℕ) : Type 0 where
+  pub long : length is ≡ length was
+  pub here : (j : ℕ) → j < w → cell w is q j ≡ ops .mul (elem f) (cell w found a j)
+  pub others : (x j : ℕ) → j < w → ¬ (x ≡ q) → cell w is x j ≡ cell w was x j
+
+-- what `weigh_sums` is told
+pub record Weighing (l : Layout) (h w e m : ℕ) (found sums : List ℕ) : Type 0 where
+  pub adm : Admissible l
+  pub host-in : h < l .racks
+  pub few : e + l .dimension % l .size ≤ l .size
+  pub weight-in : m < e
+  pub found-long : parityRacks l * w ≤ length found
+  pub sums-long : e * digits l * w ≤ length sums
+
+-- the host's sums of weight m and of the digits below n are written, by what was found; those of the weights below are as they were
+pub record Weighed (l : Layout) (h w m n : ℕ) (found was is : List ℕ) : Type 0 where
+  pub long : length is ≡ length was
+  pub done : (a j : ℕ) → a < n → j < w → cell w is (m * digits l + a) j ≡ ops .mul (ops .inv (pow ops (point (shapeOf gf256 l) h a 0) m)) (cell w found a j)
+  pub kept : (x j : ℕ) → x < m * digits l → j < w → cell w is x j ≡ cell w was x j
+
+-- a block's host sums of the weights below n: row m·s + a has those of weight m in the layers of digit a, a column for each group
+pub record SumsTo (l : Layout) (h w first : ℕ) (helpers shares : List ℕ) (e n : ℕ) (sums : List ℕ) : Type 0 where
+  pub at : (m a j : ℕ) → m < n → a < digits l → j < w → cell w sums (m * digits l + a) j ≡ sumAt l h (first + j) helpers shares e m a
+
+-- those of all weights
+pub record BlockSums (l : Layout) (h w first : ℕ) (helpers shares : List ℕ) (e : ℕ) (sums : List ℕ) : Type 0 where
+  pub at : (m a j : ℕ) → m < e → a < digits l → j < w → cell w sums (m * digits l + a) j ≡ sumAt l h (first + j) helpers shares e m a
+
+-- what `weight_sums` and `block_sums` are told
+pub record Summing (l : Layout) (h w first : ℕ) (helpers shares : List ℕ) (e : ℕ) (sums sides found points coefs row cur : List ℕ) : Type 0 where
+  pub received : Received l h helpers shares e
+  pub block : Groups l w first
+  pub sums-long : e * digits l * w ≤ length sums
+  pub room : Workspace l w sides found points coefs row
+  pub cur-long : w ≤ length cur

@@ -1,22 +1,25 @@
-// The host rack sums of one group of a repair of e lost trays. For each weight m below e the R checks t = u·w + m summed over the group are one system for the
-// s host rack sums and the group sums of the racks that are neither host nor helper, solved by the one solver. Promises these sums, weight after weight.
+// The host rack sums of a block of groups in a repair of e lost trays. For each weight m below e the R checks t = u·w + m summed over a group are one system
+// for the s host rack sums and the group sums of the racks that are neither host nor helper; crate columns solves the systems of all groups of the block at
+// a time. Promises these sums, weight after weight.
 use layout::Layout;
 use symbol::Symbol;
 ghost use mathlib.Core.Path.{_≡_};
 ghost use Prim.Native.Nat.{_+_, _-_, _*_, _<_, _≤_};
 ghost use lib.ListN.{length};
 ghost use Rattle.algebra.specs.Sum.{pow};
-ghost use Rattle.algebra.specs.Layers.{layerOf};
+ghost use Rattle.algebra.specs.Points.{point};
 ghost use Rattle.algebra.specs.Group.{skip, unskip, free};
 ghost use Rattle.algebra.specs.Repair.{helperPlace};
 ghost use Rattle.symbol.specs.Elem.{elem, ops, gf256};
+ghost use Rattle.kernel.specs.Runs.{Inverses};
 ghost use Rattle.layout.specs.Layout.{digits, parityRacks, trayLimit, Admissible};
-ghost use Rattle.codeword.specs.Codeword.{pointAt};
-ghost use Rattle.lagrange.specs.Solve.{solvedAt};
-ghost use Rattle.sums.specs.Inner.{helperAt, placePoint, unknownPoint, sideTerm, rightSide, sumsAt, Choosing, Frame, Chosen, Received, Sided, Holding, Weighing, Rowing, Row, Gathering};
+ghost use Rattle.codeword.specs.Codeword.{shapeOf};
+ghost use Rattle.syndrome.specs.Syndrome.{Block};
+ghost use Rattle.sums.specs.Inner.{helperAt, Choosing, Chosen, Groups, RackPowers, Sharing, ShareTerms, Sided, ShareAdded, SidesTo, Pointed, PointRow, PointsTo, Cycle};
+ghost use Rattle.sums.specs.Inner.{Workspace, FoundSums, RowTimes, Weighing, Weighed, Summing, SumsTo, BlockSums};
 
-// R, the number of unknowns.
-fn unknown_count(l: Layout) -> u32
+// R, the number of unknowns of a group.
+pub fn unknown_count(l: Layout) -> u32
     requires { ⌜ Admissible l ⌝ }
     ensures { λ r. ⌜ r ≡ parityRacks l ⌝ }
 {
@@ -34,15 +37,23 @@ fn skipped(q: u32, x: u32) -> u32
     x + 1
 }
 
-// Where the word of a group has the sum of rack i, which is not the host h.
+// The digit of a group's number that is rack i's own, which is not the host h.
+fn group_digit(h: u32, i: u32) -> u32
+    requires { ⌜ ¬ (i ≡ h) ⌝ }
+    ensures { λ r. ⌜ r ≡ unskip h i ⌝ }
+{
+    if i < h {
+        return i;
+    }
+    i - 1
+}
+
+// Where the word of a group has the sum of rack i.
 fn rack_place(s: u32, h: u32, i: u32) -> u32
     requires { ⌜ (s ≤ trayLimit) × (i < trayLimit) × ¬ (i ≡ h) ⌝ }
     ensures { λ r. ⌜ r ≡ s + unskip h i ⌝ }
 {
-    if i < h {
-        return s + i;
-    }
-    s + i - 1
+    s + group_digit(h, i)
 }
 
 // The place of unknown i in the word of a group: the i-th that is no helper's.
@@ -60,187 +71,336 @@ fn free_place(s: u32, h: u32, helpers: &[u32], i: u32) -> u32
     x
 }
 
-// The point of place x in the word of group p: the host's for digit x, or that of another rack.
-fn point_at(l: Layout, h: u32, p: u32, x: u32) -> Symbol
-    requires { ⌜ Frame l h p × (x < digits l + (l .racks - 1)) ⌝ }
-    ensures { λ r. ⌜ elem (r .0) ≡ placePoint l h p x ⌝ }
+// The point at place 0 of rack i for its digit a, to the power t.
+fn digit_point(l: Layout, i: u32, a: u32, t: u32) -> Symbol
+    requires { ⌜ Admissible l × (i < l .racks) × (a < digits l) × (t ≤ trayLimit) ⌝ }
+    ensures { λ r. ⌜ elem (r .0) ≡ pow ops (point (shapeOf gf256 l) i a 0) t ⌝ }
+{
+    let s = layout::digit_count(l);
+    Symbol::root_power(((i * s + a) * t) as usize)
+}
+
+// The points at place 0 of rack i to the power t, one for each group of a block.
+fn rack_powers(row: &mut [u8], l: Layout, h: u32, w: usize, first: usize, i: u32, t: u32)
+    requires { ⌜ Block l w first × (h < l .racks) × (i < l .racks) × ¬ (i ≡ h) × (t ≤ trayLimit) × (w ≤ length (now row)) ⌝ }
+    ensures { λ _. ⌜ RackPowers l h w first i t (now (row .exit)) ⌝ }
+{
+    let start = digit_point(l, i, 0, t);
+    let z = Symbol::root_power(t as usize);
+    let at = group_digit(h, i);
+    syndrome::digit_powers(row, l, w, first, at, start.0, z.0);
+}
+
+// Helper k's share of weight m in a block, each symbol times the m-th power of the helper's point, which is 1 where m is 0.
+fn share_terms(
+    cur: &mut [u8],
+    l: Layout,
+    h: u32,
+    w: usize,
+    first: usize,
+    helpers: &[u32],
+    shares: &[u8],
+    e: u32,
+    m: u32,
+    k: usize,
+    row: &mut [u8],
+)
+    requires { ⌜ Sharing l h w first (now helpers) (now shares) e m k (now cur) (now row) ⌝ }
+    ensures { λ _. ⌜ ShareTerms l h w first (now (helpers .entry)) (now (shares .entry)) e m k (now (cur .exit)) ⌝ }
+{
+    let at = codeword::cell(layout::group_count(l), k as u32 * e + m, first as u32);
+    if m == 0 {
+        kernel::copy(cur, 0, w, shares, at);
+        return;
+    }
+    rack_powers(row, l, h, w, first, helpers[k], m);
+    kernel::fill(cur, 0, w, 0);
+    kernel::add_product(cur, 0, w, shares, at, row, 0);
+}
+
+// Adds helper k's part to the right sides of weight m.
+fn add_share(
+    sides: &mut [u8],
+    l: Layout,
+    h: u32,
+    w: usize,
+    first: usize,
+    helpers: &[u32],
+    shares: &[u8],
+    e: u32,
+    m: u32,
+    k: usize,
+    cur: &mut [u8],
+    row: &mut [u8],
+)
+    requires { ⌜ Sharing l h w first (now helpers) (now shares) e m k (now cur) (now row) × (parityRacks l * w ≤ length (now sides)) ⌝ }
+    ensures { λ _. ⌜ ShareAdded l h w first (now (helpers .entry)) (now (shares .entry)) e m k (now (sides .entry)) (now (sides .exit)) ⌝ }
+{
+    let u = l.size;
+    let r = unknown_count(l) as usize;
+    share_terms(cur, l, h, w, first, helpers, shares, e, m, k, row);
+    rack_powers(row, l, h, w, first, helpers[k], u);
+    syndrome::add_terms(sides, w, r, cur, row);
+}
+
+// The right sides of weight m.
+fn block_sides(
+    sides: &mut [u8],
+    l: Layout,
+    h: u32,
+    w: usize,
+    first: usize,
+    helpers: &[u32],
+    shares: &[u8],
+    e: u32,
+    m: u32,
+    cur: &mut [u8],
+    row: &mut [u8],
+)
+    requires { ⌜ Sided l h w first (now helpers) (now shares) e m (now sides) (now cur) (now row) ⌝ }
+    ensures { λ _. ⌜ SidesTo l h w first (now (helpers .entry)) (now (shares .entry)) e m (l .helpers) (now (sides .exit)) ⌝ }
+{
+    kernel::fill(sides, 0, unknown_count(l) as usize * w, 0);
+    let mut k = 0usize;
+    while k < helpers.len() {
+        add_share(sides, l, h, w, first, helpers, shares, e, m, k, cur, row);
+        k += 1;
+    }
+}
+
+// The points of unknown i: the host's for a digit, or those of another rack.
+fn unknown_row(
+    points: &mut [u8],
+    l: Layout,
+    h: u32,
+    w: usize,
+    first: usize,
+    helpers: &[u32],
+    v: usize,
+    run: usize,
+    i: usize,
+    row: &mut [u8],
+)
+    requires { ⌜ Pointed l h w first (now helpers) v run (now points) (now row) × (i < parityRacks l) ⌝ }
+    ensures { λ _. ⌜ PointRow l h first (now (helpers .entry)) v run i (now (points .entry)) (now (points .exit)) ⌝ }
 {
     let u = l.size;
     let s = layout::digit_count(l);
+    let x = free_place(s, h, helpers, i as u32);
     if x < s {
-        return codeword::point_power(l, h * u, layout::layer_of(l, h, p, x), u);
+        let p = digit_point(l, h, x, u);
+        kernel::fill(points, i * v, v, p.0);
+        return;
     }
-    let i = skipped(h, x - s);
-    codeword::point_power(l, i * u, layout::layer_of(l, h, p, 0), u)
+    rack_powers(row, l, h, w, first, skipped(h, x - s), u);
+    kernel::sample(points, i * v, v, row, run);
 }
 
-// Writes the points of the unknowns.
-fn fill_points(l: Layout, h: u32, helpers: &[u32], p: u32, out: &mut [u8])
-    requires { ⌜ Chosen l h p (now helpers) × (length (now out) ≡ parityRacks l) ⌝ }
-    ensures { λ _. ⌜ Holding (unknownPoint l h p (now (helpers .entry))) (parityRacks l) (now (out .exit)) ⌝ }
+// The points of all unknowns.
+fn unknown_points(
+    points: &mut [u8],
+    l: Layout,
+    h: u32,
+    w: usize,
+    first: usize,
+    helpers: &[u32],
+    v: usize,
+    run: usize,
+    row: &mut [u8],
+)
+    requires { ⌜ Pointed l h w first (now helpers) v run (now points) (now row) ⌝ }
+    ensures { λ _. ⌜ PointsTo l h first (now (helpers .entry)) v run (parityRacks l) (now (points .exit)) ⌝ }
 {
-    let s = layout::digit_count(l);
+    let n = unknown_count(l) as usize;
     let mut i = 0usize;
-    while i < out.len() {
-        let x = free_place(s, h, helpers, i as u32);
-        out[i] = point_at(l, h, p, x).0;
+    while i < n {
+        unknown_row(points, l, h, w, first, helpers, v, run, i, row);
         i += 1;
     }
 }
 
-// Helper k's part in the check t = u·w + m summed over the group.
-fn side_term(
+// The host's unknowns of every group, which come first, by so many columns.
+fn solve_columns(
+    found: &mut [u8],
     l: Layout,
     h: u32,
+    w: usize,
+    first: usize,
     helpers: &[u32],
-    shares: &[u8],
-    e: u32,
-    m: u32,
-    p: u32,
-    w: u32,
-    k: usize,
-) -> Symbol
-    requires { ⌜ Sided l h p (now helpers) (now shares) e m × (w < parityRacks l) × (k < l .helpers) ⌝ }
-    ensures { λ r. ⌜ elem (r .0) ≡ sideTerm l h p (now (helpers .entry)) (now (shares .entry)) e m w k ⌝ }
-{
-    let u = l.size;
-    let at = codeword::cell(layout::group_count(l), k as u32 * e + m, p);
-    let point = codeword::point_power(l, helpers[k] * u, layout::layer_of(l, h, p, 0), u * w + m);
-    point.mul(Symbol(shares[at]))
-}
-
-// The right side of the check t = u·w + m.
-fn right_side(
-    l: Layout,
-    h: u32,
-    helpers: &[u32],
-    shares: &[u8],
-    e: u32,
-    m: u32,
-    p: u32,
-    w: u32,
-) -> Symbol
-    requires { ⌜ Sided l h p (now helpers) (now shares) e m × (w < parityRacks l) ⌝ }
-    ensures { λ r. ⌜ elem (r .0) ≡ rightSide l h p (now (helpers .entry)) (now (shares .entry)) e m w ⌝ }
-{
-    let mut sum = Symbol(0);
-    let mut k = 0usize;
-    while k < helpers.len() {
-        sum = sum.add(side_term(l, h, helpers, shares, e, m, p, w, k));
-        k += 1;
-    }
-    sum
-}
-
-// Writes the right sides of weight m.
-fn fill_sides(
-    l: Layout,
-    h: u32,
-    helpers: &[u32],
-    shares: &[u8],
-    e: u32,
-    m: u32,
-    p: u32,
-    out: &mut [u8],
-)
-    requires { ⌜ Sided l h p (now helpers) (now shares) e m × (length (now out) ≡ parityRacks l) ⌝ }
-    ensures { λ _. ⌜ Holding (rightSide l h p (now (helpers .entry)) (now (shares .entry)) e m) (parityRacks l) (now (out .exit)) ⌝ }
-{
-    let mut w = 0usize;
-    while w < out.len() {
-        out[w] = right_side(l, h, helpers, shares, e, m, p, w as u32).0;
-        w += 1;
-    }
-}
-
-// The host's rack sum of weight m in the group's layer of digit a, by the group's points and the right sides of weight m.
-fn host_sum(
-    l: Layout,
-    h: u32,
-    p: u32,
-    m: u32,
-    a: u32,
-    points: &[u8],
+    v: usize,
+    run: usize,
     sides: &[u8],
-    scratch: &mut [u8],
-) -> Symbol
-    requires { ⌜ Weighing l h p m a (now points) (now sides) (now scratch) ⌝ }
-    ensures { λ r. ⌜ elem (r .0) ≡ ops .mul (ops .inv (pow ops (pointAt gf256 l (layerOf (digits l) h p a) (h * l .size)) m)) (solvedAt (now (points .entry)) (now (sides .entry)) a) ⌝ }
+    points: &mut [u8],
+    coefs: &mut [u8],
+    row: &mut [u8],
+    table: &[u8],
+)
+    requires { ⌜ Chosen l h (now helpers) × Groups l w first × Cycle l h w first (now helpers) v run × Workspace l w (now sides) (now found) (now points) (now coefs) (now row) × Inverses (now table) ⌝ }
+    ensures { λ _. ⌜ FoundSums l h w first (now (helpers .entry)) (now (sides .entry)) (now (found .exit)) ⌝ }
 {
-    let u = l.size;
-    let j = layout::layer_of(l, h, p, a);
-    let factor = codeword::point_power(l, h * u, j, m).inverse();
-    factor.mul(lagrange::solve_one(points, sides, a as usize, scratch))
+    let n = unknown_count(l) as usize;
+    let s = layout::digit_count(l) as usize;
+    unknown_points(points, l, h, w, first, helpers, v, run, row);
+    columns::solve_first(found, w, v, run, 1, n, s, sides, points, coefs, row, table);
 }
 
-// Writes the host's rack sums of weight m, after those of the weights below.
-fn fill_sums(
+// The host's unknowns of every group. Where every other rack helps, there are no others, and their points are alike in all groups.
+fn solve_sides(
+    found: &mut [u8],
     l: Layout,
     h: u32,
-    p: u32,
-    m: u32,
-    points: &[u8],
+    w: usize,
+    first: usize,
+    helpers: &[u32],
     sides: &[u8],
-    scratch: &mut [u8],
-    sums: &mut [u8],
+    points: &mut [u8],
+    coefs: &mut [u8],
+    row: &mut [u8],
+    table: &[u8],
 )
-    requires { ⌜ Rowing l h p m (now points) (now sides) (now scratch) (now sums) ⌝ }
-    ensures { λ _. ⌜ Row l h p m (now (points .entry)) (now (sides .entry)) (digits l) (now (sums .entry)) (now (sums .exit)) ⌝ }
+    requires { ⌜ Chosen l h (now helpers) × Groups l w first × Workspace l w (now sides) (now found) (now points) (now coefs) (now row) × Inverses (now table) ⌝ }
+    ensures { λ _. ⌜ FoundSums l h w first (now (helpers .entry)) (now (sides .entry)) (now (found .exit)) ⌝ }
+{
+    let b = l.racks;
+    let d = l.helpers;
+    if d + 1 == b {
+        solve_columns(
+            found,
+            l,
+            h,
+            w,
+            first,
+            helpers,
+            1,
+            w,
+            sides,
+            points,
+            coefs,
+            row,
+            table,
+        );
+        return;
+    }
+    solve_columns(
+        found,
+        l,
+        h,
+        w,
+        first,
+        helpers,
+        w,
+        1,
+        sides,
+        points,
+        coefs,
+        row,
+        table,
+    );
+}
+
+// Row q of the sums: row a of what was found, times f.
+fn times_row(sums: &mut [u8], w: usize, q: usize, found: &[u8], a: usize, f: u8)
+    requires { ⌜ (q * w + w ≤ length (now sums)) × (a * w + w ≤ length (now found)) ⌝ }
+    ensures { λ _. ⌜ RowTimes w q a f (now (found .entry)) (now (sums .entry)) (now (sums .exit)) ⌝ }
+{
+    kernel::fill(sums, q * w, w, 0);
+    kernel::add_multiple(sums, q * w, w, found, a * w, f);
+}
+
+// The host's sums of weight m, by what was found.
+fn weigh_sums(sums: &mut [u8], l: Layout, h: u32, w: usize, e: u32, m: u32, found: &[u8])
+    requires { ⌜ Weighing l h w e m (now found) (now sums) ⌝ }
+    ensures { λ _. ⌜ Weighed l h w m (digits l) (now (found .entry)) (now (sums .entry)) (now (sums .exit)) ⌝ }
 {
     let s = layout::digit_count(l);
     let mut a = 0u32;
     while a < s {
-        let at = m * s + a;
-        let sum = host_sum(l, h, p, m, a, points, sides, scratch);
-        sums[at as usize] = sum.0;
+        let f = digit_point(l, h, a, m).inverse();
+        times_row(sums, w, (m * s + a) as usize, found, a as usize, f.0);
         a += 1;
     }
 }
 
-// Writes the host's rack sums of every weight, by the group's points.
-fn some_sums(
+// The host's sums of weight m, after those of the weights below.
+fn weight_sums(
+    sums: &mut [u8],
     l: Layout,
     h: u32,
+    w: usize,
+    first: usize,
     helpers: &[u32],
     shares: &[u8],
     e: u32,
-    p: u32,
-    points: &[u8],
+    m: u32,
     sides: &mut [u8],
-    scratch: &mut [u8],
-    sums: &mut [u8],
+    found: &mut [u8],
+    points: &mut [u8],
+    coefs: &mut [u8],
+    row: &mut [u8],
+    cur: &mut [u8],
+    table: &[u8],
 )
-    requires { ⌜ Gathering l h p (now helpers) (now shares) e (now points) (now sides) (now scratch) (now sums) ⌝ }
-    ensures { λ _. ⌜ Holding (sumsAt l h p (now (helpers .entry)) (now (shares .entry)) e) (e * digits l) (now (sums .exit)) ⌝ }
+    requires { ⌜ Summing l h w first (now helpers) (now shares) e (now sums) (now sides) (now found) (now points) (now coefs) (now row) (now cur) × (m < e) × SumsTo l h w first (now helpers) (now shares) e m (now sums) × Inverses (now table) ⌝ }
+    ensures { λ _. ⌜ SumsTo l h w first (now (helpers .entry)) (now (shares .entry)) e (m + 1) (now (sums .exit)) ⌝ }
+{
+    block_sides(sides, l, h, w, first, helpers, shares, e, m, cur, row);
+    solve_sides(
+        found,
+        l,
+        h,
+        w,
+        first,
+        helpers,
+        sides,
+        points,
+        coefs,
+        row,
+        table,
+    );
+    weigh_sums(sums, l, h, w, e, m, found);
+}
+
+// The host's rack sums of every weight. `table` has the inverses of all symbols; the other buffers after `e` are room.
+pub fn block_sums(
+    sums: &mut [u8],
+    l: Layout,
+    h: u32,
+    w: usize,
+    first: usize,
+    helpers: &[u32],
+    shares: &[u8],
+    e: u32,
+    sides: &mut [u8],
+    found: &mut [u8],
+    points: &mut [u8],
+    coefs: &mut [u8],
+    row: &mut [u8],
+    cur: &mut [u8],
+    table: &[u8],
+)
+    requires { ⌜ Summing l h w first (now helpers) (now shares) e (now sums) (now sides) (now found) (now points) (now coefs) (now row) (now cur) × Inverses (now table) ⌝ }
+    ensures { λ _. ⌜ BlockSums l h w first (now (helpers .entry)) (now (shares .entry)) e (now (sums .exit)) ⌝ }
 {
     let mut m = 0u32;
     while m < e {
-        fill_sides(l, h, helpers, shares, e, m, p, sides);
-        fill_sums(l, h, p, m, points, sides, scratch, sums);
+        weight_sums(
+            sums,
+            l,
+            h,
+            w,
+            first,
+            helpers,
+            shares,
+            e,
+            m,
+            sides,
+            found,
+            points,
+            coefs,
+            row,
+            cur,
+            table,
+        );
         m += 1;
     }
-}
-
-// Writes the host's rack sums of every weight.
-pub fn find_sums(l: Layout, h: u32, helpers: &[u32], shares: &[u8], e: u32, p: u32, sums: &mut [u8])
-    requires { ⌜ Received l h p (now helpers) (now shares) e × (length (now sums) ≡ e * digits l) ⌝ }
-    ensures { λ _. ⌜ Holding (sumsAt l h p (now (helpers .entry)) (now (shares .entry)) e) (e * digits l) (now (sums .exit)) ⌝ }
-{
-    let mut points = [0u8; layout::TRAYS as usize];
-    let mut sides = [0u8; layout::TRAYS as usize];
-    let mut scratch = [0u8; layout::TRAYS as usize];
-    let n = unknown_count(l) as usize;
-    fill_points(l, h, helpers, p, &mut points[..n]);
-    some_sums(
-        l,
-        h,
-        helpers,
-        shares,
-        e,
-        p,
-        &points[..n],
-        &mut sides[..n],
-        &mut scratch[..n],
-        sums,
-    );
 }

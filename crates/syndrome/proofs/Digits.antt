@@ -2,7 +2,7 @@
 -- Assumes nothing.
 use mathlib.Core.Path.{_≡_, refl, sym, ap, ap₂, _∙_, subst}
 use Prim.Native.Nat.{ℕ, suc, _+_, _-_, _*_, _/_, _%_, _^_, _<_, _≤_, min}
-use native.Mathlib.Nat.{mul-comm, mul-assoc, pow-zero, pow-suc, pow-le-pow-right, div-div-eq-div-mul, mul-div-cancel, zero-div, zero-mod, mul-pos, min-eq-left, add-mul-div-left, add-mul-mod-self-left, div-lt-iff-lt-mul, div-mul-le-self, div-add-mod', mod-lt, le-mul-of-pos-right}
+use native.Mathlib.Nat.{mul-comm, mul-assoc, mul-one, pow-zero, pow-suc, pow-le-pow-right, div-div-eq-div-mul, mul-div-cancel, zero-div, zero-mod, mul-pos, min-eq-left, add-mul-div-left, add-mul-mod-self-left, div-lt-iff-lt-mul, div-mul-le-self, div-add-mod', mod-lt, le-mul-of-pos-right}
 use native.Mathlib.Numerals.{add-one}
 use native.Mathlib.Decide.{decLe}
 use native.Mathlib.Omega.{arith}
@@ -21,11 +21,11 @@ use Rattle.algebra.proofs.Layers.{power-pos}
 use Rattle.symbol.specs.Elem.{Elem, ops, z, gf256}
 use Rattle.symbol.proofs.Elem.{laws}
 use Rattle.layout.specs.declared.Layout.{Layout}
-use Rattle.layout.specs.Layout.{trays, digits, layers, layerLimit, Admissible}
+use Rattle.layout.specs.Layout.{trays, checks, digits, layers, trayLimit, layerLimit, Admissible}
 use Rattle.layout.proofs.Facts.{bounds, rack-in, power-in}
 use Rattle.layout.proofs.Numbers.{digits-small}
 use Rattle.codeword.specs.Codeword.{pointAt}
-use Rattle.syndrome.specs.Syndrome.{blockLimit, Block}
+use Rattle.syndrome.specs.Syndrome.{blockLimit, roomLimit, Block}
 
 -- powers one after another
 pub power-next : (s e w : ℕ) → w ≡ s ^ e → w * s ≡ s ^ (e + 1)
@@ -39,6 +39,16 @@ block-fits l w s a e h = let d = digits-small l a in record { fits = mul-below b
 
 pub block-power : (l : Layout) (w s e : ℕ) → s ≡ digits l → w ≡ s ^ e → w ≤ blockLimit → digits l ^ e ≤ blockLimit
 block-power l w s e es ew h = subst (λ y. y ≤ blockLimit) (ew ∙ ap (λ y. y ^ e) es) h
+
+-- and so many rows of it
+pub rows-one : (l : Layout) (r : ℕ) → Admissible l → r ≡ checks l → r * 1 ≤ roomLimit
+rows-one l r a e = let t = a .trays-high in omega (arith, mul-one r)
+
+pub rows-fits : (l : Layout) (r w : ℕ) → Admissible l → r ≡ checks l → w ≤ blockLimit → Fits w64 (r * w)
+rows-fits l r w a e h = let t = a .trays-high in record { fits = mul-below trayLimit blockLimit (omega arith) h tt }
+
+pub rows-power : (l : Layout) (w s e r : ℕ) → s ≡ digits l → w ≡ s ^ e → r ≡ checks l → r * w ≤ roomLimit → checks l * digits l ^ e ≤ roomLimit
+rows-power l w s e r es ew er h = subst (λ y. y ≤ roomLimit) (ap₂ _*_ er (ew ∙ ap (λ y. y ^ e) es)) h
 
 -- digit i hangs on what is left after the lowest a digits, where a ≤ i
 pub digit-same : (s j k i a : ℕ) → a ≤ i → j / s ^ a ≡ k / s ^ a → digit s j i ≡ digit s k i
@@ -112,74 +122,73 @@ module _ (l : Layout) where
 pub same-block : (w q j : ℕ) → j < w → (q * w + j) / w ≡ q * w / w
 same-block w q j h = digits-div q h ∙ sym (mul-div-cancel q (let p : 0 < w = omega arith in p))
 
-module _ (l : Layout) (w first : ℕ) (b : Block l w first) (x : ℕ) where
-  -- the digit of a high rack stays
-  pub point-stays : ¬ (digits l ^ (x / l .size) < w) → (j : ℕ) → j < w →
-      pointAt gf256 l (first + j) x ≡ pointAt gf256 l first x
-  point-stays h j k = go (decLe (b .power) (x / l .size))
+module _ (l : Layout) (w first : ℕ) (b : Block l w first) (i : ℕ) where
+  -- a high digit stays
+  pub digit-stays : ¬ (digits l ^ i < w) → (j : ℕ) → j < w → digit (digits l) (first + j) i ≡ digit (digits l) first i
+  digit-stays h j k = go (decLe (b .power) i)
     where
       quotients : (first + j) / w ≡ first / w
       quotients = subst (λ f. (f + j) / w ≡ f / w) (sym (b .first-is)) (same-block w (b .number) j k)
 
-      go : Dec (b .power ≤ x / l .size) → pointAt gf256 l (first + j) x ≡ pointAt gf256 l first x
-      go (yes le) = point-run l (b .adm) x (first + j) first (b .power) w (b .width) le quotients
-      go (no gt) = point-run l (b .adm) x (first + j) first (x / l .size) w same (omega arith) quotients
+      go : Dec (b .power ≤ i) → digit (digits l) (first + j) i ≡ digit (digits l) first i
+      go (yes le) = digit-same (digits l) (first + j) first i (b .power) le (subst (λ y. (first + j) / y ≡ first / y) (b .width) quotients)
+      go (no gt) = digit-same (digits l) (first + j) first i i (omega arith) (subst (λ y. (first + j) / y ≡ first / y) same quotients)
         where
-          up : digits l ^ (x / l .size) ≤ digits l ^ b .power
+          up : digits l ^ i ≤ digits l ^ b .power
           up = pow-le-pow-right (bounds l (b .adm) .digits-low) (omega arith)
 
-          same : w ≡ digits l ^ (x / l .size)
+          same : w ≡ digits l ^ i
           same = let e = b .width in let u = up in omega arith
 
-  module _ (h : digits l ^ (x / l .size) < w) where
-    low : x / l .size < b .power
-    low = go (decLe (b .power) (x / l .size))
+  module _ (h : digits l ^ i < w) where
+    low : i < b .power
+    low = go (decLe (b .power) i)
       where
-        go : Dec (b .power ≤ x / l .size) → x / l .size < b .power
+        go : Dec (b .power ≤ i) → i < b .power
         go (yes le) = absurd (let e = pow-le-pow-right (bounds l (b .adm) .digits-low) le in let q = b .width in omega arith)
         go (no gt) = omega arith
 
-    period-pos : 0 < digits l * digits l ^ (x / l .size)
-    period-pos = mul-pos (bounds l (b .adm) .digits-low) (run-pos l (b .adm) (x / l .size))
+    period-pos : 0 < digits l * digits l ^ i
+    period-pos = mul-pos (bounds l (b .adm) .digits-low) (run-pos l (b .adm) i)
 
     -- the block is whole periods of a low rack's digit
-    split : w ≡ digits l ^ (b .power - suc (x / l .size)) * (digits l * digits l ^ (x / l .size))
+    split : w ≡ digits l ^ (b .power - suc i) * (digits l * digits l ^ i)
     split =
-        b .width ∙ (let e : b .power ≡ b .power - suc (x / l .size) + suc (x / l .size) = (let k = low in omega arith) in ap (λ y. digits l ^ y) e)
-        ∙ pow-add (digits l) (b .power - suc (x / l .size)) (suc (x / l .size))
-        ∙ ap (λ y. digits l ^ (b .power - suc (x / l .size)) * y) (pow-suc (digits l) (x / l .size) ∙ mul-comm (digits l ^ (x / l .size)) (digits l))
+        b .width ∙ (let e : b .power ≡ b .power - suc i + suc i = (let k = low in omega arith) in ap (λ y. digits l ^ y) e)
+        ∙ pow-add (digits l) (b .power - suc i) (suc i)
+        ∙ ap (λ y. digits l ^ (b .power - suc i) * y) (pow-suc (digits l) i ∙ mul-comm (digits l ^ i) (digits l))
 
-    count-is : w / (digits l * digits l ^ (x / l .size)) ≡ digits l ^ (b .power - suc (x / l .size))
-    count-is = ap (λ y. y / (digits l * digits l ^ (x / l .size))) split ∙ mul-div-cancel (digits l ^ (b .power - suc (x / l .size))) period-pos
+    count-is : w / (digits l * digits l ^ i) ≡ digits l ^ (b .power - suc i)
+    count-is = ap (λ y. y / (digits l * digits l ^ i)) split ∙ mul-div-cancel (digits l ^ (b .power - suc i)) period-pos
 
-    pub count-whole : w / (digits l * digits l ^ (x / l .size)) * (digits l * digits l ^ (x / l .size)) ≡ w
-    count-whole = ap (λ y. y * (digits l * digits l ^ (x / l .size))) count-is ∙ sym split
+    pub count-whole : w / (digits l * digits l ^ i) * (digits l * digits l ^ i) ≡ w
+    count-whole = ap (λ y. y * (digits l * digits l ^ i)) count-is ∙ sym split
 
-    pub count-pos : 0 < w / (digits l * digits l ^ (x / l .size))
-    count-pos = rw count-is (run-pos l (b .adm) (b .power - suc (x / l .size)))
+    pub count-pos : 0 < w / (digits l * digits l ^ i)
+    count-pos = rw count-is (run-pos l (b .adm) (b .power - suc i))
 
-    pub period-in : digits l * digits l ^ (x / l .size) ≤ w
-    period-in = rw split (rw (mul-comm (digits l ^ (b .power - suc (x / l .size))) (digits l * digits l ^ (x / l .size))) (le-mul-of-pos-right (digits l * digits l ^ (x / l .size)) (run-pos l (b .adm) (b .power - suc (x / l .size)))))
+    pub period-in : digits l * digits l ^ i ≤ w
+    period-in = rw split (rw (mul-comm (digits l ^ (b .power - suc i)) (digits l * digits l ^ i)) (le-mul-of-pos-right (digits l * digits l ^ i) (run-pos l (b .adm) (b .power - suc i))))
 
     -- so that digit does not hang on the block
-    pub digit-repeats : (j : ℕ) → digit (digits l) (first + j) (x / l .size) ≡ j / digits l ^ (x / l .size) % digits l
+    pub digit-repeats : (j : ℕ) → digit (digits l) (first + j) i ≡ j / digits l ^ i % digits l
     unfolding digit
     digit-repeats j =
-        ap (λ y. (y + j) / digits l ^ (x / l .size) % digits l) start
-        ∙ ap (λ y. y / digits l ^ (x / l .size) % digits l) (turn (digits l ^ (x / l .size)) (digits l * whole) j)
-        ∙ ap (λ y. y % digits l) (add-mul-div-left j (digits l * whole) (run-pos l (b .adm) (x / l .size)))
-        ∙ add-mul-mod-self-left (j / digits l ^ (x / l .size)) (digits l) whole
+        ap (λ y. (y + j) / digits l ^ i % digits l) start
+        ∙ ap (λ y. y / digits l ^ i % digits l) (turn (digits l ^ i) (digits l * whole) j)
+        ∙ ap (λ y. y % digits l) (add-mul-div-left j (digits l * whole) (run-pos l (b .adm) i))
+        ∙ add-mul-mod-self-left (j / digits l ^ i) (digits l) whole
       where
         whole : ℕ
-        whole = b .number * digits l ^ (b .power - suc (x / l .size))
+        whole = b .number * digits l ^ (b .power - suc i)
 
         turn : (r m j : ℕ) → r * m + j ≡ j + r * m
         turn r m j = omega arith
 
-        start : first ≡ digits l ^ (x / l .size) * (digits l * whole)
+        start : first ≡ digits l ^ i * (digits l * whole)
         start =
             b .first-is ∙ ap (λ y. b .number * y) split
-            ∙ sym (mul-assoc (b .number) (digits l ^ (b .power - suc (x / l .size))) (digits l * digits l ^ (x / l .size)))
-            ∙ mul-comm whole (digits l * digits l ^ (x / l .size))
-            ∙ ap (λ y. y * whole) (mul-comm (digits l) (digits l ^ (x / l .size)))
-            ∙ mul-assoc (digits l ^ (x / l .size)) (digits l) whole
+            ∙ sym (mul-assoc (b .number) (digits l ^ (b .power - suc i)) (digits l * digits l ^ i))
+            ∙ mul-comm whole (digits l * digits l ^ i)
+            ∙ ap (λ y. y * whole) (mul-comm (digits l) (digits l ^ i))
+            ∙ mul-assoc (digits l ^ i) (digits l) whole

@@ -7,7 +7,8 @@ use lib.ListN.{length, getD}
 use Rattle.algebra.specs.Field.{Ops}
 use Rattle.algebra.specs.Sum.{sum, pow}
 use Rattle.algebra.specs.Erasure.{fill, Places}
-use Rattle.symbol.specs.Arithmetic.{_⊗_, zpow}
+use Rattle.algebra.specs.Layers.{digit}
+use Rattle.symbol.specs.Arithmetic.{_⊗_, power}
 use Rattle.symbol.specs.Elem.{Elem, elem, ops, gf256}
 use Rattle.kernel.specs.Runs.{cell}
 use Rattle.layout.specs.declared.Layout.{Layout}
@@ -17,6 +18,10 @@ use Rattle.codeword.specs.Codeword.{symbolAt, pointAt}
 -- the most layers of a block
 abbrev pub blockLimit : ℕ
 blockLimit = 256
+
+-- the symbols of a room
+abbrev pub roomLimit : ℕ
+roomLimit = 1536
 
 -- w layers from the layer `first` on: a power of the base, and block number so and so many
 pub record Block (l : Layout) (w first : ℕ) : Type 0 where
@@ -48,8 +53,12 @@ pub record Room (w r : ℕ) (sums cur row : List ℕ) : Type 0 where
   pub row-long : w ≤ length row
 
 -- runs of equal symbols, each z times the one before
-unfoldable pub stair : ℕ → ℕ → ℕ → ℕ
-stair first run j = zpow (j / run) ⊗ first
+unfoldable pub stair : ℕ → ℕ → ℕ → ℕ → ℕ
+stair z first run j = power z (j / run) ⊗ first
+
+-- a symbol times z to the power of digit i, for each number of a block
+pub record DigitPowers (l : Layout) (w first i start z : ℕ) (row : List ℕ) : Type 0 where
+  pub at : (j : ℕ) → j < w → elem (getD row j 0) ≡ ops .mul (pow ops (elem z) (digit (digits l) (first + j) i)) (elem start)
 
 -- the points of tray x
 pub record TrayPoints (l : Layout) (w first x : ℕ) (row : List ℕ) : Type 0 where

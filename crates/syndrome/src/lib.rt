@@ -3,34 +3,39 @@
 // of a high rack stays.
 use layout::Layout;
 use layout::power::capped_power;
+use symbol::Symbol;
 use symbol::ladder::product;
 ghost use mathlib.Core.Path.{_≡_};
 ghost use Prim.Native.Nat.{ℕ, _+_, _*_, _/_, _^_, _<_, _≤_};
 ghost use lib.ListN.{length, getD};
 ghost use Rattle.symbol.specs.Elem.{elem, gf256};
 ghost use Rattle.kernel.specs.Runs.{Run};
-ghost use Rattle.layout.specs.Layout.{trays, digits, layers, Admissible};
+ghost use Rattle.layout.specs.Layout.{trays, checks, digits, layers, Admissible};
 ghost use Rattle.codeword.specs.Codeword.{symbolAt, pointAt};
-ghost use Rattle.syndrome.specs.Syndrome.{blockLimit, Block, Listed, Room, stair, TrayPoints, Terms, Later, TrayTerms, KeptTerms, Sums};
+ghost use Rattle.syndrome.specs.Syndrome.{blockLimit, roomLimit, Block, Listed, Room, stair, DigitPowers, TrayPoints, Terms, Later, TrayTerms, KeptTerms, Sums};
 
 // The most layers of a block.
 pub const BLOCK: usize = 256;
 
-// Room for a row of a block for each tray.
-pub const ROOM: usize = layout::TRAYS as usize * BLOCK;
+// The symbols of a room: so many rows of a block, one for each check.
+pub const ROOM: usize = 1536;
 
-// How many digits run through a block: as many as the limits of a block and of a layer allow.
+// How many digits run through a block: as many as the limits of a block, of a room and of a layer allow.
 pub fn block_digits(l: Layout) -> u32
     requires { ⌜ Admissible l ⌝ }
-    ensures { λ e. ⌜ (e ≤ l .racks) × (digits l ^ e ≤ blockLimit) ⌝ }
+    ensures { λ e. ⌜ (e ≤ l .racks) × (digits l ^ e ≤ blockLimit) × (checks l * digits l ^ e ≤ roomLimit) ⌝ }
 {
     let s = layout::digit_count(l) as usize;
+    let r = layout::check_count(l) as usize;
     let b = l.racks;
     let mut w = 1usize;
     let mut e = 0u32;
     while e < b {
         w = w * s;
         if BLOCK < w {
+            return e;
+        }
+        if ROOM < r * w {
             return e;
         }
         e += 1;
@@ -47,28 +52,43 @@ pub fn block_width(l: Layout, e: u32) -> usize
 }
 
 // s runs of equal symbols, each run z times the one before.
-fn stairs(row: &mut [u8], run: usize, s: usize, first: u8)
+fn stairs(row: &mut [u8], run: usize, s: usize, first: u8, z: u8)
     requires { ⌜ (s * run ≤ length (now row)) × (0 < run) ⌝ }
-    ensures { λ _. ⌜ Run (stair first run) (now (row .entry)) (now (row .exit)) 0 (s * run) ⌝ }
+    ensures { λ _. ⌜ Run (stair z first run) (now (row .entry)) (now (row .exit)) 0 (s * run) ⌝ }
 {
     let mut a = 0usize;
     let mut v = first;
     while a < s {
         kernel::fill(row, a * run, run, v);
-        v = product(v, 2);
+        v = product(v, z);
         a += 1;
     }
 }
 
-// The points of a tray whose digit runs through the block.
-fn waves(row: &mut [u8], l: Layout, w: usize, first: usize, x: u32, run: usize)
-    requires { ⌜ Block l w first × (x < trays l) × (w ≤ length (now row)) × (run ≡ digits l ^ (x / l .size)) × (run < w) ⌝ }
-    ensures { λ _. ⌜ TrayPoints l w first x (now (row .exit)) ⌝ }
+// A symbol times z to the power of digit i, which runs through the block.
+fn waves(row: &mut [u8], l: Layout, w: usize, first: usize, i: u32, run: usize, start: u8, z: u8)
+    requires { ⌜ Block l w first × (w ≤ length (now row)) × (run ≡ digits l ^ i) × (run < w) ⌝ }
+    ensures { λ _. ⌜ DigitPowers l w first i start z (now (row .exit)) ⌝ }
 {
     let s = layout::digit_count(l) as usize;
-    let p = codeword::point_power(l, x, 0, 1);
-    stairs(row, run, s, p.0);
+    stairs(row, run, s, start, z);
     kernel::extend(row, s * run, w / (s * run));
+}
+
+// A symbol times z to the power of digit i, for each number of a block: of layers, or of groups.
+pub fn digit_powers(row: &mut [u8], l: Layout, w: usize, first: usize, i: u32, start: u8, z: u8)
+    requires { ⌜ Block l w first × (i < l .racks) × (w ≤ length (now row)) ⌝ }
+    ensures { λ _. ⌜ DigitPowers l w first i start z (now (row .exit)) ⌝ }
+{
+    let run = block_width(l, i);
+    if run < w {
+        waves(row, l, w, first, i, run, start, z);
+        return;
+    }
+    let s = layout::digit_count(l);
+    let a = layout::digit_at(s, first as u32, i);
+    let v = product(Symbol(z).power(a).0, start);
+    kernel::fill(row, 0, w, v);
 }
 
 // The points of tray x in the layers of a block.
@@ -76,13 +96,9 @@ pub fn tray_points(row: &mut [u8], l: Layout, w: usize, first: usize, x: u32)
     requires { ⌜ Block l w first × (x < trays l) × (w ≤ length (now row)) ⌝ }
     ensures { λ _. ⌜ TrayPoints l w first x (now (row .exit)) ⌝ }
 {
-    let run = block_width(l, x / l.size);
-    if run < w {
-        waves(row, l, w, first, x, run);
-        return;
-    }
-    let p = codeword::point_power(l, x, first as u32, 1);
-    kernel::fill(row, 0, w, p.0);
+    let u = l.size;
+    let p = codeword::point_power(l, x, 0, 1);
+    digit_powers(row, l, w, first, x / u, p.0, Symbol::ROOT.0);
 }
 
 // Adds the terms of a tray to the checks from 1 on: its symbols times the powers of its points.

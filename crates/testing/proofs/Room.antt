@@ -11,26 +11,23 @@ use lib.ListN.{length, replicate, length-replicate}
 use Rattle.layout.specs.declared.Layout.{Layout}
 use Rattle.layout.specs.Layout.{checks, digits, layers, trayLimit, Admissible}
 use Rattle.codeword.specs.Inner.{Scannable}
-use Rattle.syndrome.specs.Syndrome.{blockLimit, Block, Room}
+use Rattle.syndrome.specs.Syndrome.{blockLimit, roomLimit, Block, Room}
 use Rattle.testing.specs.Inner.{FirstBroken}
 use Rattle.syndrome.proofs.Blocks.{start-fits, width-pos, count-whole, block-of}
 
 -- the arrays
 abbrev pub roomOf : List ℕ
-roomOf = replicate (trayLimit * blockLimit) 0
+roomOf = replicate roomLimit 0
 
 abbrev pub rowOf : List ℕ
 rowOf = replicate blockLimit 0
 
-pub room : (l : Layout) (e : ℕ) → Admissible l → digits l ^ e ≤ blockLimit → Room (digits l ^ e) (checks l) roomOf rowOf rowOf
-room l e a h = record {
-  sums-long = rw (length-replicate {A = ℕ} (trayLimit * blockLimit) 0) (mul-le-mul few h);
+pub room : (l : Layout) (e : ℕ) → digits l ^ e ≤ blockLimit → checks l * digits l ^ e ≤ roomLimit → Room (digits l ^ e) (checks l) roomOf rowOf rowOf
+room l e h k = record {
+  sums-long = rw (length-replicate {A = ℕ} roomLimit 0) k;
   cur-long = rw (length-replicate {A = ℕ} blockLimit 0) h;
   row-long = rw (length-replicate {A = ℕ} blockLimit 0) h;
 }
-  where
-    few : checks l ≤ trayLimit
-    few = let b = a .trays-high in omega arith
 
 pub room-here : (l : Layout) (e w r : ℕ) (sums₀ cur₀ row₀ sums cur row : List ℕ) → w ≡ digits l ^ e → r ≡ checks l → Room (digits l ^ e) (checks l) sums₀ cur₀ row₀ →
     length sums ≡ length sums₀ → length cur ≡ length cur₀ → length row ≡ length row₀ → Room w r sums cur row

@@ -1,57 +1,37 @@
-use mathlib.Core.Path.{ap, _∙_}
-use Prim.Native.Nat.{_-_, _*_, _≤_, _<_}
+use mathlib.Core.Path.{_≡_, refl}
+use Prim.Native.Nat.{_-_, _≤_}
 use native.Mathlib.Omega.{arith}
 use lib.ListN.{length}
 use borrow.Author.Needs.{needs}
-use Rattle.lists.proofs.Loops.{Upto, upto-none, upto-more}
-use Rattle.lists.proofs.Numbers.{cell-in, mul-below}
-use Rattle.symbol.specs.Elem.{elem}
-use Rattle.symbol.proofs.Elem.{elem-val}
-use Rattle.layout.specs.Layout.{trayLimit}
-use Rattle.layout.proofs.Facts.{bounds}
-use Rattle.group.specs.Inner.{restSide}
-use Rattle.group.proofs.Steps.{rest-is}
+use Rattle.group.specs.Inner.{Growing}
+use Rattle.syndrome.proofs.Terms.{room-next}
+use Rattle.group.proofs.Rests.{grow-none, grow-more, grow-end}
 use Rattle.group.proofs.fill_rests.Statement.{statement}
 use Rattle.group.proofs.fill_rests.Tie as tie
 
 abbrev Inv-loop : tie.InvT-loop
-Inv-loop l h total lost host j a sums out₀ s m₀ out m = (m ≤ length out₀) × Upto (λ k. (restSide l lost host sums a j k) .val) out₀ out m
+Inv-loop rests₀ l h lost w a r host sums cur₀ row₀ u s g₀ rests cur row g = (g ≤ u) × (length rests ≡ length rests₀) × (length cur ≡ length cur₀) × (length row ≡ length row₀) × Growing l lost host w a (r .start) (r .run) (r .stride) sums rests g
 
 abbrev μ-loop : tie.MeasureT-loop
-μ-loop l h total lost host j a sums out₀ s m₀ out m = length out₀ - m
-
-high : (c : tie.After-sound-sum Inv-loop μ-loop) → c .before .before .loop .m * c .before .before .before .digit-count .result < 4294967296
-high c =
-    let p = c .before .before .before .before .before .before .before .before .pre in
-    let b = bounds _ (p .0 .adm) in
-    mul-below trayLimit trayLimit (omega (arith, p .0 .few, p .5)) (omega (arith, c .before .before .before .digit-count .ensures)) tt
+μ-loop rests₀ l h lost w a r host sums cur₀ row₀ u s g₀ rests cur row g = u - g
 
 pub fill-rests-spec : {M : Type 1} → statement M
 fill-rests-spec =
     tie.close (tie.spec Inv-loop μ-loop
-    (λ c κs. c .before .before .before .before .pre .0 .adm)
+    (λ c κs. search needs)
     (λ c. search needs)
-    (λ c. (omega arith, upto-none _ _))
-    (λ c. let p = c .before .before .before .before .before .before .before .pre in let b = bounds _ (p .0 .adm) in omega (arith, p .0 .few, p .5))
-    (λ c κs. let p = c .before .before .before .before .before .before .before .pre in let b = bounds _ (p .0 .adm) in (p .0, p .1, p .2, omega (arith, p .0 .few, p .5)))
-    (λ c. record { fits = omega (arith, high c) })
-    (λ c. let p = c .before .before .before .before .before .before .before .before .pre in let b = bounds _ (p .0 .adm) in omega (arith, high c, p .3))
-    (λ c.
-    let p = c .before .before .before .before .before .before .before .before .before .pre in
-    let h : c .before .before .before .loop .m < length (c .before .before .before .before .before .before .before .before .before .args .lost .now) = omega (arith, p .5) in
-    rw (c .before .before .before .before .digit-count .ensures, p .4) (cell-in _ _ _ _ h (p .3)))
-    (λ c κs. tt)
-    (λ c. let u = c .before .before .before .before .loop .inv .1 .same in omega arith)
+    (λ c κs. let s = c .before .before .before .before .before .before .before .before in let d = c .before .digit-count .ensures in (s .pre .2 .sums-long, rw d (s .pre .4), rw d (s .pre .3), s .pre .1 .some))
+    (λ c. (omega arith, search needs, refl, refl, search grow-none))
+    (λ c κs.
+    let c1 = c .before .before .before .before in
+    let s = c1 .before .before .before .before .before .before .before .before .before .before .before .before in
+    let a = s .args in
+    let k = c1 .loop in
+    (s .pre .0, s .pre .1, room-next (a .w) (length (a .lost .now)) (a .rests .now) (a .cur .now) (a .row .now) (k .rests) (k .cur) (k .row) (s .pre .2) (search needs) (k .inv .2) (k .inv .3), omega arith))
     (λ c. omega arith)
     (λ c. omega arith)
-    (λ c.
-    let a = c .before .before .before .before .before .before .before .before .before .before .args in (
-      omega arith,
-      upto-more _ (c .before .before .before .before .loop .inv .1) (omega arith)
-          (rest-is (a .l) (a .lost .now) (a .host .now) (a .sums .now) (a .a) (a .j) (c .before .before .before .before .loop .m) _ _ _ (c .before .before .before .before .before .digit-count .ensures) (c .before .before .sound-sum .ensures) (omega arith) (c .add .ensures)),
-    ))
-    (λ c. c .before .loop .inv .1 .same)
-    (λ c.
-    let u = c .before .loop .inv .1 in
-    let q = c .before .before .before .before .before .before .before .pre .5 in
-    record { long = u .same ∙ q; are = λ i k. ap elem (u .low i (omega (arith, u .same, q))) ∙ elem-val _ }))
+    (λ c. (omega arith, search needs, search needs, search needs, search grow-more))
+    (λ c. search needs)
+    (λ c. search needs)
+    (λ c. search needs)
+    (λ c. search grow-end))

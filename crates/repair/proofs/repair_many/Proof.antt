@@ -9,7 +9,7 @@ use Rattle.layout.proofs.Facts.{bounds}
 use Rattle.repair.specs.Repair.{repairRefusal}
 use Rattle.repair.specs.Inner.{Repairable}
 use Rattle.repair.proofs.Refusals.{repairable}
-use Rattle.repair.proofs.Pieces.{crossing-in}
+use Rattle.repair.proofs.Pieces.{piecing-of, crossing-in}
 use Rattle.repair.proofs.repair_many.Statement.{statement}
 use Rattle.repair.proofs.repair_many.Tie as tie
 
@@ -42,7 +42,7 @@ repair-many-spec =
     (λ c κs. search needs)
     (λ c. omega (arith, first-in (c .before), high (c .before)))
     (λ c. omega (arith, c .smaller .ensures, high (c .before)))
-    (λ c κs. record { given = given (c .before .before .before); within = omega (arith, c .before .smaller .ensures, c .before .before .group-count .ensures, first-in (c .before .before)) })
+    (λ c κs. piecing-of _ _ _ _ _ _ _ _ (given (c .before .before .before)) (omega (arith, c .before .smaller .ensures, c .before .before .group-count .ensures, first-in (c .before .before))))
     (λ c.
     let b = bounds _ (given (c .before .before .before .before .before .before) .adm) in
     record { fits = mul-below trayLimit layerLimit (omega (arith, given (c .before .before .before .before .before .before) .adm .helpers-high)) (omega (arith, c .before .before .before .before .smaller .ensures, high (c .before .before .before .before .before))) tt })
@@ -63,5 +63,5 @@ repair-many-spec =
       done-is = c .before .before .before .before .smaller .ensures ∙ ap (λ k. min (a .budget) (k - a .first)) e;
       crossed-is = refl;
       remaining-is = ap (λ k. length (a .lost .now) * (a .l .helpers * k)) m;
-      piece = c .before .before .some-groups .ensures;
+      piece = c .before .before .mend-groups .ensures;
     }))

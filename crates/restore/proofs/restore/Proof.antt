@@ -21,7 +21,7 @@ restore-spec =
     let c1 = c .before .before .before .before .before .before .before .before .before in
     let c2 = c1 .before .before in
     let c3 = c2 .before .before .before in
-    let s = space (c3 .args .l) (c2 .block-digits .result) (c3 .pre .adm) (c2 .block-digits .ensures .1) in (
+    let s = space (c3 .args .l) (c2 .block-digits .result) (c2 .block-digits .ensures .1) (c2 .block-digits .ensures .2) in (
       c2 .block-digits .ensures .0,
       c3 .pre,
       s,

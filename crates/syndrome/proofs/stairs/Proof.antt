@@ -4,22 +4,22 @@ use native.Mathlib.Omega.{arith}
 use lib.ListN.{length}
 use borrow.Author.Needs.{needs}
 use Rattle.kernel.specs.Runs.{Run}
-use Rattle.symbol.specs.Arithmetic.{_⊗_, zpow}
+use Rattle.symbol.specs.Arithmetic.{_⊗_, power}
 use Rattle.syndrome.specs.Syndrome.{stair}
 use Rattle.syndrome.proofs.Points.{stair-start, stair-value, stair-none, stair-more, stair-end, stair-in, stair-fits}
 use Rattle.syndrome.proofs.stairs.Statement.{statement}
 use Rattle.syndrome.proofs.stairs.Tie as tie
 
 abbrev Inv-loop : tie.InvT-loop
-Inv-loop row₀ run s first a₀ v₀ row a v = (a ≤ s) × (length row ≡ length row₀) × (v ≡ zpow a ⊗ first) × Run (stair first run) row₀ row 0 (a * run)
+Inv-loop row₀ run s first z a₀ v₀ row a v = (a ≤ s) × (length row ≡ length row₀) × (v ≡ power z a ⊗ first) × Run (stair z first run) row₀ row 0 (a * run)
 
 abbrev μ-loop : tie.MeasureT-loop
-μ-loop row₀ run s first a₀ v₀ row a v = s - a
+μ-loop row₀ run s first z a₀ v₀ row a v = s - a
 
 pub stairs-spec : {M : Type 1} → statement M
 stairs-spec =
     tie.close (tie.spec Inv-loop μ-loop
-    (λ c. (omega arith, refl, stair-start _ (search needs), stair-none _ _ _))
+    (λ c. (omega arith, refl, stair-start _ _ (search needs), stair-none _ _ _ _))
     (λ c. search stair-fits)
     (λ c κs. search stair-in)
     (λ c κs. search needs)

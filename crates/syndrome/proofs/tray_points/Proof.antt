@@ -1,20 +1,24 @@
-use Prim.Native.Nat.{_-_}
-use native.Mathlib.Omega.{arith}
-use Rattle.syndrome.proofs.Points.{steady-points, rack-le, size-of, first-fits}
+use Rattle.syndrome.proofs.Points.{points-of, rack-of, size-of}
 use borrow.Author.Needs.{needs}
 use Rattle.syndrome.proofs.tray_points.Statement.{statement}
 use Rattle.syndrome.proofs.tray_points.Tie as tie
 
+point-power-requires : tie.Need-point-power-requires
+point-power-requires c κs = search needs
+
+div-digit-powers : tie.Need-div-digit-powers
+div-digit-powers c = search size-of
+
+digit-powers-requires : tie.Need-digit-powers-requires
+digit-powers-requires c κs = (search needs, search rack-of, search needs)
+
+same-length : tie.Need-same-length
+same-length c = search needs
+
+returns : tie.Need-returns
+returns c = search points-of
+
 pub tray-points-spec : {M : Type 1} → statement M
 tray-points-spec =
-    tie.close (tie.spec
-    (λ c. search size-of)
-    (λ c κs. (search needs, search rack-le))
-    (λ c κs. (search needs, search needs, search needs, search needs, search needs))
-    (λ c. search needs)
-    (λ c. search needs)
-    (λ c. search first-fits)
-    (λ c κs. (search needs, search needs, omega arith))
-    (λ c κs. search needs)
-    (λ c. search needs)
-    (λ c. search steady-points))
+    tie.close
+    (tie.spec point-power-requires div-digit-powers digit-powers-requires same-length returns)

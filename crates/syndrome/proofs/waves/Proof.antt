@@ -1,6 +1,6 @@
 use Prim.Native.Nat.{_-_}
 use native.Mathlib.Omega.{arith}
-use Rattle.syndrome.proofs.Points.{wave-points, wave-room, wave-count, wave-some, wave-fits, wave-run, wave-period}
+use Rattle.syndrome.proofs.Points.{wave-powers, wave-room, wave-count, wave-some, wave-fits, wave-run, wave-period}
 use borrow.Author.Needs.{needs}
 use Rattle.syndrome.proofs.waves.Statement.{statement}
 use Rattle.syndrome.proofs.waves.Tie as tie
@@ -10,11 +10,10 @@ waves-spec =
     tie.close (tie.spec
     (λ c κs. search needs)
     (λ c. search needs)
-    (λ c κs. (search needs, search needs, omega arith))
     (λ c κs. (search wave-room, search wave-run))
     (λ c. search wave-fits)
     (λ c. search wave-fits)
     (λ c. search wave-period)
     (λ c κs. (search wave-count, search wave-some))
     (λ c. search needs)
-    (λ c. search wave-points))
+    (λ c. search wave-powers))

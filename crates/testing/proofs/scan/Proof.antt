@@ -13,5 +13,5 @@ scan-spec =
     (λ c. search needs)
     (λ c. search needs)
     (λ c. search needs)
-    (λ c κs. let s = c .before .before .before .before .before .before in let d = c .before .before .before .before .block-digits in (d .ensures .0, s .pre, refl, room (s .args .l) (d .result) (s .pre .adm) (d .ensures .1)))
+    (λ c κs. let s = c .before .before .before .before .before .before in let d = c .before .before .before .before .block-digits in (d .ensures .0, s .pre, refl, room (s .args .l) (d .result) (d .ensures .1) (d .ensures .2)))
     (λ c. search needs))

@@ -1,0 +1,215 @@
+// A piece of a repair: consecutive groups, a block at a time. A block is a power of s of groups that begins at a multiple of itself, so that the groups' points
+// go through it in runs (crates sums and group). Promises that the layers of these groups in the spare are as the rule fixes them, and every other byte as it
+// was.
+use layout::Layout;
+ghost use mathlib.Core.Path.{_≡_};
+ghost use mathlib.Core.Bool.{true};
+ghost use Prim.Native.Nat.{_+_, _%_, _<_, _≤_};
+ghost use lib.ListN.{length};
+ghost use Rattle.symbol.specs.Elem.{gf256};
+ghost use Rattle.kernel.specs.Runs.{Inverses};
+ghost use Rattle.layout.specs.Layout.{groups, trayLimit, Admissible};
+ghost use Rattle.rule.specs.Lost.{Piece};
+ghost use Rattle.sums.specs.Inner.{Groups};
+ghost use Rattle.pieces.specs.Inner.{Allowed, Rows, Fitting, Piecing, Rooms};
+
+// The rows that a block needs: for the unknowns of its groups, and for their host sums.
+fn row_count(l: Layout, e: u32) -> u32
+    requires { ⌜ Admissible l × (e + l .dimension % l .size ≤ l .size) ⌝ }
+    ensures { λ r. ⌜ Rows l e r ⌝ }
+{
+    let unknowns = sums::unknown_count(l);
+    let host_sums = e * layout::digit_count(l);
+    if unknowns < host_sums {
+        return host_sums;
+    }
+    unknowns
+}
+
+// Whether w groups may be a block from group p on, where so many are left.
+fn allowed(p: u32, left: u32, rows: u32, w: u32) -> bool
+    requires { ⌜ (0 < w) × (rows ≤ trayLimit) ⌝ }
+    ensures { λ r. ⌜ (r ≡ true → Allowed p left rows w) ⌝ }
+{
+    if left < w {
+        return false;
+    }
+    if syndrome::BLOCK < w as usize {
+        return false;
+    }
+    if syndrome::ROOM < rows as usize * w as usize {
+        return false;
+    }
+    p % w == 0
+}
+
+// The groups of the largest block from group p on, where so many are left.
+fn block_at(l: Layout, p: u32, left: u32, rows: u32) -> u32
+    requires { ⌜ Admissible l × (0 < left) × (p + left ≤ groups l) × (rows ≤ trayLimit) ⌝ }
+    ensures { λ w. ⌜ Groups l w p × Allowed p left rows w × (0 < w) ⌝ }
+{
+    let s = layout::digit_count(l);
+    let b = l.racks;
+    let mut w = 1u32;
+    let mut n = 1u32;
+    while n < b {
+        let next = w * s;
+        if !allowed(p, left, rows, next) {
+            return w;
+        }
+        w = next;
+        n += 1;
+    }
+    w
+}
+
+// Repairs a block of groups.
+fn mend_block(
+    l: Layout,
+    lost: &[u32],
+    helpers: &[u32],
+    shares: &[u8],
+    host: &[u8],
+    w: u32,
+    first: u32,
+    spare: &mut [u8],
+    sums: &mut [u8],
+    sides: &mut [u8],
+    found: &mut [u8],
+    points: &mut [u8],
+    coefs: &mut [u8],
+    row: &mut [u8],
+    cur: &mut [u8],
+    table: &[u8],
+)
+    requires { ⌜ Piecing l (now lost) (now helpers) (now shares) (now host) first w (now spare) × Groups l w first × Fitting l (length (now lost)) w × Rooms (now sums) (now sides) (now found) (now points) (now coefs) (now row) (now cur) × Inverses (now table) ⌝ }
+    ensures { λ _. ⌜ Piece gf256 l (now (lost .entry)) (now (helpers .entry)) (now (shares .entry)) (now (host .entry)) first w (now (spare .entry)) (now (spare .exit)) ⌝ }
+{
+    let h = lost[0] / l.size;
+    let e = lost.len() as u32;
+    sums::block_sums(
+        sums,
+        l,
+        h,
+        w as usize,
+        first as usize,
+        helpers,
+        shares,
+        e,
+        sides,
+        found,
+        points,
+        coefs,
+        row,
+        cur,
+        table,
+    );
+    group::mend_block(
+        l,
+        h,
+        lost,
+        host,
+        w as usize,
+        first,
+        sums,
+        sides,
+        found,
+        points,
+        coefs,
+        row,
+        cur,
+        table,
+        spare,
+    );
+}
+
+// Block after block.
+fn mend_blocks(
+    l: Layout,
+    lost: &[u32],
+    helpers: &[u32],
+    shares: &[u8],
+    host: &[u8],
+    first: u32,
+    count: u32,
+    spare: &mut [u8],
+    sums: &mut [u8],
+    sides: &mut [u8],
+    found: &mut [u8],
+    points: &mut [u8],
+    coefs: &mut [u8],
+    row: &mut [u8],
+    cur: &mut [u8],
+    table: &[u8],
+)
+    requires { ⌜ Piecing l (now lost) (now helpers) (now shares) (now host) first count (now spare) × Rooms (now sums) (now sides) (now found) (now points) (now coefs) (now row) (now cur) × Inverses (now table) ⌝ }
+    ensures { λ _. ⌜ Piece gf256 l (now (lost .entry)) (now (helpers .entry)) (now (shares .entry)) (now (host .entry)) first count (now (spare .entry)) (now (spare .exit)) ⌝ }
+{
+    let rows = row_count(l, lost.len() as u32);
+    let mut k = 0u32;
+    while k < count {
+        let w = block_at(l, first + k, count - k, rows);
+        mend_block(
+            l,
+            lost,
+            helpers,
+            shares,
+            host,
+            w,
+            first + k,
+            spare,
+            sums,
+            sides,
+            found,
+            points,
+            coefs,
+            row,
+            cur,
+            table,
+        );
+        k += w;
+    }
+}
+
+// Repairs `count` groups from `first` on.
+pub fn mend_groups(
+    l: Layout,
+    lost: &[u32],
+    helpers: &[u32],
+    shares: &[u8],
+    host: &[u8],
+    first: u32,
+    count: u32,
+    spare: &mut [u8],
+)
+    requires { ⌜ Piecing l (now lost) (now helpers) (now shares) (now host) first count (now spare) ⌝ }
+    ensures { λ _. ⌜ Piece gf256 l (now (lost .entry)) (now (helpers .entry)) (now (shares .entry)) (now (host .entry)) first count (now (spare .entry)) (now (spare .exit)) ⌝ }
+{
+    let mut sums = [0u8; syndrome::ROOM];
+    let mut sides = [0u8; syndrome::ROOM];
+    let mut found = [0u8; syndrome::ROOM];
+    let mut points = [0u8; syndrome::ROOM];
+    let mut coefs = [0u8; syndrome::ROOM];
+    let mut row = [0u8; syndrome::BLOCK];
+    let mut cur = [0u8; syndrome::BLOCK];
+    let mut table = [0u8; 256];
+    kernel::inverses(&mut table);
+    mend_blocks(
+        l,
+        lost,
+        helpers,
+        shares,
+        host,
+        first,
+        count,
+        spare,
+        &mut sums,
+        &mut sides,
+        &mut found,
+        &mut points,
+        &mut coefs,
+        &mut row,
+        &mut cur,
+        &table,
+    );
+}

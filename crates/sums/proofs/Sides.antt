@@ -1,0 +1,169 @@
+-- The right sides of a weight: what a helper's share adds, and helper after helper.
+-- Assumes nothing.
+use mathlib.Core.Path.{_≡_, refl, sym, ap, ap₂, _∙_, subst}
+use mathlib.Core.List.{List}
+use Prim.Native.Nat.{ℕ, _+_, _*_, _%_, _<_, _≤_}
+use native.Mathlib.Nat.{zero-add, add-assoc}
+use native.Mathlib.Omega.{arith}
+use mir.Val.{Fits}
+use mir.Syntax.{w32, w64}
+use lib.ListN.{length, getD}
+use Rattle.algebra.specs.Field.{Ops}
+use Rattle.algebra.specs.Sum.{sum, pow}
+use Rattle.algebra.specs.Layers.{layerOf}
+use Rattle.algebra.proofs.Ring.{zero-add as nothing-add, one-mul, mul-comm, mul-assoc}
+use Rattle.algebra.proofs.Sum.{sum-zero, sum-add-one}
+use Rattle.algebra.proofs.Pow.{pow-zero}
+use Rattle.algebra.proofs.Weighted.{pow-split}
+use Rattle.symbol.specs.Arithmetic.{_⊕_, _⊗_}
+use Rattle.symbol.specs.Elem.{Elem, elem, ops, gf256}
+use Rattle.symbol.proofs.Elem.{laws, elem-zero, elem-⊕, elem-⊗}
+use Rattle.kernel.specs.Runs.{cell, Run, filled, copied, addedProduct}
+use Rattle.kernel.proofs.Rows.{row-before, cell-is}
+use Rattle.layout.specs.declared.Layout.{Layout}
+use Rattle.layout.specs.Layout.{digits, groups, parityRacks, trayLimit, layerLimit, Admissible}
+use Rattle.layout.proofs.Facts.{bounds}
+use Rattle.codeword.specs.Codeword.{pointAt}
+use Rattle.syndrome.specs.Syndrome.{Block, Room, Terms}
+use Rattle.syndrome.proofs.Digits.{run-pos}
+use Rattle.rule.specs.Lost.{sentSymbol}
+use Rattle.sums.specs.Inner.{sideTerm, Groups, RackPowers, Sharing, ShareTerms, Sided, SidesTo, ShareAdded}
+use Rattle.sums.proofs.Steps.{row-in, share-in}
+
+module _ (l : Layout) (h w first : ℕ) (helpers shares : List ℕ) (e m k : ℕ) where
+  pub terms-are : (n at : ℕ) (cur cur′ cur″ row : List ℕ) → n ≡ groups l → at ≡ (k * e + m) * n + first → RackPowers l h w first (getD helpers k 0) m row →
+      Run (filled 0) cur cur′ 0 w → Run (addedProduct cur′ 0 shares at row 0) cur′ cur″ 0 w → ShareTerms l h w first helpers shares e m k cur″
+  unfolding filled addedProduct sentSymbol
+  terms-are n at cur cur′ cur″ row en ea pm f p = record { at = go }
+    where
+      place : (j : ℕ) → at + j ≡ (k * e + m) * groups l + (first + j)
+      place j = ap (λ y. y + j) (ea ∙ ap (λ n. (k * e + m) * n + first) en) ∙ add-assoc ((k * e + m) * groups l) first j
+
+      go : (j : ℕ) → j < w →
+          elem (getD cur″ j 0) ≡ ops .mul (pow ops (pointAt gf256 l (layerOf (digits l) h (first + j) 0) (getD helpers k 0 * l .size)) m) (elem (getD shares ((k * e + m) * groups l + (first + j)) 0))
+      go j q =
+          ap (λ i. elem (getD cur″ i 0)) (sym (zero-add j)) ∙ ap elem (p .done j q ∙ ap (λ y. y ⊕ getD shares (at + j) 0 ⊗ getD row (0 + j) 0) (f .done j q))
+          ∙ elem-⊕ 0 (getD shares (at + j) 0 ⊗ getD row (0 + j) 0) ∙ ap₂ (ops .add) elem-zero (elem-⊗ (getD shares (at + j) 0) (getD row (0 + j) 0))
+          ∙ nothing-add ops laws _ ∙ mul-comm ops laws _ _
+          ∙ ap₂ (ops .mul) (ap (λ i. elem (getD row i 0)) (zero-add j) ∙ pm .at j q) (ap (λ y. elem (getD shares y 0)) (place j))
+
+  pub terms-plain : (n at : ℕ) (cur is : List ℕ) → n ≡ groups l → at ≡ (k * e + m) * n + first → m ≡ 0 → Run (copied shares at) cur is 0 w → ShareTerms l h w first helpers shares e m k is
+  unfolding copied sentSymbol
+  terms-plain n at cur is en ea em f = record {
+    at = λ j q.
+        let P = pointAt gf256 l (layerOf (digits l) h (first + j) 0) (getD helpers k 0 * l .size) in
+        ap (λ i. elem (getD is i 0)) (sym (zero-add j)) ∙ ap elem (f .done j q)
+        ∙ ap (λ i. elem (getD shares i 0)) (ap (λ y. y + j) (ea ∙ ap (λ n. (k * e + m) * n + first) en) ∙ add-assoc ((k * e + m) * groups l) first j)
+        ∙ sym (ap (λ y. ops .mul y (elem (getD shares ((k * e + m) * groups l + (first + j)) 0))) (ap (pow ops P) em ∙ pow-zero ops P) ∙ one-mul ops laws _);
+  }
+
+  pub share-added : (r : ℕ) (cur row was is : List ℕ) → r ≡ parityRacks l → ShareTerms l h w first helpers shares e m k cur → RackPowers l h w first (getD helpers k 0) (l .size) row →
+      Terms w r row cur was is → ShareAdded l h w first helpers shares e m k was is
+  unfolding sideTerm
+  share-added r cur row was is er s p g = record { at = λ t j q c. g .at t j (rw er q) c ∙ ap (ops .add (cell w was t j)) (term t j c) }
+    where
+      term : (t j : ℕ) → j < w → ops .mul (pow ops (elem (getD row j 0)) t) (elem (getD cur j 0)) ≡ sideTerm l h (first + j) helpers shares e m t k
+      term t j q =
+          let P = pointAt gf256 l (layerOf (digits l) h (first + j) 0) (getD helpers k 0 * l .size) in
+          ap₂ (λ y x. ops .mul (pow ops y t) x) (p .at j q) (s .at j q)
+          ∙ sym (mul-assoc ops laws (pow ops (pow ops P (l .size)) t) (pow ops P m) (sentSymbol gf256 l e shares m (first + j) k))
+          ∙ ap (λ y. ops .mul y (sentSymbol gf256 l e shares m (first + j) k)) (sym (pow-split ops laws P (l .size) t m))
+
+module _ (l : Layout) (h w first : ℕ) (helpers shares : List ℕ) (e m : ℕ) where
+  pub sides-none : (r : ℕ) (was is : List ℕ) → r ≡ parityRacks l → Run (filled 0) was is 0 (r * w) → SidesTo l h w first helpers shares e m 0 is
+  unfolding filled
+  sides-none r was is er f = record {
+    at = λ t j ht hj.
+        sym (cell-is w is t j) ∙ ap (λ i. elem (getD is i 0)) (sym (zero-add (t * w + j)))
+        ∙ ap elem (f .done (t * w + j) (let e = row-before t r w (rw er ht) in omega arith)) ∙ elem-zero ∙ sym (sum-zero ops _);
+  }
+
+  pub sides-more : (k : ℕ) (was is : List ℕ) → SidesTo l h w first helpers shares e m k was → ShareAdded l h w first helpers shares e m k was is →
+      SidesTo l h w first helpers shares e m (k + 1) is
+  sides-more k was is s g = record {
+    at = λ t j ht hj.
+        g .at t j ht hj ∙ ap (λ y. ops .add y (sideTerm l h (first + j) helpers shares e m t k)) (s .at t j ht hj)
+        ∙ sym (sum-add-one ops k (sideTerm l h (first + j) helpers shares e m t));
+  }
+
+  pub sides-end : (k n : ℕ) (sides : List ℕ) → SidesTo l h w first helpers shares e m k sides → k ≤ n → n ≤ k → n ≡ l .helpers → SidesTo l h w first helpers shares e m (l .helpers) sides
+  sides-end k n sides s a b c = let q : k ≡ l .helpers = omega arith in subst (λ y. SidesTo l h w first helpers shares e m y sides) q s
+
+-- ---- places
+pub width-pos : (l : Layout) (w first : ℕ) → Groups l w first → 0 < w
+width-pos l w first g = rw (g .block .width) (run-pos l (g .block .adm) (g .block .power))
+
+pub groups-high : (l : Layout) (n : ℕ) → Admissible l → n ≡ groups l → n ≤ layerLimit
+groups-high l n a e = omega (arith, bounds l a .groups-high)
+
+pub first-in : (l : Layout) (w first n : ℕ) → Groups l w first → n ≡ groups l → first < n
+first-in l w first n g e = let p = width-pos l w first g in let i = g .inside in omega arith
+
+pub weight-high : (l : Layout) (e m : ℕ) → Admissible l → e + l .dimension % l .size ≤ l .size → m < e → m ≤ trayLimit
+weight-high l e m a few h = let b = bounds l a in omega arith
+
+pub size-high : (l : Layout) → Admissible l → l .size ≤ trayLimit
+size-high l a = let b = bounds l a in omega arith
+
+module _ (l : Layout) (h w first : ℕ) (helpers shares : List ℕ) (e m k : ℕ) (cur row : List ℕ) (g : Sharing l h w first helpers shares e m k cur row) where
+  pub layout-of : Admissible l
+  layout-of = g .received .chosen .adm
+
+  pub share-row : k * e + m < trayLimit
+  share-row = row-in l layout-of e m k (g .received .few) (g .weight-in) (g .helper-in)
+
+  pub share-fits : Fits w32 (k * e)
+  share-fits = record { fits = omega (arith, share-row) }
+
+  pub share-fits-2 : Fits w32 (k * e + m)
+  share-fits-2 = record { fits = omega (arith, share-row) }
+
+  pub share-there : (n at : ℕ) → n ≡ groups l → at ≡ (k * e + m) * n + first → at + w ≤ length shares
+  share-there n at en ea = rw (ea, en, g .received .shares-long) (share-in l layout-of e m k (g .received .few) (g .weight-in) (g .helper-in) first w (g .block .inside))
+
+  pub helper-number : k < length helpers
+  helper-number = rw (g .received .chosen .many) (g .helper-in)
+
+  pub helper-rack : getD helpers k 0 < l .racks
+  helper-rack = g .received .chosen .inside k (g .helper-in)
+
+  pub helper-other : ¬ (getD helpers k 0 ≡ h)
+  helper-other = g .received .chosen .other k (g .helper-in)
+
+  pub block-there : Block l w first
+  block-there = g .block .block
+
+  pub host-there : h < l .racks
+  host-there = g .received .chosen .host-in
+
+  pub weight-under : m ≤ trayLimit
+  weight-under = weight-high l e m layout-of (g .received .few) (g .weight-in)
+
+  pub size-under : l .size ≤ trayLimit
+  size-under = let b = bounds l layout-of in omega arith
+
+  pub room-of : (r : ℕ) (sides cur′ row′ : List ℕ) → parityRacks l * w ≤ length sides → r ≡ parityRacks l → length cur′ ≡ length cur → length row′ ≡ length row → Room w r sides cur′ row′
+  room-of r sides cur′ row′ q er ec el = record { sums-long = rw er q; cur-long = rw ec (g .cur-long); row-long = rw el (g .row-long) }
+
+  pub row-next : (row′ : List ℕ) → length row′ ≡ length row → w ≤ length row′
+  row-next row′ e = rw e (g .row-long)
+
+module _ (l : Layout) (h w first : ℕ) (helpers shares : List ℕ) (e m : ℕ) (sides cur row : List ℕ) (g : Sided l h w first helpers shares e m sides cur row) where
+  pub sides-high : (r : ℕ) → r ≡ parityRacks l → Fits w64 (length sides) → Fits w64 (r * w)
+  sides-high r er f = let q = g .sides-long in let t : r * w ≡ parityRacks l * w = ap (λ n. n * w) er in omega arith
+
+  pub sides-in : (r : ℕ) → r ≡ parityRacks l → 0 + r * w ≤ length sides
+  sides-in r er = let q = g .sides-long in let t : r * w ≡ parityRacks l * w = ap (λ n. n * w) er in omega arith
+
+  pub sharing-of : (k : ℕ) (cur′ row′ : List ℕ) → k < length helpers → length cur′ ≡ length cur → length row′ ≡ length row → Sharing l h w first helpers shares e m k cur′ row′
+  sharing-of k cur′ row′ hk ec el = record {
+    received = g .received;
+    block = g .block;
+    weight-in = g .weight-in;
+    helper-in = rw (sym (g .received .chosen .many)) hk;
+    cur-long = rw ec (g .cur-long);
+    row-long = rw el (g .row-long);
+  }
+
+  pub count-fits : (k : ℕ) → k < length helpers → Fits w64 (k + 1)
+  count-fits k h = let b = bounds l (g .received .chosen .adm) in record { fits = omega (arith, g .received .chosen .many, g .received .chosen .adm .helpers-high) }

@@ -1,0 +1,74 @@
+use mathlib.Core.Path.{_≡_, refl, _∙_}
+use Prim.Native.Nat.{_-_, _≤_}
+use native.Mathlib.Omega.{arith}
+use lib.ListN.{length}
+use Rattle.sums.specs.Inner.{SidesTo}
+use Rattle.sums.proofs.Sides.{sides-high, sides-in, sides-none, sharing-of, count-fits, sides-more, sides-end}
+use borrow.Author.Needs.{needs}
+use Rattle.sums.proofs.block_sides.Statement.{statement}
+use Rattle.sums.proofs.block_sides.Tie as tie
+
+abbrev Inv-loop : tie.InvT-loop
+Inv-loop sides₀ l h w first helpers shares e m cur₀ row₀ k₀ sides cur row k = (k ≤ length helpers) × (length sides ≡ length sides₀) × (length cur ≡ length cur₀) × (length row ≡ length row₀) × SidesTo l h w first helpers shares e m k sides
+
+abbrev μ-loop : tie.MeasureT-loop
+μ-loop sides₀ l h w first helpers shares e m cur₀ row₀ k₀ sides cur row k = length helpers - k
+
+unknown-count-requires : tie.Need-unknown-count-requires Inv-loop μ-loop
+unknown-count-requires c κs = search needs
+
+cast-fill : tie.Need-cast-fill Inv-loop μ-loop
+cast-fill c = search needs
+
+mul-fill : tie.Need-mul-fill Inv-loop μ-loop
+mul-fill c = search sides-high
+
+fill-requires : tie.Need-fill-requires Inv-loop μ-loop
+fill-requires c κs = search sides-in
+
+loop-holds : tie.Need-loop-holds Inv-loop μ-loop
+loop-holds c = (omega arith, search needs, refl, refl, search sides-none)
+
+add-share-requires : tie.Need-add-share-requires Inv-loop μ-loop
+add-share-requires c κs = (search sharing-of, rw (c .before .before .before .before .loop .inv .1 ∙ c .before .before .before .before .before .before .before .fill .ensures .long) (c .before .before .before .before .before .before .before .before .before .before .before .before .before .before .before .pre .sides-long))
+
+add-k : tie.Need-add-k Inv-loop μ-loop
+add-k c = search count-fits
+
+loop-less : tie.Need-loop-less Inv-loop μ-loop
+loop-less c = omega arith
+
+loop-again : tie.Need-loop-again Inv-loop μ-loop
+loop-again c = (omega arith, search needs, search needs, search needs, search sides-more)
+
+same-length : tie.Need-same-length Inv-loop μ-loop
+same-length c = search needs
+
+same-length-2 : tie.Need-same-length-2 Inv-loop μ-loop
+same-length-2 c = search needs
+
+same-length-3 : tie.Need-same-length-3 Inv-loop μ-loop
+same-length-3 c = search needs
+
+returns : tie.Need-returns Inv-loop μ-loop
+returns c = search sides-end
+
+pub block-sides-spec : {M : Type 1} → statement M
+block-sides-spec =
+    tie.close
+    (tie.spec
+    Inv-loop
+    μ-loop
+    unknown-count-requires
+    cast-fill
+    mul-fill
+    fill-requires
+    loop-holds
+    add-share-requires
+    add-k
+    loop-less
+    loop-again
+    same-length
+    same-length-2
+    same-length-3
+    returns)
