@@ -17,7 +17,9 @@ use Rattle.layout.proofs.Facts.{bounds}
 use Rattle.layout.proofs.Numbers.{digits-small, layer-below}
 use Rattle.syndrome.specs.Syndrome.{Block}
 use Rattle.syndrome.proofs.Digits.{run-pos}
-use Rattle.group.specs.Inner.{spot, Groups, Lying}
+use Rattle.sums.specs.Inner.{Groups}
+use Rattle.sums.proofs.Sides.{width-pos}
+use Rattle.group.specs.Inner.{spot, Lying}
 use Rattle.group.proofs.Spots.{spot-run}
 
 -- where the width divides s^h, all groups of the block have the same quotient by s^h
@@ -78,16 +80,10 @@ module _ (s h w n a : ℕ) (pw : 0 < w) where
           let v : c * s * q ≡ c * (s * q) = mul-assoc c s q in
           omega arith
 
-pub width-pos : (l : Layout) (w first : ℕ) → Block l w first → 0 < w
-width-pos l w first b = rw (b .width) (run-pos l (b .adm) (b .power))
-
-pub first-in : (l : Layout) (h w first : ℕ) → Groups l h w first → first < groups l
-first-in l h w first g = let p = width-pos l w first (g .block) in let b = g .groups-in in omega arith
-
 -- runs of the smaller of w and s^h
-module _ (l : Layout) (h w first a s q run : ℕ) (g : Groups l h w first) (ha : a < digits l) (es : s ≡ digits l) (eq : q ≡ digits l ^ h) (er : run ≡ min w q) where
+module _ (l : Layout) (h w first a s q run : ℕ) (g : Groups l w first) (hh : h < l .racks) (ha : a < digits l) (es : s ≡ digits l) (eq : q ≡ digits l ^ h) (er : run ≡ min w q) where
   some : 0 < w
-  some = width-pos l w first (g .block)
+  some = width-pos l w first g
 
   power-pos : 0 < digits l ^ h
   power-pos = run-pos l (g .block .adm) h
@@ -159,7 +155,7 @@ module _ (l : Layout) (h w first a s q run : ℕ) (g : Groups l h w first) (ha :
 
             below : start + c * (s * run) + (run - 1) < layers l
             below = subst (λ y. y < layers l) (sym (placed (c * run + (run - 1)) in-block) ∙ spot-run start run (s * run) c (run - 1) last)
-                (layer-below l (g .block .adm) h (first + (c * run + (run - 1))) a (g .host-in) (let i = in-block in let b = g .groups-in in omega arith) ha)
+                (layer-below l (g .block .adm) h (first + (c * run + (run - 1))) a hh (let i = in-block in let b = g .inside in omega arith) ha)
 
   pub stride-fits : Fits w64 (s * run)
   stride-fits = record { fits = mul-below 4 layerLimit (let d = digits-small l (g .block .adm) in omega arith) (let i = g .block .inside in let d = g .block .adm .layers-high in omega arith) tt }

@@ -32,7 +32,7 @@ use Rattle.rule.specs.Rule.{groupAt, rackSymbol}
 use Rattle.rule.specs.Lost.{firstLost, lostPlace, Losses, Piece}
 use Rattle.rule.specs.Inner.{layerSum, lostSymbol}
 use Rattle.rule.proofs.Lost.{lost-places, is-ruled}
-use Rattle.sums.specs.Inner.{sumAt, BlockSums}
+use Rattle.sums.specs.Inner.{sumAt, SumsTo}
 use Rattle.group.specs.Inner.{Lying, LostPlaces, Rests, PutRows, foundAt, DigitMended, BlockMended, Mending, Workspace}
 
 -- ---- room
@@ -111,7 +111,7 @@ module _ (l : Layout) (h : ℕ) (lost host : List ℕ) (w first : ℕ) (sums : L
           subst (λ b. elem (getD new (i * layers l + layerOf (digits l) h (first + j) b) 0) ≡ foundAt l lost host h w first sums b j i) (sym e) (d .done i j hi hj)
       go i b j hi hb hj (no n) =
           ap elem (d .kept i (layerOf (digits l) h (first + j) b)
-          (layer-below l (q .losing .adm) h (first + j) b (q .losing .host-in) (let i = q .groups-in in omega arith) (omega arith))
+          (layer-below l (q .losing .adm) h (first + j) b (q .losing .host-in) (let i = q .block .inside in omega arith) (omega arith))
           (λ k hk e. n (sym (layer-digit (digits l) pos h (first + j) b (omega arith)) ∙ ap (λ y. digit (digits l) y h) e ∙ layer-digit (digits l) pos h (first + k) a ha)))
           ∙ g .done i b j hi (omega arith) hj
 
@@ -120,7 +120,7 @@ module _ (l : Layout) (h : ℕ) (lost host : List ℕ) (w first : ℕ) (sums : L
 
 -- a block written whole, by the host's own sums, is as the rule fixes it
 module _ (l : Layout) (lost helpers shares host : List ℕ) (w first : ℕ) (sums : List ℕ) (adm : Admissible l) (given : Losses l lost helpers) (block : Block l w first)
-    (inside : first + w ≤ groups l) (S : BlockSums l (firstLost l lost / l .size) w first helpers shares (length lost) sums) where
+    (inside : first + w ≤ groups l) (S : SumsTo l (firstLost l lost / l .size) w first helpers shares (length lost) (length lost) sums) where
   abbrev h : ℕ
   h = firstLost l lost / l .size
 

@@ -11,11 +11,11 @@ use Rattle.algebra.specs.Layers.{layerOf}
 use Rattle.symbol.specs.Elem.{Elem, elem, ops, gf256}
 use Rattle.kernel.specs.Runs.{cell, Inverses}
 use Rattle.layout.specs.declared.Layout.{Layout}
-use Rattle.layout.specs.Layout.{digits, layers, groups, Admissible}
+use Rattle.layout.specs.Layout.{digits, layers, Admissible}
 use Rattle.codeword.specs.Codeword.{shapeOf}
-use Rattle.syndrome.specs.Syndrome.{Block}
 use Rattle.rule.specs.Rule.{rackSymbol}
 use Rattle.rule.specs.Lost.{lostPlace}
+use Rattle.sums.specs.Inner.{Groups}
 
 -- where number j of a buffer stands that lies in runs, each so far behind the one before
 unfoldable pub spot : (start run stride j : ℕ) → ℕ
@@ -43,13 +43,7 @@ pub record InTray (l : Layout) (w start run count stride : ℕ) : Type 0 where
   pub inside : Inside start run count stride (layers l)
   pub whole : count * run ≡ w
 
--- a block of groups
-pub record Groups (l : Layout) (h w first : ℕ) : Type 0 where
-  pub block : Block l w first
-  pub host-in : h < l .racks
-  pub groups-in : first + w ≤ groups l
-
--- its layers with the digit a
+-- the layers of a block of groups with the digit a
 pub record Lying (l : Layout) (h w first a start run count stride : ℕ) : Type 0 where
   pub in-tray : InTray l w start run count stride
   pub at : (j : ℕ) → j < w → spot start run stride j ≡ layerOf (digits l) h (first + j) a
@@ -120,8 +114,7 @@ pub record BlockMended (l : Layout) (h : ℕ) (lost host : List ℕ) (w first : 
 -- what is told of a block: the lost trays, its groups, the host's sums and the inverses of all symbols
 pub record Mending (l : Layout) (h : ℕ) (lost host : List ℕ) (w first : ℕ) (sums table : List ℕ) : Type 0 where
   pub losing : Losing l h lost host
-  pub block : Block l w first
-  pub groups-in : first + w ≤ groups l
+  pub block : Groups l w first
   pub sums-long : length lost * digits l * w ≤ length sums
   pub inverses : Inverses table
 

@@ -10,7 +10,8 @@ ghost use Rattle.kernel.specs.Runs.{Run};
 ghost use Rattle.layout.specs.Layout.{digits, layers, Admissible};
 ghost use Rattle.syndrome.specs.Syndrome.{Room};
 ghost use Rattle.rule.specs.Rule.{rackSymbol};
-ghost use Rattle.group.specs.Inner.{spot, gathered, Inside, Scattered, InTray, Groups, Lying, Losing, LostPlaces, soundSymbol, PlaceTerms, Begun, Rests, PutRows, DigitMended, BlockMended, Mending, Workspace};
+ghost use Rattle.sums.specs.Inner.{Groups};
+ghost use Rattle.group.specs.Inner.{spot, gathered, Inside, Scattered, InTray, Lying, Losing, LostPlaces, soundSymbol, PlaceTerms, Begun, Rests, PutRows, DigitMended, BlockMended, Mending, Workspace};
 
 // Where the layers of a block with one digit lie in a tray: so many runs of consecutive layers, each as far behind the one before.
 struct Runs {
@@ -22,7 +23,7 @@ struct Runs {
 
 // The runs of the layers with digit a. In runs of s^h the groups' layers are consecutive.
 fn runs_of(l: Layout, h: u32, w: usize, first: u32, a: u32) -> Runs
-    requires { ⌜ Groups l h w first × (a < digits l) ⌝ }
+    requires { ⌜ Groups l w first × (h < l .racks) × (a < digits l) ⌝ }
     ensures { λ r. ⌜ Lying l h w first a (r .start) (r .run) (r .count) (r .stride) ⌝ }
 {
     let s = layout::digit_count(l) as usize;

@@ -1,39 +1,24 @@
--- The table of inverses: the powers of the root upwards, and their inverses by halving.
+-- The table of inverses, power after power of the root.
 -- Assumes nothing.
-use mathlib.Core.Path.{_≡_, refl, sym, ap, _∙_, subst}
-use mathlib.Core.Bool.{Bool}
+use mathlib.Core.Path.{_≡_, sym, ap, _∙_, subst}
 use mathlib.Core.List.{List}
-use mathlib.Core.Logic.{⊎-elim}
-use Prim.Native.Nat.{ℕ, _+_, _*_, _/_, _%_, _<_, _≤_}
-use native.Mathlib.Nat.{mod-lt, not-suc-le-zero, eq-zero-or-pos}
-use native.Mathlib.Numerals.{add-one}
+use Prim.Native.Nat.{ℕ, _+_, _-_, _%_, _<_, _≤_}
+use native.Mathlib.Nat.{mod-lt, not-suc-le-zero}
 use native.Mathlib.Decide.{ℕ-discrete}
 use native.Mathlib.Omega.{arith}
-use mir.Val.{Fits}
-use mir.Syntax.{w8}
-use lib.Bits.{bitXor, bitAnd, and-mask}
-use lib.Dec.{eqb, eqb→eq, lit<}
+use lib.Dec.{lit<}
 use lib.ListN.{length, getD, set, length-set}
 use lib.Seq.{getD-set-same, getD-set-other}
-use Rattle.lists.proofs.Computed.{all-below}
 use Rattle.algebra.specs.Field.{Ops}
-use Rattle.symbol.specs.Arithmetic.{_⊕_, _⊗_, mulz, shiftAdd, zpow}
+use Rattle.symbol.specs.Arithmetic.{_⊗_, zpow}
 use Rattle.symbol.specs.Elem.{elem, ops}
-use Rattle.symbol.proofs.Laws.{⊗-comm, ⊗-assoc, ⊗-one}
-use Rattle.symbol.proofs.Shifts.{wrap}
-use Rattle.symbol.proofs.Power.{zpow-zero, zpow-suc, zpow-lt}
-use Rattle.symbol.proofs.Tables.{log, log-lt, zpow-log, zpow-pos}
+use Rattle.symbol.proofs.Power.{zpow-lt}
+use Rattle.symbol.proofs.Tables.{log, log-lt, zpow-log, zpow-pos, zpow-mod, by-log}
 use Rattle.symbol.proofs.Elem.{elem-inverse, inverse-zero}
 use Rattle.kernel.specs.Runs.{Inverses, Inverted}
 
-halves : ℕ → Bool
-halves q = eqb (2 ⊗ bitXor (q / 2) (bitAnd (q % 2 * 255) 142)) q
-
-pub half-is : (q r : ℕ) → Fits w8 q → Fits w8 r → (r + bitAnd q 1) % 256 ≡ 0 → 2 ⊗ bitXor (q / 2) (bitAnd r 142) ≡ q
-unfolding halves _⊗_ shiftAdd mulz _⊕_
-half-is q r h l e =
-    ap (λ (x : ℕ). 2 ⊗ bitXor (q / 2) (bitAnd x 142)) (wrap (q % 2) r (mod-lt q (lit< tt)) (l .fits) (rw (sym (and-mask q 1)) e))
-    ∙ eqb→eq _ _ (all-below halves 256 tt q (h .fits))
+pub power-small : (powers : List ℕ) (i : ℕ) → ((m : ℕ) → m < 255 → getD powers m 0 ≡ zpow m) → i < 255 → getD powers i 0 < 256
+power-small powers i at h = rw (at i h) (zpow-lt i)
 
 pub inverted-none : (table : List ℕ) → length table ≡ 256 → Inverted (set table 0 0) 0
 inverted-none table e = record {
@@ -66,18 +51,14 @@ inverted-more table i p q e u b t = record {
     go m h (no s) =
         ap (λ (x : ℕ). zpow m ⊗ x) (getD-set-other table p (zpow m) q 0 s) ∙ t .at m (earlier m h s)
 
--- twice the one is as much as half the other
-pub power-next : (i p n : ℕ) → p ≡ zpow i → n ≡ p ⊗ 2 → n ≡ zpow (i + 1)
-power-next i p n e q = q ∙ ap (λ (x : ℕ). x ⊗ 2) e ∙ ⊗-comm (zpow i) 2 ∙ sym (zpow-suc i) ∙ ap zpow (sym (add-one i))
-
-pub inverse-next : (p q n h : ℕ) → n ≡ p ⊗ 2 → 2 ⊗ h ≡ q → p ⊗ q ≡ 1 → n ⊗ h ≡ 1
-inverse-next p q n h e d u = ap (λ (x : ℕ). x ⊗ h) e ∙ ⊗-assoc p 2 h ∙ ap (λ (x : ℕ). p ⊗ x) d ∙ u
-
-pub one-power : 1 ≡ zpow 0
-one-power = sym zpow-zero
-
-pub one-one : 1 ⊗ 1 ≡ 1
-one-one = ⊗-one (lit< tt)
+-- the inverse of a power is the power that is left of the order
+pub inverted-next : (powers table : List ℕ) (i : ℕ) → ((m : ℕ) → m < 255 → getD powers m 0 ≡ zpow m) → i < 255 → Inverted table i →
+    Inverted (set table (getD powers i 0) (getD powers ((255 - i) % 255) 0)) (i + 1)
+inverted-next powers table i at h t =
+    inverted-more table i _ _ (at i h) (by-log i (sym (at i h)) h left) (rw left (zpow-lt (255 - i))) t
+  where
+    left : getD powers ((255 - i) % 255) 0 ≡ zpow (255 - i)
+    left = at ((255 - i) % 255) (mod-lt (255 - i) (lit< tt)) ∙ zpow-mod (255 - i)
 
 pub inverted-end : (table : List ℕ) (i : ℕ) → Inverted table i → i ≤ 255 → 255 ≤ i → Inverses table
 inverted-end table i t h l = record { long = t .long; at = λ x b. go x b (ℕ-discrete x 0) }

@@ -3,3 +3,4 @@ pub mod Rows
 pub mod Spaced
 pub mod Inverse
 pub mod Periods
+pub mod Apart

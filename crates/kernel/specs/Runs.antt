@@ -3,7 +3,7 @@
 use mathlib.Core.Path.{_≡_}
 use mathlib.Core.Bool.{Bool}
 use mathlib.Core.List.{List}
-use Prim.Native.Nat.{ℕ, _+_, _*_, _%_, _<_, _≤_}
+use Prim.Native.Nat.{ℕ, zero, suc, _+_, _*_, _%_, _<_, _≤_}
 use lib.Dec.{eqb}
 use lib.ListN.{length, getD}
 use Rattle.lists.specs.Lists.{all}
@@ -43,6 +43,14 @@ sampled src step j = getD src (j * step) 0
 
 unfoldable pub added : List ℕ → ℕ → List ℕ → ℕ → ℕ → ℕ
 added out to src from j = getD out (to + j) 0 ⊕ getD src (from + j) 0
+
+-- the sum of n numbers, so many places apart
+unfoldable pub sumApart : List ℕ → ℕ → ℕ → ℕ → ℕ
+sumApart src at gap zero = 0
+sumApart src at gap (suc n) = sumApart src at gap n ⊕ getD src (at + n * gap) 0
+
+unfoldable pub addedApart : List ℕ → ℕ → List ℕ → ℕ → ℕ → ℕ → ℕ → ℕ
+addedApart out to src from gap n j = getD out (to + j) 0 ⊕ sumApart src (from + j) gap n
 
 unfoldable pub addedSpaced : List ℕ → ℕ → ℕ → List ℕ → ℕ → ℕ → ℕ → ℕ
 addedSpaced out to step src from stride j = getD out (to + j * step) 0 ⊕ getD src (from + j * stride) 0

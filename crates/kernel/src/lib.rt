@@ -1,12 +1,12 @@
 // Kernels: loops over a run of symbols, one loop each with one step a symbol and no branch or table, so that the compiler does many symbols at a time.
 // Each promises what its run holds afterwards and that every other symbol of the buffer is as it was.
 use symbol::ladder::product;
+use symbol::powers::all_powers;
 ghost use mathlib.Core.Path.{_≡_};
 ghost use Prim.Native.Nat.{_+_, _*_, _<_, _≤_};
 ghost use lib.ListN.{length};
-ghost use Rattle.symbol.specs.Arithmetic.{_⊗_};
 ghost use Rattle.kernel.specs.Runs.{Run, filled, copied, repeated, added, addedProduct, addedMultiple, stepped, accrued, shifted, parted, lookedUp, sampled};
-ghost use Rattle.kernel.specs.Runs.{Spaced, addedSpaced, allZero, Inverses};
+ghost use Rattle.kernel.specs.Runs.{Spaced, addedSpaced, sumApart, addedApart, allZero, Inverses};
 
 // v at len places from the place `to` on.
 pub fn fill(out: &mut [u8], to: usize, len: usize, v: u8)
@@ -85,6 +85,40 @@ pub fn add(out: &mut [u8], to: usize, len: usize, src: &[u8], from: usize)
     let mut j = 0usize;
     while j < len {
         out[to + j] = out[to + j] ^ src[from + j];
+        j += 1;
+    }
+}
+
+// The sum of n symbols, so many places apart.
+fn sum_apart(src: &[u8], at: usize, gap: usize, n: usize) -> u8
+    requires { ⌜ at + n * gap < length (now src) + gap ⌝ }
+    ensures { λ r. ⌜ r ≡ sumApart (now (src .entry)) at gap n ⌝ }
+{
+    let mut v = 0u8;
+    let mut b = 0usize;
+    while b < n {
+        v = v ^ src[at + b * gap];
+        b += 1;
+    }
+    v
+}
+
+// A run plus n runs of another buffer, so many places apart.
+pub fn add_apart(
+    out: &mut [u8],
+    to: usize,
+    len: usize,
+    src: &[u8],
+    from: usize,
+    gap: usize,
+    n: usize,
+)
+    requires { ⌜ (to + len ≤ length (now out)) × (from + len ≤ length (now src)) × (from + n * gap + len ≤ length (now src) + gap) ⌝ }
+    ensures { λ _. ⌜ Run (addedApart (now (out .entry)) to (now (src .entry)) from gap n) (now (out .entry)) (now (out .exit)) to len ⌝ }
+{
+    let mut j = 0usize;
+    while j < len {
+        out[to + j] = out[to + j] ^ sum_apart(src, from + j, gap, n);
         j += 1;
     }
 }
@@ -210,26 +244,16 @@ pub fn all_zero(xs: &[u8], len: usize) -> bool
     true
 }
 
-// Half a symbol: the one whose double it is.
-fn half(q: u8) -> u8
-    ensures { λ h. ⌜ 2 ⊗ h ≡ q ⌝ }
-{
-    (q >> 1) ^ (std::num::wrapping_sub_u8(0, q & 1) & 142)
-}
-
 // A table of the inverses of all symbols; of zero, zero.
 pub fn inverses(table: &mut [u8])
     requires { ⌜ length (now table) ≡ 256 ⌝ }
     ensures { λ _. ⌜ Inverses (now (table .exit)) ⌝ }
 {
+    let powers = all_powers();
     table[0] = 0;
     let mut i = 0usize;
-    let mut p = 1u8;
-    let mut q = 1u8;
     while i < 255 {
-        table[p as usize] = q;
-        p = product(p, 2);
-        q = half(q);
+        table[powers[i] as usize] = powers[(255 - i) % 255];
         i += 1;
     }
 }

@@ -11,12 +11,15 @@ pub fn capped_power(base: u32, e: u32) -> u32
     if e == 0 {
         return 1;
     }
-    let root = capped_power(base, e / 2);
-    let square = capped(root as u64 * root as u64);
-    if e % 2 == 0 {
-        return square;
+    if e == 1 {
+        return capped(base as u64);
     }
-    capped(square as u64 * base as u64)
+    let root = capped_power(base, e / 2) as u64;
+    let square = root * root;
+    if e % 2 == 0 {
+        return capped(square);
+    }
+    capped(square * base as u64)
 }
 
 // The smaller of x and one more than the limit.

@@ -2,7 +2,7 @@
 -- Assumes nothing.
 use mathlib.Core.Path.{_≡_, refl, sym, ap, _∙_}
 use Prim.Native.Nat.{ℕ, zero, suc, _+_, _*_, _/_, _%_, _^_, _≤_, _<_, min}
-use native.Mathlib.Nat.{mul-zero, mul-comm, mul-one, le-mul-of-pos-right, pow-suc}
+use native.Mathlib.Nat.{mul-zero, mul-comm, one-mul, le-mul-of-pos-right, pow-zero, pow-suc}
 use native.Mathlib.Decide.{decLe}
 use native.Mathlib.Omega.{arith}
 use lib.Pow.{pow-add}
@@ -25,7 +25,13 @@ module _ (c : ℕ) (pos : 0 < c) where
   cap-square a =
       cap-mul a (min a c) ∙ ap (λ x. min x c) (mul-comm a (min a c)) ∙ cap-mul a a
 
+  pub cap-odd : (a b : ℕ) → min (min a c * min a c * b) c ≡ min (a * a * b) c
+  cap-odd a b = sym (cap-mul (min a c * min a c) b) ∙ ap (λ x. min (x * b) c) (cap-square a) ∙ cap-mul (a * a) b
+
 module _ (b e : ℕ) where
+  pub first-power : e ≡ 1 → b ≡ b ^ e
+  first-power h = sym (one-mul b) ∙ ap (λ x. x * b) (sym (pow-zero b)) ∙ sym (pow-suc b 0) ∙ ap (λ x. b ^ x) (sym h)
+
   pub half-even : e % 2 ≡ 0 → b ^ (e / 2) * b ^ (e / 2) ≡ b ^ e
   half-even h = sym (pow-add b (e / 2) (e / 2)) ∙ ap (λ x. b ^ x) (omega arith)
 

@@ -8,7 +8,7 @@ use native.Mathlib.Nat.{div-add-mod', mod-one, mul-one, mul-le-mul-right, le-ref
 use native.Mathlib.Omega.{arith}
 use mir.Val.{Fits}
 use mir.Syntax.{w32, w64}
-use lib.ListN.{length, getD, replicate, length-replicate}
+use lib.ListN.{length, getD}
 use Rattle.lists.proofs.Numbers.{mul-below}
 use Rattle.algebra.proofs.Layers.{power-pos}
 use Rattle.kernel.specs.Runs.{Inverses}
@@ -17,6 +17,7 @@ use Rattle.layout.specs.Layout.{digits, layers, groups, parityRacks, trayLimit,
 use Rattle.layout.proofs.Facts.{bounds, rack-in, power-in}
 use Rattle.layout.proofs.Numbers.{digits-small, groups-are}
 use Rattle.syndrome.specs.Syndrome.{blockLimit, roomLimit}
+use Rattle.syndrome.proofs.Room.{roomOf, rowOf, room-long, row-long}
 use Rattle.rule.specs.Lost.{firstLost, Losses}
 use Rattle.sums.specs.Inner.{Received, Groups, Summing}
 use Rattle.sums.proofs.Steps.{unknowns-high, sums-high}
@@ -155,8 +156,7 @@ module _ (l : Layout) (lost helpers shares host : List ℕ) (w first : ℕ) (spa
       one-rack = p .losses .one-rack;
       host-long = p .host-long;
     };
-    block = g .block;
-    groups-in = g .inside;
+    block = g;
     sums-long = rw e (le-trans (fit .sums) (r .sums-long));
     inverses = t;
   }
@@ -190,20 +190,14 @@ rooms-next sums sides found points coefs row cur sums′ sides′ found′ point
 }
 
 -- the arrays
-abbrev pub roomOf : List ℕ
-roomOf = replicate roomLimit 0
-
-abbrev pub rowOf : List ℕ
-rowOf = replicate blockLimit 0
-
 pub rooms : Rooms roomOf roomOf roomOf roomOf roomOf rowOf rowOf
 rooms = record { sums-long = all; sides-long = all; found-long = all; points-long = all; coefs-long = all; row-long = row; cur-long = row }
   where
     all : roomLimit ≤ length roomOf
-    all = rw (length-replicate {A = ℕ} roomLimit 0) (omega arith)
+    all = rw room-long (omega arith)
 
     row : blockLimit ≤ length rowOf
-    row = rw (length-replicate {A = ℕ} blockLimit 0) (omega arith)
+    row = rw row-long (omega arith)
 
 pub start-fits : (l : Layout) (lost helpers shares host : List ℕ) (first count k : ℕ) (spare : List ℕ) → Piecing l lost helpers shares host first count spare → k < count → Fits w32 (first + k)
 start-fits l lost helpers shares host first count k spare p h = let b = bounds l (p .adm) in record { fits = omega (arith, p .within) }

@@ -7,12 +7,13 @@ use native.Mathlib.Nat.{mul-le-mul, mul-le-mul-right, le-trans, div-le-self}
 use native.Mathlib.Omega.{arith}
 use mir.Val.{Fits}
 use mir.Syntax.{w64}
-use lib.ListN.{length, replicate, length-replicate}
+use lib.ListN.{length}
 use Rattle.lists.proofs.Numbers.{mul-below}
 use Rattle.layout.specs.declared.Layout.{Layout}
 use Rattle.layout.specs.Layout.{trays, checks, digits, layers, trayLimit, layerLimit, Admissible}
 use Rattle.layout.proofs.Facts.{bounds}
 use Rattle.syndrome.specs.Syndrome.{blockLimit, roomLimit, Block, Listed, Room}
+use Rattle.syndrome.proofs.Room.{roomOf, rowOf, room-long, row-long}
 use Rattle.restore.specs.Restored.{Erasing}
 use Rattle.restore.specs.Inner.{Workspace}
 
@@ -40,17 +41,11 @@ pub erasing-next : (l : Layout) (total : ℕ) (es c d : List ℕ) → Erasing l 
 erasing-next l total es c d p e = record { adm = p .adm; total-is = p .total-is; long = e ∙ p .long; listed = p .listed }
 
 -- the arrays
-abbrev pub roomOf : List ℕ
-roomOf = replicate roomLimit 0
-
-abbrev pub rowOf : List ℕ
-rowOf = replicate blockLimit 0
-
 pub space : (l : Layout) (e : ℕ) → digits l ^ e ≤ blockLimit → checks l * digits l ^ e ≤ roomLimit → Workspace l (digits l ^ e) roomOf roomOf roomOf roomOf rowOf
-space l e h k = record { sums-long = fits; found-long = fits; points-long = fits; coefs-long = fits; row-long = rw (length-replicate {A = ℕ} blockLimit 0) h }
+space l e h k = record { sums-long = fits; found-long = fits; points-long = fits; coefs-long = fits; row-long = rw row-long h }
   where
     fits : checks l * digits l ^ e ≤ length roomOf
-    fits = rw (length-replicate {A = ℕ} roomLimit 0) k
+    fits = rw room-long k
 
 pub found-next : (l : Layout) (w : ℕ) (sums found new points coefs row : List ℕ) → Workspace l w sums found points coefs row → length new ≡ length found → checks l * w ≤ length new
 found-next l w sums found new points coefs row g e = rw e (g .found-long)

@@ -35,7 +35,7 @@ use Rattle.rule.specs.Rule.{trayPart, weightedSum, shareSymbol}
 use Rattle.rule.proofs.Racks.{tray-at, tray-long}
 use Rattle.share.specs.Share.{partSymbol}
 use Rattle.share.specs.Many.{sharesOf, partAt, fedMany}
-use Rattle.share.specs.Inner.{sumAt, Summed, Added, Weighing, Feeding, Gathering}
+use Rattle.share.specs.Inner.{sumAt, Summing, Summed, Added, Weighing, Feeding, Gathering}
 use Rattle.share.proofs.Weights.{row-in}
 
 choose-sum : {A : Type 0} (o : Ops A) → Laws o → (n : ℕ) (b : Bool) (t : ℕ → A) → sum o n (λ g. choose b (t g) (o .zero)) ≡ choose b (sum o n t) (o .zero)
@@ -142,7 +142,7 @@ part-from l h x m p symbols hp =
     part-is gf256 gf256-laws l m h x symbols p ∙ ap₂ (λ y z. partSymbol gf256 l y h x symbols z) (sym (digits-div m hp)) (sym (digits-mod m hp))
 
 -- the sums are the part of weight 0
-pub added-first : (l : Layout) (h x : ℕ) (symbols held shares : List ℕ) → Summed l h symbols held shares → Added l h x symbols held shares 1
+added-first : (l : Layout) (h x : ℕ) (symbols held shares : List ℕ) → Summed l h symbols held shares → Added l h x symbols held shares 1
 added-first l h x symbols held shares d =
     record { same = d .same; low = at; high = λ n k. d .rest n (omega (arith, one-mul (groups l))) }
   where
@@ -185,14 +185,31 @@ added-more l h x m to total w symbols held sums shares shares′ e-total e-to e-
 pub added-end : (l : Layout) (h x m e : ℕ) (symbols held shares : List ℕ) → Added l h x symbols held shares m → m ≤ e → e ≤ m → Added l h x symbols held shares e
 added-end l h x m e symbols held shares u k b = subst (λ n. Added l h x symbols held shares n) (omega arith) u
 
+-- with one share there are no other weights
+pub no-others : (l : Layout) (e h x : ℕ) (symbols shares : List ℕ) → 0 < e → e < 2 → (held : List ℕ) → Added l h x symbols held shares 1 → Added l h x symbols held shares e
+no-others l e h x symbols shares p q held u = added-end l h x 1 e symbols held shares u (omega arith) (omega arith)
+
 -- sums added to zeros
 pub sums-only : (l : Layout) (h n : ℕ) (symbols sums : List ℕ) → groups l ≤ n → Summed l h symbols (replicate n 0) sums → (p : ℕ) → p < groups l → elem (getD sums p 0) ≡ sumAt l h symbols p
 sums-only l h n symbols sums room d p k =
     d .done p k ∙ ap (λ y. ops .add y (sumAt l h symbols p)) (ap elem (getD-replicate n p 0 0 (omega arith)) ∙ elem-zero) ∙ zero-plus ops laws (sumAt l h symbols p)
 
 -- with all weights done, the buffer is that of the shares once the tray is fed
-pub added-all : (l : Layout) (e h x : ℕ) (symbols held shares : List ℕ) → length held ≡ e * groups l → ((n : ℕ) → getD shares n 0 < 256) → Added l h x symbols held shares e →
+added-all : (l : Layout) (e h x : ℕ) (symbols held shares : List ℕ) → length held ≡ e * groups l → ((n : ℕ) → getD shares n 0 < 256) → Added l h x symbols held shares e →
     shares ≡ fedMany gf256 l e h x symbols held
 unfolding fedMany
 added-all l e h x symbols held shares room bytes u =
     is-table _ _ (e * groups l) (u .same ∙ room) (λ n k. sym (val-elem (getD shares n 0) (bytes n)) ∙ ap (λ y. y .val) (u .low n k))
+
+-- a tray fed: its sums added, then its parts of the other weights
+pub fed-both : (l : Layout) (e h x : ℕ) (symbols held mid shares : List ℕ) → length held ≡ e * groups l → ((n : ℕ) → getD shares n 0 < 256) → Summed l h symbols held mid →
+    ((old : List ℕ) → Added l h x symbols old mid 1 → Added l h x symbols old shares e) → shares ≡ fedMany gf256 l e h x symbols held
+fed-both l e h x symbols held mid shares room bytes d later = added-all l e h x symbols held shares room bytes (later held (added-first l h x symbols held mid d))
+
+-- what is told of the two steps
+pub summing-of : (l : Layout) (e h : ℕ) (symbols shares : List ℕ) → Feeding l e h symbols shares → Summing l h symbols shares
+summing-of l e h symbols shares p = record { adm = p .adm; long = p .long; room = omega (arith, p .room, row-in e (groups l) 0 (p .some)); host-in = p .host-in }
+
+pub feeding-next : (l : Layout) (e h : ℕ) (symbols shares shares′ : List ℕ) → Feeding l e h symbols shares → Summed l h symbols shares shares′ → Feeding l e h symbols shares′
+feeding-next l e h symbols shares shares′ p d =
+    record { adm = p .adm; long = p .long; room = d .same ∙ p .room; host-in = p .host-in; some = p .some; few = p .few }

@@ -11,12 +11,13 @@ use Rattle.lists.proofs.Numbers.{cell-in, cell-same}
 use Rattle.algebra.specs.Field.{Ops}
 use Rattle.algebra.specs.Sum.{sum}
 use Rattle.algebra.proofs.Ring.{add-zero, add-assoc as plus-assoc}
-use Rattle.algebra.proofs.Sum.{sum-zero, sum-add-one}
+use Rattle.algebra.proofs.Sum.{sum-zero, sum-congr, sum-add-one}
 use Rattle.symbol.specs.Arithmetic.{_⊕_}
 use Rattle.symbol.specs.Elem.{elem, ops}
 use Rattle.symbol.proofs.Elem.{laws, elem-⊕}
-use Rattle.kernel.specs.Runs.{Run, added, Spaced, addedSpaced}
+use Rattle.kernel.specs.Runs.{Run, addedApart, Spaced, addedSpaced}
 use Rattle.kernel.proofs.Rows.{row-before, row-end}
+use Rattle.kernel.proofs.Apart.{apart-sum}
 use Rattle.share.specs.Inner.{InRuns, DigitAdded, AcrossAdded, DigitsAdded}
 
 module _ (s run count a : ℕ) (symbols sums : List ℕ) (t : InRuns s run count a symbols sums) where
@@ -24,15 +25,20 @@ module _ (s run count a : ℕ) (symbols sums : List ℕ) (t : InRuns s run count
   pub sums-run : (q : ℕ) → q < count → q * run + run ≤ length sums
   sums-run q h = omega (arith, row-before q count run h, t .room)
 
-  pub tray-run : (q : ℕ) → q < count → (q * s + a) * run + run ≤ length symbols
-  tray-run q h = omega (arith, row-before (q * s + a) (count * s) run (cell-in count s q a h (t .digit-in)), t .long)
-
-  pub tray-number : (q : ℕ) → q < count → q * s + a < length symbols
-  tray-number q h = omega (arith, tray-run q h, le-mul-of-pos-right (q * s + a) (t .some), t .some)
-
   -- s runs are within the tray
   whole : count * (s * run) ≡ length symbols
   whole = sym (mul-assoc count s run) ∙ sym (t .long)
+
+  -- the s runs of the tray that go to it
+  pub tray-runs : (q : ℕ) → q < count → q * s * run + s * run ≤ length symbols
+  tray-runs q h = omega (arith, row-before q count (s * run) h, whole, mul-assoc q s run)
+
+  pub one-run : run ≤ s * run
+  one-run = let p : 0 < s = omega (arith, t .digit-in) in omega (arith, row-before 0 s run p)
+
+  -- its number is a number
+  pub tray-number : (q : ℕ) → q < count → q * s ≤ length symbols
+  tray-number q h = omega (arith, tray-runs q h, le-mul-of-pos-right (q * s) (t .some))
 
   pub period-in : s * run ≤ length symbols
   period-in = omega (arith, whole, le-mul-of-pos-right (s * run) (t .some-runs), mul-comm (s * run) count)
@@ -47,26 +53,6 @@ module _ (s run count a : ℕ) (symbols sums : List ℕ) (t : InRuns s run count
   across-tray i h = omega (arith, whole, first-in i h)
 
 module _ (s run a : ℕ) (symbols was : List ℕ) where
-  pub runs-none : DigitAdded s run 0 a symbols was was
-  runs-none = record { same = refl; done = λ q i h. absurd (not-suc-le-zero h); rest = λ n h. refl }
-
-  -- one run more
-  pub runs-more : (q : ℕ) (is new : List ℕ) → DigitAdded s run q a symbols was is → Run (added is (q * run) symbols ((q * s + a) * run)) is new (q * run) run →
-      DigitAdded s run (q + 1) a symbols was new
-  unfolding added
-  runs-more q is new d r = record {
-    same = r .long ∙ d .same;
-    done = λ k i h l. go k i l (ℕ-discrete k q) h;
-    rest = λ n h. let e = row-end q run in r .high n (omega arith) ∙ d .rest n (omega arith);
-  }
-    where
-      go : (k i : ℕ) → i < run → Dec (k ≡ q) → k < q + 1 → getD new (k * run + i) 0 ≡ getD was (k * run + i) 0 ⊕ getD symbols ((k * s + a) * run + i) 0
-      go k i l (yes e) h = rw e (r .done i l ∙ ap (λ (y : ℕ). y ⊕ getD symbols ((q * s + a) * run + i) 0) (d .rest (q * run + i) (omega arith)))
-      go k i l (no e) h = r .low (k * run + i) (omega (arith, row-before k q run (omega arith))) ∙ d .done k i (omega arith) l
-
-  pub runs-end : (q count : ℕ) (is : List ℕ) → DigitAdded s run q a symbols was is → q ≤ count → count ≤ q → DigitAdded s run count a symbols was is
-  runs-end q count is d h l = subst (λ n. DigitAdded s run n a symbols was is) (omega arith) d
-
   module _ (count : ℕ) where
     pub across-none : AcrossAdded s run count a 0 symbols was was
     across-none = record { same = refl; done = λ q i h l. absurd (not-suc-le-zero l); later = λ q i h l. refl; rest = λ k h. refl }
@@ -96,6 +82,41 @@ module _ (s run a : ℕ) (symbols was : List ℕ) where
 
     pub across-end : (n : ℕ) (is : List ℕ) → AcrossAdded s run count a n symbols was is → n ≤ run → run ≤ n → DigitAdded s run count a symbols was is
     across-end n is d h l = record { same = d .same; done = λ q i b c. d .done q i b (omega arith) c; rest = d .rest }
+
+-- run after run
+module _ (s run : ℕ) (symbols was : List ℕ) where
+  pub runs-none : DigitsAdded s run 0 s symbols was was
+  runs-none = record { same = refl; done = λ q i h. absurd (not-suc-le-zero h); rest = λ n h. refl }
+
+  pub runs-more : (q : ℕ) (is new : List ℕ) → DigitsAdded s run q s symbols was is → Run (addedApart is (q * run) symbols (q * s * run) run s) is new (q * run) run →
+      DigitsAdded s run (q + 1) s symbols was new
+  unfolding addedApart
+  runs-more q is new d r = record {
+    same = r .long ∙ d .same;
+    done = λ k i h l. go k i l (ℕ-discrete k q) h;
+    rest = λ n h. let e = row-end q run in r .high n (omega arith) ∙ d .rest n (omega arith);
+  }
+    where
+      at : (i b : ℕ) → q * s * run + i + b * run ≡ (q * s + b) * run + i
+      at i b = let e : (q * s + b) * run ≡ q * s * run + b * run = add-mul (q * s) b run in omega arith
+
+      go : (k i : ℕ) → i < run → Dec (k ≡ q) → k < q + 1 →
+          elem (getD new (k * run + i) 0) ≡ ops .add (elem (getD was (k * run + i) 0)) (sum ops s (λ b. elem (getD symbols ((k * s + b) * run + i) 0)))
+      go k i l (yes e) h =
+          rw e (ap elem (r .done i l) ∙ elem-⊕ _ _
+          ∙ ap₂ (ops .add) (ap elem (d .rest (q * run + i) (omega arith)))
+          (apart-sum symbols (q * s * run + i) run s ∙ sum-congr ops s _ _ (λ b m. ap (λ n. elem (getD symbols n 0)) (at i b))))
+      go k i l (no e) h = ap elem (r .low (k * run + i) (omega (arith, row-before k q run (omega arith)))) ∙ d .done k i (omega arith) l
+
+  pub runs-end : (q count : ℕ) (is : List ℕ) → DigitsAdded s run q s symbols was is → q ≤ count → count ≤ q → DigitsAdded s run count s symbols was is
+  runs-end q count is d h l = subst (λ n. DigitsAdded s run n s symbols was is) (omega arith) d
+
+-- the number of digits written out
+pub same-digits : (s n run count : ℕ) (symbols was is : List ℕ) → s ≡ n → DigitsAdded n run count n symbols was is → DigitsAdded s run count s symbols was is
+same-digits s n run count symbols was is e d = rw e d
+
+pub same-runs : (s n run count : ℕ) (symbols sums : List ℕ) → s ≡ n → InRuns s run count 0 symbols sums → InRuns n run count 0 symbols sums
+same-runs s n run count symbols sums e t = rw (sym e) t
 
 -- digit after digit
 module _ (s run count : ℕ) (symbols was : List ℕ) where

@@ -19,26 +19,27 @@ use Rattle.layout.proofs.Facts.{bounds, power-in}
 use Rattle.layout.proofs.Numbers.{groups-are}
 use Rattle.codeword.specs.Codeword.{shapeOf}
 use Rattle.codeword.proofs.Usable.{usable}
-use Rattle.share.specs.Inner.{InRuns, DigitsAdded, sumAt, Summing, Summed}
+use Rattle.share.specs.Inner.{RunsOf, InRuns, DigitsAdded, sumAt, Summing, Summed}
 
 pub groups-pos : (l : Layout) → Admissible l → 0 < groups l
 groups-pos l a = rw (groups-are l a) (power-pos (digits l) (l .racks - 1) (bounds l a .digits-low))
 
-module _ (l : Layout) (h s run count : ℕ) (a : Admissible l) (host : h < l .racks) (es : s ≡ digits l) (er : run ≡ min (s ^ h) (layerLimit + 1))
-    (ec : count ≡ min (s ^ (l .racks - 1 - h)) (layerLimit + 1)) where
-  run-is : run ≡ digits l ^ h
-  run-is = er ∙ ap (λ b. min (b ^ h) (layerLimit + 1)) es ∙ omega (arith, power-in l a h (le-of-lt host))
+pub runs-are : (l : Layout) (h s run count : ℕ) → Admissible l → h < l .racks → s ≡ digits l → run ≡ min (s ^ h) (layerLimit + 1) →
+    count ≡ min (s ^ (l .racks - 1 - h)) (layerLimit + 1) → RunsOf l h s run count
+runs-are l h s run count a host es er ec = record {
+  digits-are = es;
+  run-is = er ∙ ap (λ b. min (b ^ h) (layerLimit + 1)) es ∙ omega (arith, power-in l a h (le-of-lt host));
+  count-is = ec ∙ ap (λ b. min (b ^ (l .racks - 1 - h)) (layerLimit + 1)) es ∙ omega (arith, power-in l a (l .racks - 1 - h) (omega arith));
+}
 
+module _ (l : Layout) (h s run count : ℕ) (a : Admissible l) (host : h < l .racks) (r : RunsOf l h s run count) where
   run-pos : 0 < run
-  run-pos = rw run-is (power-pos (digits l) h (bounds l a .digits-low))
-
-  count-is : count ≡ digits l ^ (l .racks - 1 - h)
-  count-is = ec ∙ ap (λ b. min (b ^ (l .racks - 1 - h)) (layerLimit + 1)) es ∙ omega (arith, power-in l a (l .racks - 1 - h) (omega arith))
+  run-pos = rw (r .run-is) (power-pos (digits l) h (bounds l a .digits-low))
 
   -- the runs are all groups
   count-whole : count * run ≡ groups l
   count-whole =
-      ap₂ _*_ count-is run-is
+      ap₂ _*_ (r .count-is) (r .run-is)
       ∙ sym (pow-add (digits l) (l .racks - 1 - h) h)
       ∙ (let e : l .racks - 1 - h + h ≡ l .racks - 1 = omega arith in ap (λ n. digits l ^ n) e)
       ∙ sym (groups-are l a)
@@ -47,14 +48,14 @@ module _ (l : Layout) (h s run count : ℕ) (a : Admissible l) (host : h < l .ra
   layers-whole =
       (let e : l .racks ≡ suc (l .racks - 1) = omega arith in ap (λ n. digits l ^ n) e)
       ∙ pow-suc (digits l) (l .racks - 1)
-      ∙ ap₂ _*_ (sym (groups-are l a) ∙ sym count-whole) (sym es)
+      ∙ ap₂ _*_ (sym (groups-are l a) ∙ sym count-whole) (sym (r .digits-are))
       ∙ mul-assoc count run s ∙ ap (λ n. count * n) (mul-comm run s) ∙ sym (mul-assoc count s run)
 
   pub runs-of : (symbols sums : List ℕ) → Summing l h symbols sums → InRuns s run count 0 symbols sums
   runs-of symbols sums t = record {
     some = run-pos;
-    some-runs = rw count-is (power-pos (digits l) (l .racks - 1 - h) (bounds l a .digits-low));
-    digit-in = omega (arith, es, bounds l a .digits-low);
+    some-runs = rw (r .count-is) (power-pos (digits l) (l .racks - 1 - h) (bounds l a .digits-low));
+    digit-in = omega (arith, r .digits-are, bounds l a .digits-low);
     long = t .long ∙ layers-whole;
     room = rw count-whole (t .room);
   }
@@ -71,5 +72,5 @@ module _ (l : Layout) (h s run count : ℕ) (a : Admissible l) (host : h < l .ra
         where
           layered : sum ops s (λ b. elem (getD symbols ((p / run * s + b) * run + p % run) 0)) ≡ sumAt l h symbols p
           layered = unfold layerOf in
-              ap₂ (λ n r. sum ops n (λ b. elem (getD symbols ((p / r * n + b) * r + p % r) 0))) es run-is
+              ap₂ (λ n w. sum ops n (λ b. elem (getD symbols ((p / w * n + b) * w + p % w) 0))) (r .digits-are) (r .run-is)
               ∙ sym (group-sum (shapeOf gf256 l) (usable l a .fits) h host p (rw (usable l a .groups-are) at k) (λ j. elem (getD symbols j 0)))

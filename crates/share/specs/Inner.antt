@@ -3,7 +3,7 @@
 use mathlib.Core.Bool.{not, _&&_}
 use mathlib.Core.Path.{_≡_}
 use mathlib.Core.List.{List}
-use Prim.Native.Nat.{ℕ, _+_, _*_, _%_, _≤_, _<_}
+use Prim.Native.Nat.{ℕ, _+_, _-_, _*_, _%_, _^_, _≤_, _<_}
 use lib.Dec.{eqb, ltb}
 use lib.ListN.{length, getD}
 use Rattle.algebra.specs.Field.{Ops}
@@ -12,7 +12,7 @@ use Rattle.algebra.specs.Cabinet.{groupSum}
 use Rattle.symbol.specs.Arithmetic.{_⊕_}
 use Rattle.symbol.specs.Elem.{Elem, elem, ops, gf256}
 use Rattle.layout.specs.declared.Layout.{Layout}
-use Rattle.layout.specs.Layout.{layers, groups, Admissible}
+use Rattle.layout.specs.Layout.{digits, layers, groups, Admissible}
 use Rattle.codeword.specs.Codeword.{shapeOf}
 use Rattle.share.specs.Many.{manyGrounds, partAt}
 
@@ -20,6 +20,12 @@ use Rattle.share.specs.Many.{manyGrounds, partAt}
 unfoldable pub grounds : Layout → ℕ → ℕ → ℕ → ℕ → ℕ → ℕ → ℕ
 grounds l e lent host helper given room =
     manyGrounds l e (eqb given (lent * layers l) && eqb room (e * groups l)) (ltb host (l .racks) && ltb helper (l .racks)) (not (eqb host helper))
+
+-- the runs of a layout for host h
+pub record RunsOf (l : Layout) (h s run count : ℕ) : Type 0 where
+  pub digits-are : s ≡ digits l
+  pub run-is : run ≡ digits l ^ h
+  pub count-is : count ≡ digits l ^ (l .racks - 1 - h)
 
 -- `count` runs of the sums, and for each of them s runs of the tray, one for each digit a
 pub record InRuns (s run count a : ℕ) (symbols sums : List ℕ) : Type 0 where
@@ -72,7 +78,7 @@ pub record Added (l : Layout) (h x : ℕ) (symbols held shares : List ℕ) (m : 
   pub low : (n : ℕ) → n < m * groups l → elem (getD shares n 0) ≡ ops .add (elem (getD held n 0)) (partAt gf256 l h x symbols n)
   pub high : (n : ℕ) → m * groups l ≤ n → getD shares n 0 ≡ getD held n 0
 
--- what `add_parts` is told
+-- what feeding a tray is told
 pub record Feeding (l : Layout) (e h : ℕ) (symbols shares : List ℕ) : Type 0 where
   pub adm : Admissible l
   pub long : length symbols ≡ layers l

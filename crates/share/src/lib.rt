@@ -11,28 +11,71 @@ ghost use mathlib.Core.List.{List};
 ghost use Prim.Native.Nat.{ℕ, _<_};
 ghost use lib.ListN.{length, getD};
 ghost use Rattle.symbol.specs.Elem.{elem, gf256};
-ghost use Rattle.layout.specs.Layout.{groups};
+ghost use Rattle.layout.specs.Layout.{groups, Admissible};
 ghost use Rattle.share.specs.Share.{shareRefusal, shareBuffer, addRefusal, addBuffer};
 ghost use Rattle.share.specs.Many.{sharesOf, fedMany, manyRefusal, manyBuffer, addManyRefusal, addManyBuffer};
-ghost use Rattle.share.specs.Inner.{grounds, InRuns, DigitAdded, DigitsAdded, Summing, sumAt, Summed, Added, Weighing, Feeding, Gathering};
+ghost use Rattle.share.specs.Inner.{grounds, RunsOf, InRuns, DigitAdded, DigitsAdded, Summing, sumAt, Summed, Added, Weighing, Feeding, Gathering};
 
 // Runs shorter than this are added across.
 const SHORT: usize = 4;
 
-// Adds a tray's symbols with digit a, run after run: in the tray the runs of the s digits take turns, in the sums each run follows the one before.
-fn add_runs(s: usize, run: usize, count: usize, a: usize, symbols: &[u8], sums: &mut [u8])
-    requires { ⌜ InRuns s run count a (now symbols) (now sums) ⌝ }
-    ensures { λ _. ⌜ DigitAdded s run count a (now (symbols .entry)) (now (sums .entry)) (now (sums .exit)) ⌝ }
+// How a tray's layers lie for a host rack: for each of so many runs of consecutive groups one run of layers for each digit of that rack, one after another.
+struct HostRuns {
+    digits: usize,
+    length: usize,
+    count: usize,
+}
+
+// The layers of s^h consecutive groups with the same digit are consecutive.
+fn runs_of(l: Layout, h: u32) -> HostRuns
+    requires { ⌜ Admissible l × (h < l .racks) ⌝ }
+    ensures { λ r. ⌜ RunsOf l h (r .digits) (r .length) (r .count) ⌝ }
+{
+    let b = l.racks;
+    let s = layout::digit_count(l);
+    let length = capped_power(s, h);
+    let count = capped_power(s, b - 1 - h);
+    HostRuns {
+        digits: s as usize,
+        length: length as usize,
+        count: count as usize,
+    }
+}
+
+// Adds a tray's symbols with the digits 0 .. s - 1, run after run of the sums.
+fn add_runs(s: usize, run: usize, count: usize, symbols: &[u8], sums: &mut [u8])
+    requires { ⌜ InRuns s run count 0 (now symbols) (now sums) ⌝ }
+    ensures { λ _. ⌜ DigitsAdded s run count s (now (symbols .entry)) (now (sums .entry)) (now (sums .exit)) ⌝ }
 {
     let mut q = 0usize;
     while q < count {
-        kernel::add(sums, q * run, run, symbols, (q * s + a) * run);
+        kernel::add_apart(sums, q * run, run, symbols, q * s * run, run, s);
         q += 1;
     }
 }
 
-// The same across the runs: what stands first in each of them, then what stands second, and so on.
-fn add_across(s: usize, run: usize, count: usize, a: usize, symbols: &[u8], sums: &mut [u8])
+// The same, with the numbers of digits that layouts have written out: for each the compiler makes a loop in which a run's digits are added at once.
+fn add_long(s: usize, run: usize, count: usize, symbols: &[u8], sums: &mut [u8])
+    requires { ⌜ InRuns s run count 0 (now symbols) (now sums) ⌝ }
+    ensures { λ _. ⌜ DigitsAdded s run count s (now (symbols .entry)) (now (sums .entry)) (now (sums .exit)) ⌝ }
+{
+    if s == 2 {
+        add_runs(2, run, count, symbols, sums);
+        return;
+    }
+    if s == 3 {
+        add_runs(3, run, count, symbols, sums);
+        return;
+    }
+    if s == 4 {
+        add_runs(4, run, count, symbols, sums);
+        return;
+    }
+    add_runs(s, run, count, symbols, sums);
+}
+
+// Adds the symbols with digit a across the runs: what stands first in each of them, then what stands second, and so on.
+fn add_digit(s: usize, run: usize, count: usize, a: usize, symbols: &[u8], sums: &mut [u8])
     requires { ⌜ InRuns s run count a (now symbols) (now sums) ⌝ }
     ensures { λ _. ⌜ DigitAdded s run count a (now (symbols .entry)) (now (sums .entry)) (now (sums .exit)) ⌝ }
 {
@@ -43,20 +86,8 @@ fn add_across(s: usize, run: usize, count: usize, a: usize, symbols: &[u8], sums
     }
 }
 
-// The same: across where the runs are short.
-fn add_digit(s: usize, run: usize, count: usize, a: usize, symbols: &[u8], sums: &mut [u8])
-    requires { ⌜ InRuns s run count a (now symbols) (now sums) ⌝ }
-    ensures { λ _. ⌜ DigitAdded s run count a (now (symbols .entry)) (now (sums .entry)) (now (sums .exit)) ⌝ }
-{
-    if run < SHORT {
-        add_across(s, run, count, a, symbols, sums);
-        return;
-    }
-    add_runs(s, run, count, a, symbols, sums);
-}
-
-// Adds a tray's symbols with the digits 0 .. s - 1.
-fn add_digits(s: usize, run: usize, count: usize, symbols: &[u8], sums: &mut [u8])
+// The digits 0 .. s - 1, across the runs.
+fn add_across(s: usize, run: usize, count: usize, symbols: &[u8], sums: &mut [u8])
     requires { ⌜ InRuns s run count 0 (now symbols) (now sums) ⌝ }
     ensures { λ _. ⌜ DigitsAdded s run count s (now (symbols .entry)) (now (sums .entry)) (now (sums .exit)) ⌝ }
 {
@@ -67,19 +98,22 @@ fn add_digits(s: usize, run: usize, count: usize, symbols: &[u8], sums: &mut [u8
     }
 }
 
-// Adds the sums of a tray's symbols over the groups. For each digit of the host's rack, the layers of consecutive groups are consecutive in runs of s^h.
-fn add_sums(l: Layout, h: u32, symbols: &[u8], sums: &mut [u8])
-    requires { ⌜ Summing l h (now symbols) (now sums) ⌝ }
+// Adds the sums of a tray's symbols over the groups.
+fn add_sums(l: Layout, h: u32, r: HostRuns, symbols: &[u8], sums: &mut [u8])
+    requires { ⌜ Summing l h (now symbols) (now sums) × RunsOf l h (r .digits) (r .length) (r .count) ⌝ }
     ensures { λ _. ⌜ Summed l h (now (symbols .entry)) (now (sums .entry)) (now (sums .exit)) ⌝ }
 {
-    let b = l.racks;
-    let s = layout::digit_count(l);
-    let run = capped_power(s, h);
-    let count = capped_power(s, b - 1 - h);
-    add_digits(s as usize, run as usize, count as usize, symbols, sums);
+    let s = r.digits;
+    let run = r.length;
+    let count = r.count;
+    if run < SHORT {
+        add_across(s, run, count, symbols, sums);
+        return;
+    }
+    add_long(s, run, count, symbols, sums);
 }
 
-// Adds tray x's parts of the weights from 1 on, worked out from its sums.
+// Adds tray x's parts of the weights from 1 on, worked out from its sums; those of weight 0 are the sums themselves.
 fn add_weighted(l: Layout, count: u32, x: u32, sums: &[u8], shares: &mut [u8])
     requires { ⌜ Weighing l count (now sums) (now shares) ⌝ }
     ensures { λ _. ⌜ ((h : ℕ) (symbols held : List ℕ) → ((p : ℕ) → p < groups l → elem (getD (now (sums .entry)) p 0) ≡ sumAt l h symbols p) → Added l h x symbols held (now (shares .entry)) 1 → Added l h x symbols held (now (shares .exit)) count) ⌝ }
@@ -96,25 +130,24 @@ fn add_weighted(l: Layout, count: u32, x: u32, sums: &[u8], shares: &mut [u8])
 }
 
 // The same from its symbols, with room for the sums.
-fn add_later(l: Layout, count: u32, h: u32, x: u32, symbols: &[u8], shares: &mut [u8])
-    requires { ⌜ Feeding l count h (now symbols) (now shares) ⌝ }
+fn add_later(l: Layout, count: u32, h: u32, x: u32, r: HostRuns, symbols: &[u8], shares: &mut [u8])
+    requires { ⌜ Feeding l count h (now symbols) (now shares) × RunsOf l h (r .digits) (r .length) (r .count) ⌝ }
+    ensures { λ _. ⌜ ((held : List ℕ) → Added l h x (now (symbols .entry)) held (now (shares .entry)) 1 → Added l h x (now (symbols .entry)) held (now (shares .exit)) count) ⌝ }
+{
+    let mut sums = [0u8; layout::LAYERS as usize];
+    add_sums(l, h, r, symbols, &mut sums);
+    add_weighted(l, count, x, &sums, shares);
+}
+
+// The same where there are such weights. It is small, so that the compiler puts it into the loop over a rack's trays, and one share pays for no room.
+fn add_others(l: Layout, count: u32, h: u32, x: u32, r: HostRuns, symbols: &[u8], shares: &mut [u8])
+    requires { ⌜ Feeding l count h (now symbols) (now shares) × RunsOf l h (r .digits) (r .length) (r .count) ⌝ }
     ensures { λ _. ⌜ ((held : List ℕ) → Added l h x (now (symbols .entry)) held (now (shares .entry)) 1 → Added l h x (now (symbols .entry)) held (now (shares .exit)) count) ⌝ }
 {
     if count < 2 {
         return;
     }
-    let mut sums = [0u8; layout::LAYERS as usize];
-    add_sums(l, h, symbols, &mut sums);
-    add_weighted(l, count, x, &sums, shares);
-}
-
-// Adds tray x's parts to the shares: to that of weight 0 its sums, to the others those times a power of its place's factor.
-fn add_parts(l: Layout, count: u32, h: u32, x: u32, symbols: &[u8], shares: &mut [u8])
-    requires { ⌜ Feeding l count h (now symbols) (now shares) ⌝ }
-    ensures { λ _. ⌜ now (shares .exit) ≡ fedMany gf256 l count h x (now (symbols .entry)) (now (shares .entry)) ⌝ }
-{
-    add_sums(l, h, symbols, shares);
-    add_later(l, count, h, x, symbols, shares);
+    add_later(l, count, h, x, r, symbols, shares);
 }
 
 // The first ground for refusing so many shares where so many trays of the helper's rack are lent, 0 for none.
@@ -184,7 +217,12 @@ pub fn share_add_many(
     if ground != 0 {
         return ground;
     }
-    add_parts(l, count, h, x, symbols, shares);
+    let r = runs_of(l, h);
+    add_sums(l, h, r, symbols, shares);
+    if count < 2 {
+        return 0;
+    }
+    add_later(l, count, h, x, r, symbols, shares);
     0
 }
 
@@ -203,12 +241,15 @@ fn gather(l: Layout, count: u32, h: u32, helper: u32, rack: &[u8], out: &mut [u8
 {
     let u = l.size;
     let total = layout::layer_count(l);
+    let r = runs_of(l, h);
     lists::clear(out);
     let mut g = 0u32;
     while g < u {
         let from = codeword::cell(total, g, 0);
         let to = from + total as usize;
-        add_parts(l, count, h, helper * u + g, &rack[from..to], out);
+        let tray = &rack[from..to];
+        add_sums(l, h, r, tray, out);
+        add_others(l, count, h, helper * u + g, r, tray, out);
         g += 1;
     }
 }

@@ -3,7 +3,7 @@
 use mathlib.Core.Path.{_≡_, refl, sym, ap, ap₂, _∙_, subst}
 use mathlib.Core.List.{List}
 use Prim.Native.Nat.{ℕ, _+_, _-_, _*_, _/_, _%_, _<_, _≤_}
-use native.Mathlib.Nat.{zero-mul, mul-one, div-one, mod-one, mod-eq-of-lt, not-suc-le-zero, le-mul-of-pos-right, le-trans, mul-le-mul}
+use native.Mathlib.Nat.{zero-mul, mul-one, div-one, mod-one, mod-eq-of-lt, not-suc-le-zero, le-mul-of-pos-right, le-refl, le-trans, mul-le-mul}
 use native.Mathlib.Decide.{ℕ-discrete}
 use native.Mathlib.Omega.{arith}
 use mir.Val.{Fits}
@@ -205,9 +205,6 @@ pointed-of l h w first helpers v run sides found points coefs row ch b g k = rec
   block = b;
   run-low = g .run-low;
   width = g .width;
-  points-long = le-trans (mul-le-mul (le-of (parityRacks l)) (columns-in l h w first helpers v run g)) (k .points-long);
+  points-long = le-trans (mul-le-mul (le-refl (parityRacks l)) (columns-in l h w first helpers v run g)) (k .points-long);
   row-long = k .row-long;
 }
-  where
-    le-of : (n : ℕ) → n ≤ n
-    le-of n = omega arith

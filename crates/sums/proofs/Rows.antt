@@ -3,7 +3,7 @@
 use mathlib.Core.Path.{_≡_, refl, sym, ap, ap₂, _∙_, subst}
 use mathlib.Core.List.{List}
 use Prim.Native.Nat.{ℕ, _+_, _-_, _*_, _/_, _%_, _<_, _≤_}
-use native.Mathlib.Nat.{mod-lt, not-suc-le-zero, mul-one, mul-le-mul, le-trans, add-mul, one-mul}
+use native.Mathlib.Nat.{mod-lt, not-suc-le-zero, mul-one, mul-le-mul, le-refl, le-trans, add-mul, one-mul}
 use native.Mathlib.Decide.{ℕ-discrete, decLt}
 use native.Mathlib.Omega.{arith}
 use mir.Val.{Fits}
@@ -26,7 +26,7 @@ use Rattle.layout.specs.declared.Layout.{Layout}
 use Rattle.layout.specs.Layout.{digits, parityRacks, trayLimit, Admissible}
 use Rattle.layout.proofs.Facts.{bounds}
 use Rattle.codeword.specs.Codeword.{shapeOf}
-use Rattle.sums.specs.Inner.{unknownPoint, sideTerm, rightSide, sumAt, Chosen, Cycle, PointsTo, Workspace, FoundSums, RowTimes, Weighing, Weighed, SidesTo, SumsTo, BlockSums, Summing}
+use Rattle.sums.specs.Inner.{unknownPoint, sideTerm, rightSide, sumAt, Chosen, Cycle, PointsTo, Workspace, FoundSums, RowTimes, Weighing, Weighed, SidesTo, SumsTo, Summing}
 use Rattle.sums.proofs.Steps.{digits-under, sums-high}
 use Rattle.sums.proofs.Points.{columns-in}
 use Rattle.sums.proofs.Formula.{solved-is}
@@ -34,10 +34,7 @@ use Rattle.sums.proofs.Formula.{solved-is}
 module _ (l : Layout) (h w first : ℕ) (helpers : List ℕ) (v run : ℕ) (g : Cycle l h w first helpers v run) where
   pub points-room : (n : ℕ) (sides found points coefs row points′ : List ℕ) → n ≡ parityRacks l → Workspace l w sides found points coefs row → length points′ ≡ length points →
       n * v ≤ length points′
-  points-room n sides found points coefs row points′ en k e = rw (en, e) (le-trans (mul-le-mul (le-of (parityRacks l)) (columns-in l h w first helpers v run g)) (k .points-long))
-    where
-      le-of : (n : ℕ) → n ≤ n
-      le-of n = omega arith
+  points-room n sides found points coefs row points′ en k e = rw (en, e) (le-trans (mul-le-mul (le-refl (parityRacks l)) (columns-in l h w first helpers v run g)) (k .points-long))
 
   pub systems-of : (n : ℕ) (sides found points coefs row row′ : List ℕ) → n ≡ parityRacks l → Workspace l w sides found points coefs row → length row′ ≡ length row →
       Systems w v run 1 n found sides coefs row′
@@ -48,12 +45,9 @@ module _ (l : Layout) (h w first : ℕ) (helpers : List ℕ) (v run : ℕ) (g : 
     width = g .width ∙ ap (λ y. y * run) (sym (mul-one v));
     found-long = rw en (k .found-long);
     sums-long = rw en (k .sides-long);
-    coefs-long = rw en (le-trans (mul-le-mul (le-of (parityRacks l)) (columns-in l h w first helpers v run g)) (k .coefs-long));
+    coefs-long = rw en (le-trans (mul-le-mul (le-refl (parityRacks l)) (columns-in l h w first helpers v run g)) (k .coefs-long));
     row-long = rw e (k .row-long);
   }
-    where
-      le-of : (n : ℕ) → n ≤ n
-      le-of n = omega arith
 
   pub found-of : (n s : ℕ) (sides points found : List ℕ) → Admissible l → n ≡ parityRacks l → s ≡ digits l → PointsTo l h first helpers v run (parityRacks l) points →
       Solved w v run n sides points found s → FoundSums l h w first helpers sides found
@@ -163,7 +157,7 @@ module _ (l : Layout) (h w first : ℕ) (helpers shares : List ℕ) (e : ℕ) wh
       go n a j hn ha hj (yes q) = subst (λ n. cell w is (n * digits l + a) j ≡ sumAt l h (first + j) helpers shares e n a) (sym q) (sum-is a j ha hj)
       go n a j hn ha hj (no d) = g .kept (n * digits l + a) j (cell-in m (digits l) n a (omega arith) ha) hj ∙ t .at n a j (omega arith) ha hj
 
-  pub weights-end : (m : ℕ) (sums : List ℕ) → SumsTo l h w first helpers shares e m sums → e ≤ m → BlockSums l h w first helpers shares e sums
+  pub weights-end : (m : ℕ) (sums : List ℕ) → SumsTo l h w first helpers shares e m sums → e ≤ m → SumsTo l h w first helpers shares e e sums
   weights-end m sums g q = record { at = λ n a j hn ha hj. g .at n a j (omega arith) ha hj }
 
 -- ---- places

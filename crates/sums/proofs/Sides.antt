@@ -27,7 +27,7 @@ use Rattle.codeword.specs.Codeword.{pointAt}
 use Rattle.syndrome.specs.Syndrome.{Block, Room, Terms}
 use Rattle.syndrome.proofs.Digits.{run-pos}
 use Rattle.rule.specs.Lost.{sentSymbol}
-use Rattle.sums.specs.Inner.{sideTerm, Groups, RackPowers, Sharing, ShareTerms, Sided, SidesTo, ShareAdded}
+use Rattle.sums.specs.Inner.{sideTerm, Groups, RackPowers, Sharing, ShareTerms, SidesTo, ShareAdded}
 use Rattle.sums.proofs.Steps.{row-in, share-in}
 
 module _ (l : Layout) (h w first : ℕ) (helpers shares : List ℕ) (e m k : ℕ) where
@@ -105,12 +105,12 @@ weight-high l e m a few h = let b = bounds l a in omega arith
 pub size-high : (l : Layout) → Admissible l → l .size ≤ trayLimit
 size-high l a = let b = bounds l a in omega arith
 
-module _ (l : Layout) (h w first : ℕ) (helpers shares : List ℕ) (e m k : ℕ) (cur row : List ℕ) (g : Sharing l h w first helpers shares e m k cur row) where
+module _ (l : Layout) (h w first : ℕ) (helpers shares : List ℕ) (e m k : ℕ) (cur row : List ℕ) (g : Sharing l h w first helpers shares e m cur row) (helper-in : k < l .helpers) where
   pub layout-of : Admissible l
   layout-of = g .received .chosen .adm
 
   pub share-row : k * e + m < trayLimit
-  share-row = row-in l layout-of e m k (g .received .few) (g .weight-in) (g .helper-in)
+  share-row = row-in l layout-of e m k (g .received .few) (g .weight-in) helper-in
 
   pub share-fits : Fits w32 (k * e)
   share-fits = record { fits = omega (arith, share-row) }
@@ -119,16 +119,16 @@ module _ (l : Layout) (h w first : ℕ) (helpers shares : List ℕ) (e m k : ℕ
   share-fits-2 = record { fits = omega (arith, share-row) }
 
   pub share-there : (n at : ℕ) → n ≡ groups l → at ≡ (k * e + m) * n + first → at + w ≤ length shares
-  share-there n at en ea = rw (ea, en, g .received .shares-long) (share-in l layout-of e m k (g .received .few) (g .weight-in) (g .helper-in) first w (g .block .inside))
+  share-there n at en ea = rw (ea, en, g .received .shares-long) (share-in l layout-of e m k (g .received .few) (g .weight-in) helper-in first w (g .block .inside))
 
   pub helper-number : k < length helpers
-  helper-number = rw (g .received .chosen .many) (g .helper-in)
+  helper-number = rw (g .received .chosen .many) helper-in
 
   pub helper-rack : getD helpers k 0 < l .racks
-  helper-rack = g .received .chosen .inside k (g .helper-in)
+  helper-rack = g .received .chosen .inside k helper-in
 
   pub helper-other : ¬ (getD helpers k 0 ≡ h)
-  helper-other = g .received .chosen .other k (g .helper-in)
+  helper-other = g .received .chosen .other k helper-in
 
   pub block-there : Block l w first
   block-there = g .block .block
@@ -148,22 +148,24 @@ module _ (l : Layout) (h w first : ℕ) (helpers shares : List ℕ) (e m k : ℕ
   pub row-next : (row′ : List ℕ) → length row′ ≡ length row → w ≤ length row′
   row-next row′ e = rw e (g .row-long)
 
-module _ (l : Layout) (h w first : ℕ) (helpers shares : List ℕ) (e m : ℕ) (sides cur row : List ℕ) (g : Sided l h w first helpers shares e m sides cur row) where
+module _ (l : Layout) (h w first : ℕ) (helpers shares : List ℕ) (e m : ℕ) (sides cur row : List ℕ) (g : Sharing l h w first helpers shares e m cur row) (room : parityRacks l * w ≤ length sides) where
   pub sides-high : (r : ℕ) → r ≡ parityRacks l → Fits w64 (length sides) → Fits w64 (r * w)
-  sides-high r er f = let q = g .sides-long in let t : r * w ≡ parityRacks l * w = ap (λ n. n * w) er in omega arith
+  sides-high r er f = let t : r * w ≡ parityRacks l * w = ap (λ n. n * w) er in omega arith
 
   pub sides-in : (r : ℕ) → r ≡ parityRacks l → 0 + r * w ≤ length sides
-  sides-in r er = let q = g .sides-long in let t : r * w ≡ parityRacks l * w = ap (λ n. n * w) er in omega arith
+  sides-in r er = let t : r * w ≡ parityRacks l * w = ap (λ n. n * w) er in omega arith
 
-  pub sharing-of : (k : ℕ) (cur′ row′ : List ℕ) → k < length helpers → length cur′ ≡ length cur → length row′ ≡ length row → Sharing l h w first helpers shares e m k cur′ row′
-  sharing-of k cur′ row′ hk ec el = record {
+  pub sharing-of : (cur′ row′ : List ℕ) → length cur′ ≡ length cur → length row′ ≡ length row → Sharing l h w first helpers shares e m cur′ row′
+  sharing-of cur′ row′ ec el = record {
     received = g .received;
     block = g .block;
     weight-in = g .weight-in;
-    helper-in = rw (sym (g .received .chosen .many)) hk;
     cur-long = rw ec (g .cur-long);
     row-long = rw el (g .row-long);
   }
+
+  pub helper-of : (k : ℕ) → k < length helpers → k < l .helpers
+  helper-of k h = rw (sym (g .received .chosen .many)) h
 
   pub count-fits : (k : ℕ) → k < length helpers → Fits w64 (k + 1)
   count-fits k h = let b = bounds l (g .received .chosen .adm) in record { fits = omega (arith, g .received .chosen .many, g .received .chosen .adm .helpers-high) }

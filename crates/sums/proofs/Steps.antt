@@ -3,7 +3,7 @@
 use mathlib.Core.Path.{_≡_, refl, sym, ap, ap₂, _∙_, subst}
 use mathlib.Core.List.{List}
 use Prim.Native.Nat.{ℕ, suc, pred, _+_, _-_, _*_, _/_, _%_, _^_, _<_, _≤_}
-use native.Mathlib.Nat.{mul-div-cancel, mul-mod-left, mul-assoc, mul-le-mul, mul-comm, add-mul, zero-mul, div-add-mod', mod-lt, div-div-eq-div-mul, pow-suc}
+use native.Mathlib.Nat.{mul-div-cancel, mul-mod-left, mul-assoc, mul-le-mul, mul-comm, add-mul, zero-mul, div-add-mod', mod-lt, div-div-eq-div-mul, pow-suc, le-refl}
 use native.Mathlib.Numerals.{add-one}
 use native.Mathlib.Decide.{decLt}
 use native.Mathlib.Omega.{arith}
@@ -60,6 +60,16 @@ sums-high l a e few =
     let h : e ≤ l .size = omega arith in
     omega (arith, mul-le-mul h (bounds l a .digits-high), mul-comm (l .size) (l .racks), a .trays-high)
 
+-- the number of the digit of a group's number that is another rack's, as it is worked out
+pub digit-below-host : (h i : ℕ) → i < h → i ≡ unskip h i
+digit-below-host h i k = sym (unskip-low h i k)
+
+pub digit-above-host : (h i : ℕ) → ¬ (i ≡ h) → h ≤ i → i - 1 ≡ unskip h i
+digit-above-host h i d k = down i (omega arith) ∙ sym (unskip-high h i k)
+  where
+    down : (i : ℕ) → 0 < i → i - 1 ≡ pred i
+    down (suc i) h = omega arith
+
 -- the digits of a group's number are those of its layers, but for the host's
 module _ (s h p : ℕ) (pos : 0 < s) where
   quotient : layerOf s h p 0 / s ^ suc h ≡ p / s ^ h
@@ -86,22 +96,9 @@ module _ (s h p : ℕ) (pos : 0 < s) where
   pub group-digit-is : (i : ℕ) → ¬ (i ≡ h) → digit s (layerOf s h p 0) i ≡ digit s p (unskip h i)
   group-digit-is i other = go (decLt i h)
     where
-      down : (i : ℕ) → 0 < i → i - 1 ≡ pred i
-      down (suc i) h = omega arith
-
       go : Dec (i < h) → digit s (layerOf s h p 0) i ≡ digit s p (unskip h i)
-      go (yes k) = low i k ∙ ap (digit s p) (sym (unskip-low h i k))
-      go (no k) = high i (omega arith) ∙ ap (digit s p) (down i (omega arith) ∙ sym (unskip-high h i (omega arith)))
-
--- such a digit's number, as it is worked out
-pub digit-below-host : (h i : ℕ) → i < h → i ≡ unskip h i
-digit-below-host h i k = sym (unskip-low h i k)
-
-pub digit-above-host : (h i : ℕ) → ¬ (i ≡ h) → h ≤ i → i - 1 ≡ unskip h i
-digit-above-host h i d k = down i (omega arith) ∙ sym (unskip-high h i k)
-  where
-    down : (i : ℕ) → 0 < i → i - 1 ≡ pred i
-    down (suc i) h = omega arith
+      go (yes k) = low i k ∙ ap (digit s p) (digit-below-host h i k)
+      go (no k) = high i (omega arith) ∙ ap (digit s p) (digit-above-host h i other (omega arith))
 
 pub digit-in : (h i n at : ℕ) → at ≡ unskip h i → h < n → i < n → ¬ (i ≡ h) → at < n
 digit-in h i n at e a b c = let q = unskip-below h i (n - 1) (omega arith) (omega arith) c in omega arith
@@ -210,9 +207,6 @@ module _ (l : Layout) (a : Admissible l) (e m k : ℕ) (few : e + l .dimension %
     where
       whole : (k * e + m) * groups l + groups l ≤ l .helpers * e * groups l
       whole = let c = cell-in (l .helpers) e k m helper weight in let r = mul-le-mul c (le-refl (groups l)) in omega (arith, add-mul (k * e + m) 1 (groups l))
-        where
-          le-refl : (n : ℕ) → n ≤ n
-          le-refl n = omega arith
 
       rows : (k * e + m) * groups l + groups l ≤ l .helpers * (e * groups l)
       rows = rw (sym (mul-assoc (l .helpers) e (groups l))) whole

@@ -91,21 +91,11 @@ pub record ShareTerms (l : Layout) (h w first : ℕ) (helpers shares : List ℕ)
   pub at : (j : ℕ) → j < w →
       elem (getD cur j 0) ≡ ops .mul (pow ops (pointAt gf256 l (layerOf (digits l) h (first + j) 0) (helperAt helpers k * l .size)) m) (sentSymbol gf256 l e shares m (first + j) k)
 
--- what `share_terms` and `add_share` are told
-pub record Sharing (l : Layout) (h w first : ℕ) (helpers shares : List ℕ) (e m k : ℕ) (cur row : List ℕ) : Type 0 where
+-- what is told of the right sides of weight m
+pub record Sharing (l : Layout) (h w first : ℕ) (helpers shares : List ℕ) (e m : ℕ) (cur row : List ℕ) : Type 0 where
   pub received : Received l h helpers shares e
   pub block : Groups l w first
   pub weight-in : m < e
-  pub helper-in : k < l .helpers
-  pub cur-long : w ≤ length cur
-  pub row-long : w ≤ length row
-
--- what `block_sides` is told
-pub record Sided (l : Layout) (h w first : ℕ) (helpers shares : List ℕ) (e m : ℕ) (sides cur row : List ℕ) : Type 0 where
-  pub received : Received l h helpers shares e
-  pub block : Groups l w first
-  pub weight-in : m < e
-  pub sides-long : parityRacks l * w ≤ length sides
   pub cur-long : w ≤ length cur
   pub row-long : w ≤ length row
 
@@ -170,10 +160,6 @@ pub record Weighed (l : Layout) (h w m n : ℕ) (found was is : List ℕ) : Type
 -- a block's host sums of the weights below n: row m·s + a has those of weight m in the layers of digit a, a column for each group
 pub record SumsTo (l : Layout) (h w first : ℕ) (helpers shares : List ℕ) (e n : ℕ) (sums : List ℕ) : Type 0 where
   pub at : (m a j : ℕ) → m < n → a < digits l → j < w → cell w sums (m * digits l + a) j ≡ sumAt l h (first + j) helpers shares e m a
-
--- those of all weights
-pub record BlockSums (l : Layout) (h w first : ℕ) (helpers shares : List ℕ) (e : ℕ) (sums : List ℕ) : Type 0 where
-  pub at : (m a j : ℕ) → m < e → a < digits l → j < w → cell w sums (m * digits l + a) j ≡ sumAt l h (first + j) helpers shares e m a
 
 -- what `weight_sums` and `block_sums` are told
 pub record Summing (l : Layout) (h w first : ℕ) (helpers shares : List ℕ) (e : ℕ) (sums sides found points coefs row cur : List ℕ) : Type 0 where

@@ -15,8 +15,8 @@ ghost use Rattle.kernel.specs.Runs.{Inverses};
 ghost use Rattle.layout.specs.Layout.{digits, parityRacks, trayLimit, Admissible};
 ghost use Rattle.codeword.specs.Codeword.{shapeOf};
 ghost use Rattle.syndrome.specs.Syndrome.{Block};
-ghost use Rattle.sums.specs.Inner.{helperAt, Choosing, Chosen, Groups, RackPowers, Sharing, ShareTerms, Sided, ShareAdded, SidesTo, Pointed, PointRow, PointsTo, Cycle};
-ghost use Rattle.sums.specs.Inner.{Workspace, FoundSums, RowTimes, Weighing, Weighed, Summing, SumsTo, BlockSums};
+ghost use Rattle.sums.specs.Inner.{helperAt, Choosing, Chosen, Groups, RackPowers, Sharing, ShareTerms, ShareAdded, SidesTo, Pointed, PointRow, PointsTo, Cycle};
+ghost use Rattle.sums.specs.Inner.{Workspace, FoundSums, RowTimes, Weighing, Weighed, Summing, SumsTo};
 
 // R, the number of unknowns of a group.
 pub fn unknown_count(l: Layout) -> u32
@@ -105,7 +105,7 @@ fn share_terms(
     k: usize,
     row: &mut [u8],
 )
-    requires { ⌜ Sharing l h w first (now helpers) (now shares) e m k (now cur) (now row) ⌝ }
+    requires { ⌜ Sharing l h w first (now helpers) (now shares) e m (now cur) (now row) × (k < l .helpers) ⌝ }
     ensures { λ _. ⌜ ShareTerms l h w first (now (helpers .entry)) (now (shares .entry)) e m k (now (cur .exit)) ⌝ }
 {
     let at = codeword::cell(layout::group_count(l), k as u32 * e + m, first as u32);
@@ -133,7 +133,7 @@ fn add_share(
     cur: &mut [u8],
     row: &mut [u8],
 )
-    requires { ⌜ Sharing l h w first (now helpers) (now shares) e m k (now cur) (now row) × (parityRacks l * w ≤ length (now sides)) ⌝ }
+    requires { ⌜ Sharing l h w first (now helpers) (now shares) e m (now cur) (now row) × (k < l .helpers) × (parityRacks l * w ≤ length (now sides)) ⌝ }
     ensures { λ _. ⌜ ShareAdded l h w first (now (helpers .entry)) (now (shares .entry)) e m k (now (sides .entry)) (now (sides .exit)) ⌝ }
 {
     let u = l.size;
@@ -157,7 +157,7 @@ fn block_sides(
     cur: &mut [u8],
     row: &mut [u8],
 )
-    requires { ⌜ Sided l h w first (now helpers) (now shares) e m (now sides) (now cur) (now row) ⌝ }
+    requires { ⌜ Sharing l h w first (now helpers) (now shares) e m (now cur) (now row) × (parityRacks l * w ≤ length (now sides)) ⌝ }
     ensures { λ _. ⌜ SidesTo l h w first (now (helpers .entry)) (now (shares .entry)) e m (l .helpers) (now (sides .exit)) ⌝ }
 {
     kernel::fill(sides, 0, unknown_count(l) as usize * w, 0);
@@ -379,7 +379,7 @@ pub fn block_sums(
     table: &[u8],
 )
     requires { ⌜ Summing l h w first (now helpers) (now shares) e (now sums) (now sides) (now found) (now points) (now coefs) (now row) (now cur) × Inverses (now table) ⌝ }
-    ensures { λ _. ⌜ BlockSums l h w first (now (helpers .entry)) (now (shares .entry)) e (now (sums .exit)) ⌝ }
+    ensures { λ _. ⌜ SumsTo l h w first (now (helpers .entry)) (now (shares .entry)) e e (now (sums .exit)) ⌝ }
 {
     let mut m = 0u32;
     while m < e {

@@ -3,7 +3,7 @@
 // (proofs/Elem.antt).
 pub mod ladder;
 mod logs;
-mod powers;
+pub mod powers;
 
 use ladder::product;
 use logs::log_at;

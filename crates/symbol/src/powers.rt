@@ -1,6 +1,7 @@
 // The 255 powers of the root, as a constant.
 ghost use mathlib.Core.Path.{_≡_};
-ghost use Prim.Native.Nat.{_<_};
+ghost use Prim.Native.Nat.{ℕ, _<_};
+ghost use lib.ListN.{getD};
 ghost use Rattle.symbol.specs.Arithmetic.{zpow};
 
 const POWERS: [u8; 255] = [
@@ -266,4 +267,11 @@ pub fn power_at(i: usize) -> u8
     ensures { λ r. ⌜ r ≡ zpow i ⌝ }
 {
     POWERS[i]
+}
+
+// All of them, for whoever reads many.
+pub fn all_powers() -> [u8; 255]
+    ensures { λ r. ⌜ ((i : ℕ) → i < 255 → getD r i 0 ≡ zpow i) ⌝ }
+{
+    POWERS
 }

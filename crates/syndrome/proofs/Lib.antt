@@ -3,3 +3,4 @@ pub mod Points
 pub mod Terms
 pub mod Sums
 pub mod Blocks
+pub mod Room

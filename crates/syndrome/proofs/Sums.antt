@@ -15,6 +15,7 @@ use Rattle.lists.proofs.Numbered.{absent-all, absent-true}
 use Rattle.algebra.specs.Field.{Ops}
 use Rattle.algebra.specs.Sum.{sum, pow}
 use Rattle.algebra.proofs.Ring.{add-zero, mul-zero}
+use Rattle.algebra.proofs.Pow.{pow-zero}
 use Rattle.algebra.proofs.Sum.{sum-zero, sum-add-one}
 use Rattle.algebra.proofs.Erasure.{fill-at, fill-outside, place-cases}
 use Rattle.symbol.specs.Elem.{Elem, elem, ops, gf256}
@@ -27,16 +28,23 @@ use Rattle.codeword.specs.Codeword.{symbolAt, pointAt}
 use Rattle.syndrome.specs.Syndrome.{Block, entryOf, Listed, survivorAt, Room, TrayPoints, Terms, TrayTerms, KeptTerms, Sums}
 
 -- a tray's symbols, points and terms
-pub tray-of : (l : Layout) (w first r : ℕ) (c : List ℕ) (x total : ℕ) (row before cur was is : List ℕ) → total ≡ layers l → Run (copied c (x * total + first)) before cur 0 w →
-    TrayPoints l w first x row → Terms w r row cur was is → TrayTerms l w first r c x was is
-unfolding symbolAt copied
-tray-of l w first r c x total row before cur was is e k p g = record {
-  at = λ t j h b.
-      g .at t j h b
-      ∙ ap₂ (λ y v. ops .add (cell w was t j) (ops .mul (pow ops y t) v)) (p .at j b)
-      (ap (λ i. elem (getD cur i 0)) (sym (zero-add j)) ∙ ap elem (k .done j b)
-      ∙ ap (λ i. elem (getD c i 0)) (ap (λ n. x * n + first + j) e ∙ add-assoc (x * layers l) first j));
-}
+module _ (l : Layout) (w first r : ℕ) (c : List ℕ) (x total : ℕ) (row before cur was is : List ℕ) (e : total ≡ layers l) (k : Run (copied c (x * total + first)) before cur 0 w) where
+  powers-of : ((t j : ℕ) → t < r → j < w → pow ops (elem (getD row j 0)) t ≡ pow ops (pointAt gf256 l (first + j) x) t) → Terms w r row cur was is → TrayTerms l w first r c x was is
+  unfolding symbolAt copied
+  powers-of p g = record {
+    at = λ t j h b.
+        g .at t j h b
+        ∙ ap₂ (λ y v. ops .add (cell w was t j) (ops .mul y v)) (p t j h b)
+        (ap (λ i. elem (getD cur i 0)) (sym (zero-add j)) ∙ ap elem (k .done j b)
+        ∙ ap (λ i. elem (getD c i 0)) (ap (λ n. x * n + first + j) e ∙ add-assoc (x * layers l) first j));
+  }
+
+  pub tray-of : TrayPoints l w first x row → Terms w r row cur was is → TrayTerms l w first r c x was is
+  tray-of p = powers-of (λ t j h b. ap (λ y. pow ops y t) (p .at j b))
+
+  -- check 0 has the powers 0 of the points, whatever these are
+  pub tray-first : r < 2 → Terms w r row cur was is → TrayTerms l w first r c x was is
+  tray-first few = powers-of (λ t j h b. let z : t ≡ 0 = omega arith in rw z (pow-zero ops (elem (getD row j 0)) ∙ sym (pow-zero ops (pointAt gf256 l (first + j) x))))
 
 module _ (l : Layout) (es c : List ℕ) (j : ℕ) where
   -- a tray listed counts as zero

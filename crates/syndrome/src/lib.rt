@@ -125,7 +125,7 @@ pub fn add_terms(sums: &mut [u8], w: usize, r: usize, cur: &mut [u8], row: &[u8]
     later_terms(sums, w, r, cur, row);
 }
 
-// Adds the terms of tray x of a codeword.
+// Adds the terms of tray x of a codeword. Check 0 needs no points.
 fn tray_terms(
     sums: &mut [u8],
     l: Layout,
@@ -142,6 +142,10 @@ fn tray_terms(
 {
     let total = layout::layer_count(l) as usize;
     kernel::copy(cur, 0, w, c, x as usize * total + first);
+    if r < 2 {
+        add_terms(sums, w, r, cur, row);
+        return;
+    }
     tray_points(row, l, w, first, x);
     add_terms(sums, w, r, cur, row);
 }

@@ -7,26 +7,21 @@ use native.Mathlib.Nat.{mul-le-mul, div-le-self}
 use native.Mathlib.Omega.{arith}
 use mir.Val.{Fits}
 use mir.Syntax.{w32, w64}
-use lib.ListN.{length, replicate, length-replicate}
+use lib.ListN.{length}
 use Rattle.layout.specs.declared.Layout.{Layout}
 use Rattle.layout.specs.Layout.{checks, digits, layers, trayLimit, Admissible}
 use Rattle.codeword.specs.Inner.{Scannable}
 use Rattle.syndrome.specs.Syndrome.{blockLimit, roomLimit, Block, Room}
 use Rattle.testing.specs.Inner.{FirstBroken}
+use Rattle.syndrome.proofs.Room.{roomOf, rowOf, room-long, row-long}
 use Rattle.syndrome.proofs.Blocks.{start-fits, width-pos, count-whole, block-of}
 
 -- the arrays
-abbrev pub roomOf : List ℕ
-roomOf = replicate roomLimit 0
-
-abbrev pub rowOf : List ℕ
-rowOf = replicate blockLimit 0
-
 pub room : (l : Layout) (e : ℕ) → digits l ^ e ≤ blockLimit → checks l * digits l ^ e ≤ roomLimit → Room (digits l ^ e) (checks l) roomOf rowOf rowOf
 room l e h k = record {
-  sums-long = rw (length-replicate {A = ℕ} roomLimit 0) k;
-  cur-long = rw (length-replicate {A = ℕ} blockLimit 0) h;
-  row-long = rw (length-replicate {A = ℕ} blockLimit 0) h;
+  sums-long = rw room-long k;
+  cur-long = rw row-long h;
+  row-long = rw row-long h;
 }
 
 pub room-here : (l : Layout) (e w r : ℕ) (sums₀ cur₀ row₀ sums cur row : List ℕ) → w ≡ digits l ^ e → r ≡ checks l → Room (digits l ^ e) (checks l) sums₀ cur₀ row₀ →

@@ -2,7 +2,7 @@
 
 use crate::filled::Filled;
 use crate::version::Version;
-use gesarumbo::{Tested, Tray};
+use gesarumbo::{Rack, Tested, Tray};
 
 /// What a buffer that is to be written holds before.
 const CLEARED: u8 = 0;
@@ -15,7 +15,7 @@ pub struct Call {
     pub after: fn(&Filled) -> Vec<u8>,
 }
 
-pub const CALLS: [Call; 6] = [
+pub const CALLS: [Call; 8] = [
     Call {
         name: "store",
         before: |f| vec![CLEARED; f.codeword.len()],
@@ -40,15 +40,21 @@ pub const CALLS: [Call; 6] = [
         run: |version, f, codeword| assert!(version.recover(f.layout, codeword, &first_trays(f))),
         after: |f| f.codeword.clone(),
     },
-    Call {
-        name: "share",
-        before: |f| vec![CLEARED; f.groups],
-        run: |version, f, share| {
-            let helper = f.helpers[0];
-            version.share(f.layout, f.host, helper, f.rack(helper), share);
-        },
-        after: |f| f.shares[..f.groups].to_vec(),
-    },
+    share_call(
+        "share-first",
+        |version, f, share| share_for(version, f, f.first_rack(), share),
+        |f| f.share_for(f.first_rack()),
+    ),
+    share_call(
+        "share-middle",
+        |version, f, share| share_for(version, f, f.host, share),
+        |f| f.share_for(f.host),
+    ),
+    share_call(
+        "share-last",
+        |version, f, share| share_for(version, f, f.last_rack(), share),
+        |f| f.share_for(f.last_rack()),
+    ),
     Call {
         name: "repair",
         before: |f| vec![CLEARED; f.layers],
@@ -59,6 +65,26 @@ pub const CALLS: [Call; 6] = [
         after: |f| f.tray(f.lost).to_vec(),
     },
 ];
+
+/// A call for a helper's share, which is written to a cleared buffer.
+const fn share_call(
+    name: &'static str,
+    run: fn(&dyn Version, &Filled, &mut [u8]),
+    after: fn(&Filled) -> Vec<u8>,
+) -> Call {
+    Call {
+        name,
+        before: |f| vec![CLEARED; f.groups],
+        run,
+        after,
+    }
+}
+
+/// The share of a helper for a host rack. Which layers follow one another in it depends on the host.
+fn share_for(version: &dyn Version, filled: &Filled, host: Rack, share: &mut [u8]) {
+    let helper = filled.helper_of(host);
+    version.share(filled.layout, host, helper, filled.rack(helper), share);
+}
 
 /// As many trays as may be erased: the first ones.
 fn first_trays(filled: &Filled) -> Vec<Tray> {

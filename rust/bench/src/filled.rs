@@ -57,6 +57,27 @@ impl Filled {
         self.shares = shares;
     }
 
+    pub fn first_rack(&self) -> Rack {
+        Rack::new(0)
+    }
+
+    pub fn last_rack(&self) -> Rack {
+        Rack::new(self.layout.racks - 1)
+    }
+
+    /// A helper of a host rack: the first of the others.
+    pub fn helper_of(&self, host: Rack) -> Rack {
+        Rack::new(u32::from(host == self.first_rack()))
+    }
+
+    /// Its share.
+    pub fn share_for(&self, host: Rack) -> Vec<u8> {
+        let helper = self.helper_of(host);
+        let mut symbols = vec![0; self.groups];
+        share(self.layout, host, helper, self.rack(helper), &mut symbols).expect("it is a helper");
+        symbols
+    }
+
     /// The symbols of a rack's trays.
     pub fn rack(&self, rack: Rack) -> &[u8] {
         let length = self.layout.size as usize * self.layers;

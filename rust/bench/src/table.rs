@@ -42,9 +42,10 @@ fn pair(least: f64, median: f64) -> String {
     format!("{} / {}", short(least), short(median))
 }
 
-/// A number with two digits after the point, or fewer where it is large.
+/// A number with two digits after the point, more where it is small and fewer where it is large.
 fn short(number: f64) -> String {
     let digits = match number {
+        n if n < 0.1 => 3,
         n if n < 10.0 => 2,
         n if n < 100.0 => 1,
         _ => 0,

@@ -1,5 +1,5 @@
 use lib.ListN.{length}
-use Rattle.group.proofs.Layers.{width-pos}
+use Rattle.sums.proofs.Sides.{width-pos}
 use Rattle.group.proofs.Mend.{systems-of, found-in, points-in, digit-mended}
 use borrow.Author.Needs.{needs}
 use Rattle.group.proofs.mend_digit.Statement.{statement}

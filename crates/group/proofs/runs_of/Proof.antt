@@ -1,5 +1,7 @@
+use mathlib.Core.Path.{refl}
 use native.Mathlib.Omega.{arith}
-use Rattle.group.proofs.Layers.{lying, run-low, first-in, stride-fits}
+use Rattle.group.proofs.Layers.{lying, run-low, stride-fits}
+use Rattle.sums.proofs.Sides.{first-in}
 use borrow.Author.Needs.{needs}
 use Rattle.group.proofs.runs_of.Statement.{statement}
 use Rattle.group.proofs.runs_of.Tie as tie
@@ -11,7 +13,7 @@ runs-of-spec =
     (λ c. search needs)
     (λ c κs. search needs)
     (λ c κs. search needs)
-    (λ c κs. let s = c .before .before .before in let g = s .pre .0 in record { adm = g .block .adm; host-in = g .host-in; group-in = first-in (s .args .l) (s .args .h) (s .args .w) (s .args .first) g; digit-in = omega arith })
+    (λ c κs. let s = c .before .before .before in let g = s .pre .0 in record { adm = g .block .adm; host-in = s .pre .1; group-in = first-in (s .args .l) (s .args .w) (s .args .first) _ g refl; digit-in = omega arith })
     (λ c. search needs)
     (λ c. search run-low)
     (λ c. search stride-fits)
@@ -21,5 +23,5 @@ runs-of-spec =
     let c3 = c2 .before in
     let s = c3 .before in
     let a = s .args in
-    lying (a .l) (a .h) (a .w) (a .first) (a .a) (c3 .digit-count .result) (c2 .block-width .result) (c1 .smaller .result) (s .pre .0) (s .pre .1) (c3 .digit-count .ensures)
+    lying (a .l) (a .h) (a .w) (a .first) (a .a) (c3 .digit-count .result) (c2 .block-width .result) (c1 .smaller .result) (s .pre .0) (s .pre .1) (s .pre .2) (c3 .digit-count .ensures)
     (c2 .block-width .ensures) (c1 .smaller .ensures) (c .layer-of .result) (c .layer-of .ensures .0)))

@@ -1,26 +1,21 @@
-use native.Mathlib.Omega.{arith}
 use borrow.Author.Needs.{needs}
 use Rattle.layout.proofs.Facts.{bounds}
-use Rattle.share.proofs.Parts.{added-end, sums-only}
+use Rattle.share.proofs.Parts.{sums-only}
 use Rattle.share.proofs.add_later.Statement.{statement}
 use Rattle.share.proofs.add_later.Tie as tie
 
 pub add-later-spec : {M : Type 1} → statement M
 add-later-spec =
     tie.close (tie.spec
-    (λ c held u.
-    let a = c .before .before .before .args in
-    let p = c .before .before .before .pre in
-    added-end (a .l) (a .h) (a .x) 1 (a .count) (a .symbols .now) held (a .shares .now) u (omega (arith, p .some)) (omega (arith, c .if1 .taken)))
     (λ c. search needs)
     (λ c κs.
-    let p = c .before .before .before .before .pre in
-    record { adm = p .adm; long = p .long; room = bounds _ (p .adm) .groups-high; host-in = p .host-in })
+    let p = c .before .before .before .pre .0 in
+    (record { adm = p .adm; long = p .long; room = bounds _ (p .adm) .groups-high; host-in = p .host-in }, c .before .before .before .pre .1))
     (λ c. search needs)
     (λ c κs.
-    let p = c .before .before .before .before .before .before .before .before .pre in
+    let p = c .before .before .before .before .before .before .before .pre .0 in
     record { adm = p .adm; long = rw (c .before .before .before .add-sums .ensures .same) (bounds _ (p .adm) .groups-high); room = p .room; some = p .some; few = p .few })
     (λ c. search needs)
     (λ c held u.
-    let a = c .before .before .before .before .before .before .before .before .before .before .before .args in
-    c .before .before .add-weighted .ensures (a .h) (a .symbols .now) held (sums-only (a .l) (a .h) 4096 (a .symbols .now) _ (bounds _ (c .before .before .before .before .before .before .before .before .before .before .before .pre .adm) .groups-high) (c .before .before .before .before .before .before .add-sums .ensures)) u))
+    let a = c .before .before .before .before .before .before .before .before .before .before .args in
+    c .before .before .add-weighted .ensures (a .h) (a .symbols .now) held (sums-only (a .l) (a .h) 4096 (a .symbols .now) _ (bounds _ (c .before .before .before .before .before .before .before .before .before .before .pre .0 .adm) .groups-high) (c .before .before .before .before .before .before .add-sums .ensures)) u))

@@ -3,7 +3,7 @@ use Prim.Native.Nat.{_-_, _≤_}
 use native.Mathlib.Omega.{arith}
 use lib.ListN.{length}
 use Rattle.sums.specs.Inner.{SidesTo}
-use Rattle.sums.proofs.Sides.{sides-high, sides-in, sides-none, sharing-of, count-fits, sides-more, sides-end}
+use Rattle.sums.proofs.Sides.{sides-high, sides-in, sides-none, sharing-of, helper-of, count-fits, sides-more, sides-end}
 use borrow.Author.Needs.{needs}
 use Rattle.sums.proofs.block_sides.Statement.{statement}
 use Rattle.sums.proofs.block_sides.Tie as tie
@@ -30,7 +30,7 @@ loop-holds : tie.Need-loop-holds Inv-loop μ-loop
 loop-holds c = (omega arith, search needs, refl, refl, search sides-none)
 
 add-share-requires : tie.Need-add-share-requires Inv-loop μ-loop
-add-share-requires c κs = (search sharing-of, rw (c .before .before .before .before .loop .inv .1 ∙ c .before .before .before .before .before .before .before .fill .ensures .long) (c .before .before .before .before .before .before .before .before .before .before .before .before .before .before .before .pre .sides-long))
+add-share-requires c κs = (search sharing-of, search helper-of, rw (c .before .before .before .before .loop .inv .1 ∙ c .before .before .before .before .before .before .before .fill .ensures .long) (c .before .before .before .before .before .before .before .before .before .before .before .before .before .before .before .pre .1))
 
 add-k : tie.Need-add-k Inv-loop μ-loop
 add-k c = search count-fits

@@ -4,7 +4,7 @@ use Rattle.sums.proofs.weight_sums.Statement.{statement}
 use Rattle.sums.proofs.weight_sums.Tie as tie
 
 block-sides-requires : tie.Need-block-sides-requires
-block-sides-requires c κs = search needs
+block-sides-requires c κs = (search needs, search needs)
 
 solve-sides-requires : tie.Need-solve-sides-requires
 solve-sides-requires c κs =

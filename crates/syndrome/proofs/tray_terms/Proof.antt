@@ -1,6 +1,5 @@
 use Prim.Native.Nat.{_-_}
-use Rattle.syndrome.proofs.Terms.{room-next}
-use Rattle.syndrome.proofs.Sums.{tray-of, tray-in, tray-fits, tray-fits-2}
+use Rattle.syndrome.proofs.Sums.{tray-of, tray-first, tray-in, tray-fits, tray-fits-2}
 use borrow.Author.Needs.{needs}
 use Rattle.syndrome.proofs.tray_terms.Statement.{statement}
 use Rattle.syndrome.proofs.tray_terms.Tie as tie
@@ -13,8 +12,13 @@ tray-terms-spec =
     (λ c. search tray-fits)
     (λ c. search tray-fits-2)
     (λ c κs. (search needs, search tray-in))
-    (λ c κs. (search needs, search needs, search needs))
-    (λ c κs. search room-next)
+    (λ c κs. search needs)
+    (λ c. search needs)
+    (λ c. search needs)
+    (λ c. search needs)
+    (λ c. search tray-first)
+    (λ c κs. search needs)
+    (λ c κs. search needs)
     (λ c. search needs)
     (λ c. search needs)
     (λ c. search needs)

@@ -1,0 +1,20 @@
+use borrow.Author.Needs.{needs}
+use Rattle.share.proofs.Runs.{same-digits, same-runs}
+use Rattle.share.proofs.add_long.Statement.{statement}
+use Rattle.share.proofs.add_long.Tie as tie
+
+pub add-long-spec : {M : Type 1} → statement M
+add-long-spec =
+    tie.close (tie.spec
+    (λ c κs. search same-runs)
+    (λ c. search needs)
+    (λ c. search same-digits)
+    (λ c κs. search same-runs)
+    (λ c. search needs)
+    (λ c. search same-digits)
+    (λ c κs. search same-runs)
+    (λ c. search needs)
+    (λ c. search same-digits)
+    (λ c κs. search needs)
+    (λ c. search needs)
+    (λ c. search needs))

@@ -1,0 +1,10 @@
+use Rattle.symbol.proofs.Tables.{powers, powers-rule}
+use Rattle.symbol.proofs.powers.all_powers.Statement.{statement}
+use Rattle.symbol.proofs.powers.all_powers.Tie as tie
+
+returns : tie.Need-returns
+unfolding powers
+returns c = powers-rule
+
+pub all-powers-spec : {M : Type 1} → statement M
+all-powers-spec = tie.close (tie.spec returns)
