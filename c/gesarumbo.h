@@ -43,9 +43,9 @@
  * A refused call has changed no byte of any buffer, and every other number it answers is 0; a scrub
  * record is handed back as it came.
  *
- * Buffers. Each is a pointer and then its length in elements; one of length 0 may be NULL. Buffers
- * of one call must not overlap. A call keeps no pointer, allocates nothing and remembers nothing,
- * so calls may run side by side.
+ * Buffers. Each is a pointer and then its length in elements; one of length 0 may be NULL. A buffer
+ * that is written must not overlap another one of the call; buffers that are only read may. A call
+ * keeps no pointer, allocates nothing and remembers nothing, so calls may run side by side.
  */
 #ifndef GESARUMBO_H
 #define GESARUMBO_H

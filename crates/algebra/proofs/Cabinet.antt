@@ -1,28 +1,28 @@
 -- For any shares the rule of repair has one solution, and with a codeword's shares that is the codeword's rack sums.
 -- Assumes nothing.
-use mathlib.Core.Path.{_≡_, refl, sym, _∙_, ap, ap₂, fun-ext, subst}
+use mathlib.Core.Path.{_≡_, refl, sym, _∙_, ap, fun-ext}
 use mathlib.Core.Bool.{Bool, true, false}
-use Prim.Native.Nat.{ℕ, zero, suc, _+_, _-_, _*_, _^_, _≤_, _<_}
+use Prim.Native.Nat.{ℕ, zero, _+_, _-_, _*_, _^_, _<_}
 use native.Mathlib.Decide.{ℕ-discrete, decLt}
 use native.Mathlib.Omega.{arith}
 use lib.Dec.{eqb}
 use Rattle.algebra.specs.Field.{Ops, Laws}
 use Rattle.algebra.specs.Sum.{sum, pow}
 use Rattle.algebra.specs.Lagrange.{check}
-use Rattle.algebra.specs.Erasure.{choose, Alike, Places, Meets, zeros, recover}
+use Rattle.algebra.specs.Erasure.{choose, Alike, Places, Meets, recover}
 use Rattle.algebra.specs.Shape.{Shape, Fits}
 use Rattle.algebra.specs.Points.{point, place, rackSum, rackCheck}
 use Rattle.algebra.specs.Layers.{digit, groupOf, layerOf}
 use Rattle.algebra.specs.Cabinet.{layerPoint, Codeword, groupSum, shareSymbol, Helping, Solution}
-use Rattle.algebra.specs.Group.{skip, unskip, join, digitsAt, groupPoint, groupWord}
+use Rattle.algebra.specs.Group.{skip, unskip, digitsAt, groupPoint, groupWord}
 use Rattle.algebra.specs.Repair.{helperPlace, hostSum}
 use Rattle.algebra.proofs.Equal.{eqb-same, eqb-other}
-use Rattle.algebra.proofs.Ring.{mul-zero, mul-inv-left, inv-mul-left}
+use Rattle.algebra.proofs.Ring.{mul-inv-left, inv-mul-left}
 use Rattle.algebra.proofs.Sum.{sum-congr, sum-swap, sum-single, sum-is-zero}
 use Rattle.algebra.proofs.Erasure.{check-congr, recovered, recovered-only}
 use Rattle.algebra.proofs.Points.{places-distinct, rack-check}
 use Rattle.algebra.proofs.Layers.{digit-below, layer-digit, layer-other, layer-group, layer-in, layer-back}
-use Rattle.algebra.proofs.Skip.{skip-other, skip-unskip, unskip-skip, digits-host, digits-other, join-low, join-high}
+use Rattle.algebra.proofs.Skip.{skip-other, unskip-skip, digits-host, digits-other, join-low, join-high}
 use Rattle.algebra.proofs.Group.{group-check}
 use Rattle.algebra.proofs.Repair.{point-not-zero, solution, solution-meets, solution-shares, solution-host, host-only}
 

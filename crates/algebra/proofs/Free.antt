@@ -1,16 +1,14 @@
 -- The numbers that a rising list leaves free.
 -- Assumes nothing.
 use mathlib.Core.Path.{_≡_, refl, sym, _∙_, ap}
-use Prim.Native.Nat.{ℕ, zero, suc, pred, _+_, _≤_, _<_}
+use Prim.Native.Nat.{ℕ, zero, suc, _+_, _≤_, _<_}
 use native.Mathlib.Decide.{ℕ-discrete, decLt}
 use native.Mathlib.Omega.{arith}
 use native.Mathlib.Nat.{add-suc, add-zero}
-use lib.Dec.{ltb}
-use Rattle.algebra.specs.Erasure.{choose, Places}
+use Rattle.algebra.specs.Erasure.{Places}
 use Rattle.algebra.specs.Group.{skip, unskip, free}
 use Rattle.algebra.specs.Cabinet.{Rising}
-use Rattle.algebra.proofs.Equal.{ltb-yes, ltb-no}
-use Rattle.algebra.proofs.Skip.{unskip-low, unskip-high, skip-unskip, skip-low, skip-high, skip-ind, skip-other, skip-below, skip-apart}
+use Rattle.algebra.proofs.Skip.{unskip-low, unskip-high, skip-unskip, skip-low, skip-ind, skip-other, skip-below, skip-apart}
 
 pub unskip-below : (h x n : ℕ) → h < suc n → x < suc n → ¬ (x ≡ h) → unskip h x < n
 unskip-below h x n l k d = go (decLt x h)

@@ -1,7 +1,7 @@
 -- The checks summed over a group are checks at different points: so the host's rack sums are determined by enough of the others.
 -- Assumes nothing.
-use mathlib.Core.Path.{_≡_, refl, sym, _∙_, ap, ap₂}
-use Prim.Native.Nat.{ℕ, zero, suc, _+_, _-_, _*_, _≤_, _<_}
+use mathlib.Core.Path.{_≡_, sym, _∙_, ap, ap₂}
+use Prim.Native.Nat.{ℕ, _+_, _-_, _≤_, _<_}
 use native.Mathlib.Decide.{decLt}
 use native.Mathlib.Omega.{arith}
 use Rattle.algebra.specs.Field.{Ops, Laws}
@@ -9,7 +9,7 @@ use Rattle.algebra.specs.Sum.{sum, pow}
 use Rattle.algebra.specs.Lagrange.{Distinct, check}
 use Rattle.algebra.specs.Shape.{Shape, Fits}
 use Rattle.algebra.specs.Points.{point, rackPoint, rackCheck}
-use Rattle.algebra.specs.Group.{skip, join, digitsAt, groupPoint, groupWord}
+use Rattle.algebra.specs.Group.{skip, digitsAt, groupPoint, groupWord}
 use Rattle.algebra.proofs.Sum.{sum-congr, sum-add, sum-swap, sum-split, sum-mul-left}
 use Rattle.algebra.proofs.Points.{powers-apart}
 use Rattle.algebra.proofs.Skip.{skip-other, skip-below, skip-apart, digits-host, digits-other, join-low, join-high, join-add, sum-apart}

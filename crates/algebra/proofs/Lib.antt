@@ -16,6 +16,4 @@ pub mod Group
 pub mod Repair
 pub mod Cabinet
 pub mod Restore
-pub mod Card
 pub mod Numbers
-pub mod Pigeon

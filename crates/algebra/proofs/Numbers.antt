@@ -1,9 +1,9 @@
 -- What the theorems ask of a layout's numbers, from the conditions of document 01: B racks of u trays, k trays of data, d helpers,
 -- K = k / u, v = k % u, r = B u − k, R = B − K, s = d − K + 1.
 -- Assumes nothing.
-use mathlib.Core.Path.{_≡_, refl, sym, _∙_, ap}
+use mathlib.Core.Path.{_≡_, ap}
 use Prim.Native.Nat.{ℕ, zero, suc, _+_, _-_, _*_, _/_, _%_, _^_, _≤_, _<_}
-use native.Mathlib.Nat.{le-trans, pow-le-pow-left, pow-le-pow-right, mul-le-mul, mul-le-mul-left, div-add-mod', mul-comm, mod-lt}
+use native.Mathlib.Nat.{le-trans, pow-le-pow-left, pow-le-pow-right, mul-le-mul, mul-le-mul-left, div-add-mod', mul-comm}
 use native.Mathlib.Decide.{decLe, ℕ-discrete}
 use native.Mathlib.Omega.{arith}
 use Rattle.algebra.specs.Cabinet.{Rising}

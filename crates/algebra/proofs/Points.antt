@@ -1,12 +1,12 @@
 -- Within a layer all points differ, and so do the u-th powers of the points of different pairs of a rack and a digit.
 -- Assumes nothing.
-use mathlib.Core.Path.{_≡_, refl, sym, _∙_, ap, ap₂}
-use Prim.Native.Nat.{ℕ, zero, suc, _+_, _*_, _/_, _%_, _≤_, _<_}
-use native.Mathlib.Nat.{add-comm as plus-comm, mul-comm as times-comm, zero-mul as zero-times, add-zero as plus-zero, mul-le-mul-left, mul-le-mul-right, mod-lt, div-add-mod', div-lt-iff-lt-mul}
+use mathlib.Core.Path.{_≡_, sym, _∙_, ap, ap₂}
+use Prim.Native.Nat.{ℕ, zero, _+_, _*_, _/_, _%_, _<_}
+use native.Mathlib.Nat.{add-comm as plus-comm, mul-comm as times-comm, zero-mul as zero-times, add-zero as plus-zero, mul-le-mul-left, mod-lt, div-add-mod', div-lt-iff-lt-mul}
 use native.Mathlib.Omega.{arith}
 use lib.Arith.{digits-lt, digits-div, digits-mod}
 use Rattle.algebra.specs.Field.{Ops, Laws}
-use Rattle.algebra.specs.Sum.{sum, pow}
+use Rattle.algebra.specs.Sum.{pow}
 use Rattle.algebra.specs.Lagrange.{Distinct, check}
 use Rattle.algebra.specs.Shape.{Shape, Root, Fits}
 use Rattle.algebra.specs.Points.{point, trayPoint, rackPoint, place, rackSum, rackCheck}

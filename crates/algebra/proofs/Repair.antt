@@ -1,18 +1,17 @@
 -- The checks summed over a group have one solution for any shares, and the formula gives its host rack sums.
 -- Assumes nothing.
-use mathlib.Core.Path.{_≡_, refl, sym, _∙_, ap, ap₂, subst}
-use Prim.Native.Nat.{ℕ, zero, suc, _+_, _-_, _*_, _/_, _≤_, _<_}
+use mathlib.Core.Path.{_≡_, refl, sym, _∙_, ap, subst}
+use Prim.Native.Nat.{ℕ, zero, suc, _+_, _-_, _/_, _<_}
 use native.Mathlib.Nat.{mul-le-mul, le-mul-of-pos-right}
 use native.Mathlib.Decide.{decLt}
 use native.Mathlib.Omega.{arith}
 use Rattle.algebra.specs.Field.{Ops, Laws}
 use Rattle.algebra.specs.Sum.{sum, pow}
-use Rattle.algebra.specs.Lagrange.{check}
-use Rattle.algebra.specs.Erasure.{fill, Alike, Places, Meets, zeros, erased, recover}
+use Rattle.algebra.specs.Erasure.{Alike, Places, Meets, zeros, recover}
 use Rattle.algebra.specs.Shape.{Shape, Fits}
 use Rattle.algebra.specs.Points.{point, rackCheck}
 use Rattle.algebra.specs.Cabinet.{Rising, Helping}
-use Rattle.algebra.specs.Group.{skip, unskip, free, join, digitsAt, groupPoint, groupWord}
+use Rattle.algebra.specs.Group.{unskip, free, digitsAt, groupPoint, groupWord}
 use Rattle.algebra.specs.Repair.{helperPlace, known, hostSum}
 use Rattle.algebra.proofs.Ring.{mul-inv-left, mul-cancel, zero-mul}
 use Rattle.algebra.proofs.Pow.{pow-suc, pow-not-zero}

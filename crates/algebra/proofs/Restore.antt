@@ -7,7 +7,6 @@ use native.Mathlib.Omega.{arith}
 use Rattle.algebra.specs.Lagrange.{Distinct}
 use Rattle.algebra.specs.Erasure.{zeros, Alike, Places, Meets, recover}
 use Rattle.algebra.specs.Shape.{Shape, Fits}
-use Rattle.algebra.specs.Points.{trayPoint}
 use Rattle.algebra.specs.Layers.{digit}
 use Rattle.algebra.specs.Cabinet.{layerPoint, Codeword}
 use Rattle.algebra.specs.Repair.{restored}

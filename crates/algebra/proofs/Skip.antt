@@ -1,18 +1,17 @@
 -- The numbers other than one, and two lists of values joined.
 -- Assumes nothing.
-use mathlib.Core.Path.{_≡_, refl, sym, _∙_, ap, ap₂}
-use mathlib.Core.Bool.{Bool, true, false}
+use mathlib.Core.Path.{_≡_, sym, _∙_, ap, ap₂}
+use mathlib.Core.Bool.{Bool}
 use Prim.Native.Nat.{ℕ, zero, suc, pred, _+_, _-_, _≤_, _<_}
 use native.Mathlib.Decide.{ℕ-discrete, decLt}
 use native.Mathlib.Omega.{arith}
-use lib.Dec.{eqb, ltb}
 use Rattle.algebra.specs.Field.{Ops, Laws}
 use Rattle.algebra.specs.Sum.{sum}
 use Rattle.algebra.specs.Erasure.{choose}
 use Rattle.algebra.specs.Group.{skip, unskip, join, digitsAt}
 use Rattle.algebra.proofs.Equal.{ltb-yes, ltb-no, eqb-same, eqb-other}
-use Rattle.algebra.proofs.Ring.{ring, add-comm, add-zero, zero-add, add-assoc}
-use Rattle.algebra.proofs.Sum.{sum-suc, sum-zero, sum-congr, sum-split}
+use Rattle.algebra.proofs.Ring.{add-comm, add-assoc}
+use Rattle.algebra.proofs.Sum.{sum-suc, sum-zero, sum-congr}
 
 pub skip-low : (h i : ℕ) → i < h → skip h i ≡ i
 unfolding skip choose

@@ -1,6 +1,6 @@
 -- The checks summed over a group of layers as one system: its points and its word. For code and proofs; document 01's words are in Cabinet.antt.
 -- Assumes nothing.
-use Prim.Native.Nat.{ℕ, zero, suc, pred, _-_, _<_}
+use Prim.Native.Nat.{ℕ, zero, suc, pred, _-_}
 use lib.Dec.{eqb, ltb}
 use Rattle.algebra.specs.Field.{Ops}
 use Rattle.algebra.specs.Sum.{sum, pow}

@@ -10,4 +10,3 @@ pub mod Layers
 pub mod Cabinet
 pub mod Group
 pub mod Repair
-pub mod Card

@@ -1,13 +1,13 @@
--- Document 01's starred lines hold, all by computation from the definitions.
+-- The starred lines hold, all by computation from the definitions.
 -- Assumes nothing.
 use mathlib.Core.Path.{_≡_, refl, sym, _∙_, subst}
-use mathlib.Core.Bool.{Bool, true, false, cond, not, _&&_, _||_}
+use mathlib.Core.Bool.{Bool, true, _&&_}
 use mathlib.Core.List.{List, [], _∷_, _++_}
 use Prim.Native.Nat.{ℕ, _*_}
 use borrow.Author.Tests.{eqb-true, ltb-true}
-use lib.Dec.{eqb, ltb, leb}
-use lib.IntN.{ℤ, pos, negsuc, _-ℤ_, subℕ}
-use lib.ListN.{length, getD, replicate}
+use lib.Dec.{eqb, ltb}
+use lib.IntN.{ℤ}
+use lib.ListN.{length, getD}
 use Rattle.lists.specs.Lists.{all, table}
 use Rattle.lists.proofs.Bools.{both, all-holds}
 use Rattle.algebra.specs.Field.{Ops}
@@ -26,10 +26,10 @@ use Rattle.layout.specs.Layout.{trays, checks, layers, admissible, sizeAllowed,
 use Rattle.layout.proofs.Facts.{admissible-facts}
 use Rattle.codeword.specs.Codeword.{symbolAt, pointAt, checkAt, Codeword}
 use Rattle.rule.specs.Rule.{weightedSum, shareSymbol}
-use Rattle.share.specs.Share.{shareOf}
-use Rattle.store.specs.Store.{Begins, Stores}
+use Rattle.share.specs.Share.{shareOf, shareRefusal}
+use Rattle.store.specs.Store.{Begins, Stores, storeRefusal}
 use Rattle.store.proofs.Trays.{store-exists}
-use Rattle.margin.specs.Margin.{present, marginOf, marginRefusal, statesKnown}
+use Rattle.margin.specs.Margin.{live, marginOf, marginRefusal, statesKnown}
 use Rattle.bench_book.specs.Table.{AllHold, benchBook, cabinet, tray0, tray1, tray2}
 
 -- the test that c is what storing the data gives: an admissible layout, the lengths, bytes, checks that are zero, and the data in front
@@ -74,5 +74,5 @@ stored = (refl, refl)
 
 -- THE BENCH BOOK
 pub worked-examples : AllHold benchBook
-unfolding measured admissible sizeAllowed shareOf table shareSymbol groupSum groupOf weightedSum place symbolAt choose sum pow ops elem _⊕_ _⊗_ shiftAdd mulz marginRefusal marginOf present statesKnown all
-worked-examples = (refl, (refl, (refl, (refl, (refl, (refl, (refl, (refl, (refl, (refl, (is-stored _ _ _ (stored .0), (is-stored _ _ _ (stored .1), (refl, (refl, (refl, (refl, ((refl, refl), ((refl, refl), ((refl, refl), tt)))))))))))))))))))
+unfolding measured admissible sizeAllowed storeRefusal shareRefusal shareOf table shareSymbol groupSum groupOf weightedSum place symbolAt choose sum pow ops elem _⊕_ _⊗_ shiftAdd mulz marginRefusal marginOf live statesKnown all
+worked-examples = (refl, (refl, (refl, (refl, (refl, (refl, (refl, (refl, (refl, (refl, ((refl, is-stored _ _ _ (stored .0)), ((refl, is-stored _ _ _ (stored .1)), ((refl, refl), ((refl, refl), (refl, ((refl, refl), ((refl, refl), ((refl, refl), ((refl, refl), tt)))))))))))))))))))

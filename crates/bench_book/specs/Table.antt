@@ -1,15 +1,15 @@
--- The starred lines of document 01's bench book as one table, and what it claims of each.
+-- The starred lines of document 01's bench book, as document 02 changed them, as one table, and what it claims of each.
 -- Assumes nothing.
 use mathlib.Core.Path.{_≡_}
 use mathlib.Core.List.{List, [], _∷_, _++_}
 use Prim.Native.Nat.{ℕ}
 use lib.IntN.{ℤ, pos, negsuc}
-use lib.ListN.{replicate}
+use lib.ListN.{length, replicate}
 use Rattle.symbol.specs.Elem.{gf256}
 use Rattle.layout.specs.declared.Layout.{Layout}
 use Rattle.layout.specs.Layout.{Numbers, numbersOf, measured}
-use Rattle.store.specs.Store.{Stores}
-use Rattle.share.specs.Share.{shareOf}
+use Rattle.store.specs.Store.{Stores, storeRefusal}
+use Rattle.share.specs.Share.{shareOf, shareRefusal}
 use Rattle.margin.specs.Margin.{marginRefusal, marginOf}
 
 -- a line of the bench book
@@ -18,15 +18,15 @@ pub data Line : Type 0 where
   measures : Layout → ℕ → ℕ → ℕ → ℕ → Line
   -- data, and the codeword they are stored as
   stores : Layout → List ℕ → List ℕ → Line
-  -- a host rack, a helper's rack, and its share
-  shares : Layout → ℕ → List ℕ → List ℕ → Line
+  -- a host rack, a helper, the helper's rack, and its share
+  shares : Layout → ℕ → ℕ → List ℕ → List ℕ → Line
   -- the states of the trays, and the margin
   margins : Layout → List ℕ → ℤ → Line
 
 abbrev pub Holds : Line → Type 0
 Holds (measures l refusal total r cost) = numbersOf (measured l) ≡ record { refusal = refusal; layers = total; checks = r; traffic = cost }
-Holds (stores l given c) = Stores gf256 l given c
-Holds (shares l host rack share) = shareOf gf256 l 0 host rack ≡ share
+Holds (stores l given c) = (storeRefusal l (length given) (length c) ≡ 0) × Stores gf256 l given c
+Holds (shares l host helper rack share) = (shareRefusal l host helper (length rack) (length share) ≡ 0) × (shareOf gf256 l 0 host rack ≡ share)
 Holds (margins l states margin) = (marginRefusal l states ≡ 0) × (marginOf l states ≡ margin)
 
 abbrev pub AllHold : List Line → Type 0
@@ -64,11 +64,11 @@ benchBook =
     ∷ measures (cabinet 13 3 33 12) 1 0 0 0
     ∷ stores (cabinet 2 1 1 1) (0xA7 ∷ []) (0xA7 ∷ 0xA7 ∷ [])
     ∷ stores (cabinet 3 1 1 2) tray0 (tray0 ++ tray1 ++ tray2)
-    ∷ shares (cabinet 3 1 1 2) 0 tray1 (0x03 ∷ 0x03 ∷ 0x03 ∷ 0x03 ∷ [])
-    ∷ shares (cabinet 3 1 1 2) 0 tray2 (0x03 ∷ 0x03 ∷ 0x03 ∷ 0x03 ∷ [])
+    ∷ shares (cabinet 3 1 1 2) 0 1 tray1 (0x03 ∷ 0x03 ∷ 0x03 ∷ 0x03 ∷ [])
+    ∷ shares (cabinet 3 1 1 2) 0 2 tray2 (0x03 ∷ 0x03 ∷ 0x03 ∷ 0x03 ∷ [])
     -- 8 symbols cross
     ∷ measures (cabinet 3 1 1 2) 0 8 2 8
-    ∷ shares (cabinet 3 1 1 2) 1 tray0 (0x0C ∷ 0x0C ∷ 0x0C ∷ 0x0C ∷ [])
+    ∷ shares (cabinet 3 1 1 2) 1 0 tray0 (0x0C ∷ 0x0C ∷ 0x0C ∷ 0x0C ∷ [])
     ∷ margins (cabinet 4 3 8 3) (present 7 5) (negsuc 0)
     ∷ margins (cabinet 4 3 8 3) (present 12 0) (pos 4)
     -- 12 trays, of which 5 are demonstration (document 02)

@@ -1,7 +1,7 @@
 -- The answers of a test, by its grounds.
 -- Assumes nothing.
 use mathlib.Core.Path.{_≡_}
-use mathlib.Core.Bool.{true, false, cond}
+use mathlib.Core.Bool.{true, false}
 use mathlib.Core.List.{List}
 use Prim.Native.Nat.{ℕ, _*_}
 use borrow.Author.Tests.{eq-eqb, ne-eqb}

@@ -2,14 +2,14 @@
 -- Assumes nothing.
 use mathlib.Core.Path.{_≡_, sym, _∙_, subst}
 use mathlib.Core.List.{List}
-use Prim.Native.Nat.{ℕ, _+_, _*_, _/_, _%_, _<_}
+use Prim.Native.Nat.{ℕ, _*_, _/_, _%_, _<_}
 use native.Mathlib.Nat.{mod-lt, div-add-mod', div-lt-iff-lt-mul}
 use lib.ListN.{length, getD}
 use lib.Seq.{ext-getD}
 use Rattle.algebra.specs.Coding.{Coded, InRange}
-use Rattle.algebra.specs.Lagrange.{Distinct, check}
+use Rattle.algebra.specs.Lagrange.{Distinct}
 use Rattle.algebra.specs.Shape.{Field}
-use Rattle.algebra.specs.Cabinet.{layerPoint, Codeword as Word}
+use Rattle.algebra.specs.Cabinet.{Codeword as Word}
 use Rattle.algebra.proofs.Coding.{elem-same}
 use Rattle.algebra.proofs.Layers.{power-pos}
 use Rattle.algebra.proofs.Restore.{points-distinct as distinct}

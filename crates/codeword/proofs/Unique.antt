@@ -1,18 +1,16 @@
 -- The contract of a test decides its answer.
 -- Assumes nothing.
 use mathlib.Core.Path.{_≡_, refl, sym, ap, ap₂, _∙_}
-use mathlib.Core.Logic.{⊎-elim}
 use mathlib.Core.List.{List}
-use Prim.Native.Nat.{ℕ, _<_, _≤_}
+use Prim.Native.Nat.{ℕ, _<_}
 use native.Mathlib.Omega.{arith}
-use lib.ListN.{length}
 use Rattle.algebra.specs.Shape.{Field}
 use Rattle.layout.specs.declared.Layout.{Layout}
 use Rattle.layout.specs.declared.Layer.{Layer}
 use Rattle.codeword.specs.declared.Tested.{Tested}
 use Rattle.codeword.specs.declared.Tested.the-variants.{Sound, Bad, Refused}
 use Rattle.codeword.specs.Codeword.{Codeword}
-use Rattle.codeword.specs.Test.{testRefusal, FirstBad, TestAnswer}
+use Rattle.codeword.specs.Test.{FirstBad, TestAnswer}
 
 layer-path : (a b : Layer) → a .0 ≡ b .0 → a ≡ b
 layer-path a b e = λ i. record { 0 = e i }

@@ -4,7 +4,6 @@ use layout::Layout;
 use symbol::Symbol;
 ghost use mathlib.Core.Path.{_≡_};
 ghost use Prim.Native.Nat.{_+_, _*_, _<_, _≤_};
-ghost use lib.ListN.{length};
 ghost use Rattle.algebra.specs.Field.{Ops};
 ghost use Rattle.algebra.specs.Sum.{pow};
 ghost use Rattle.algebra.specs.Points.{place};
@@ -20,6 +19,9 @@ pub enum Tested {
     Refused(u8),
 }
 
+// The order of the root, as the exponents' own type has it.
+const ORDER: u32 = Symbol::ORDER as u32;
+
 // The exponent of the point of tray x in layer j.
 fn exponent(l: Layout, x: u32, j: u32) -> u32
     requires { ⌜ Admissible l × (x < trays l) ⌝ }
@@ -28,7 +30,7 @@ fn exponent(l: Layout, x: u32, j: u32) -> u32
     let u = l.size;
     let s = layout::digit_count(l);
     let i = x / u;
-    i * s + layout::digit_at(s, j, i) + x % u * (255 / u)
+    i * s + layout::digit_at(s, j, i) + x % u * (ORDER / u)
 }
 
 // The point of tray x in layer j, to the power t.
@@ -45,7 +47,7 @@ pub fn place_power(l: Layout, g: u32, m: u32) -> Symbol
     ensures { λ r. ⌜ elem (r .0) ≡ pow ops (place (shapeOf gf256 l) g) m ⌝ }
 {
     let u = l.size;
-    Symbol::root_power((255 / u * g * m) as usize)
+    Symbol::root_power((ORDER / u * g * m) as usize)
 }
 
 // Where symbol j of tray x stands, in trays of so many layers.

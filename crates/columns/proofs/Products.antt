@@ -1,9 +1,9 @@
 -- The product of (X - q) / (point - q), with one inverse of the product of all differences.
 -- Assumes nothing.
 use mathlib.Core.Path.{_≡_, refl, sym, ap, ap₂, _∙_}
-use mathlib.Core.Bool.{Bool, true, false}
+use mathlib.Core.Bool.{Bool}
 use mathlib.Core.List.{List, [], _∷_}
-use Prim.Native.Nat.{ℕ, zero, suc, _+_, _≤_, _<_}
+use Prim.Native.Nat.{ℕ, zero, suc, _+_, _≤_}
 use native.Mathlib.Numerals.{add-one}
 use native.Mathlib.Decide.{ℕ-discrete}
 use native.Mathlib.Omega.{arith}
@@ -13,11 +13,11 @@ use Rattle.algebra.specs.Field.{Ops, Laws}
 use Rattle.algebra.specs.Poly.{coeff, scale, carried, linear}
 use Rattle.algebra.specs.Lagrange.{basis}
 use Rattle.algebra.specs.Erasure.{choose}
-use Rattle.algebra.proofs.Ring.{ring, mul-zero, zero-mul, mul-one, one-mul, mul-comm, mul-assoc}
+use Rattle.algebra.proofs.Ring.{ring, mul-zero, zero-mul, mul-one, one-mul, mul-comm}
 use Rattle.algebra.proofs.Poly.{coeff-tail, coeff-nil, length-linear}
 use Rattle.algebra.proofs.Lagrange.{basis-zero, basis-same, basis-other}
 use Rattle.algebra.proofs.Equal.{eqb-same, eqb-other}
-use Rattle.symbol.specs.Elem.{Elem, elem, ops}
+use Rattle.symbol.specs.Elem.{Elem, ops}
 use Rattle.symbol.proofs.Elem.{laws, neg-is, elem-zero, inverse-zero}
 use Rattle.columns.specs.Columns.{differences, grown}
 

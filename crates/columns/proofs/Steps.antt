@@ -1,7 +1,7 @@
 -- The coefficients of all columns, factor by factor.
 -- Assumes nothing.
 use mathlib.Core.Path.{_≡_, refl, sym, ap, ap₂, _∙_, subst}
-use mathlib.Core.List.{List, [], _∷_}
+use mathlib.Core.List.{List, []}
 use Prim.Native.Nat.{ℕ, zero, suc, _+_, _-_, _*_, _<_, _≤_, min}
 use native.Mathlib.Nat.{zero-add, not-suc-le-zero}
 use native.Mathlib.Numerals.{add-one}
@@ -13,8 +13,7 @@ use lib.Dec.{lit<}
 use lib.ListN.{length, getD}
 use Rattle.algebra.specs.Field.{Ops}
 use Rattle.algebra.specs.Poly.{coeff, linear}
-use Rattle.algebra.specs.Lagrange.{basis}
-use Rattle.algebra.proofs.Ring.{add-zero, zero-add as add-zero-left, mul-zero, mul-comm, zero-mul}
+use Rattle.algebra.proofs.Ring.{add-zero, zero-add as add-zero-left, mul-zero, mul-comm}
 use Rattle.algebra.proofs.Poly.{coeff-head, coeff-tail, coeff-nil, coeff-linear-zero, coeff-linear-suc}
 use Rattle.symbol.specs.Elem.{Elem, elem, ops}
 use Rattle.symbol.specs.Arithmetic.{_⊕_, _⊗_}
@@ -209,9 +208,6 @@ first-in v m i points out s h = let e = row-in out m v 0 (s .out-long) (omega ar
 pub point-in : (v m i : ℕ) (points out : List ℕ) → Columns v m points out → i < m → i * v + v ≤ length points
 point-in v m i points out s h = row-in points m v i (s .points-long) h
 
-pub out-in : (v m t : ℕ) (points out : List ℕ) → Columns v m points out → t < m → t * v + v ≤ length out
-out-in v m t points out s h = row-in out m v t (s .out-long) h
-
 pub rest-low : (v m i : ℕ) → i < m → v ≤ m * v
 rest-low v m i h = let e = row-before 0 m v (omega arith) in omega arith
 
@@ -220,9 +216,6 @@ rest-in v m i points was is s e h = let k = rest-low v m i h in let l = s .out-l
 
 pub point-fits : (v m i : ℕ) (points out : List ℕ) → Columns v m points out → i < m → Fits w64 (length points) → Fits w64 (i * v)
 point-fits v m i points out s h f = let e = point-in v m i points out s h in omega arith
-
-pub out-fits : (v m t : ℕ) (points out : List ℕ) → Columns v m points out → t < m → Fits w64 (length out) → Fits w64 (t * v)
-out-fits v m t points out s h f = let e = out-in v m t points out s h in omega arith
 
 pub whole-fits : (v m : ℕ) (points out : List ℕ) → Columns v m points out → Fits w64 (length points) → Fits w64 (m * v)
 whole-fits v m points out s f = let e = s .points-long in omega arith

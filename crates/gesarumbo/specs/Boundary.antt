@@ -1,4 +1,4 @@
--- The numbers that cross to C: for each answer those that document 01 gives it.
+-- The numbers that cross to C: for each answer those that documents 01 and 02 give it.
 -- Assumes nothing.
 use mathlib.Core.Path.{_≡_}
 use mathlib.Core.List.{List}

@@ -12,7 +12,7 @@ use lib.Arith.{digits-div, digits-mod, mod-mul}
 use Rattle.lists.proofs.Numbers.{mul-below, cell-in}
 use Rattle.algebra.specs.Layers.{layerOf}
 use Rattle.layout.specs.declared.Layout.{Layout}
-use Rattle.layout.specs.Layout.{digits, layers, groups, layerLimit}
+use Rattle.layout.specs.Layout.{digits, layers, layerLimit}
 use Rattle.layout.proofs.Facts.{bounds}
 use Rattle.layout.proofs.Numbers.{digits-small, layer-below}
 use Rattle.syndrome.specs.Syndrome.{Block}

@@ -1,4 +1,4 @@
--- Ground 9 in document 01's own words. That it says the same as `wellFormed` is a theorem (proofs/HeaderRules.antt).
+-- Ground 9 in document 01's own words, with document 02's rule for volume 0 (W5). That it says the same as `wellFormed` is a theorem (proofs/HeaderRules.antt).
 -- Assumes nothing.
 use mathlib.Core.Path.{_≡_}
 use mathlib.Core.Bool.{true}

@@ -12,7 +12,6 @@ use lib.Dec.{eqb}
 use lib.ListN.{length, getD, set, length-set}
 use lib.Seq.{getD-set-same, getD-set-other}
 use lib.Bits.{bitXor}
-use Rattle.lists.specs.Lists.{all}
 use Rattle.lists.proofs.Bools.{all-holds, all-true, all-false}
 use Rattle.symbol.specs.Arithmetic.{_⊕_, _⊗_}
 use Rattle.kernel.specs.Runs.{Run, filled, copied, sampled, added, addedProduct, addedMultiple, stepped, accrued, shifted, parted, lookedUp, allZero}

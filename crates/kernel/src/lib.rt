@@ -1,5 +1,7 @@
 // Kernels: loops over a run of symbols, one loop each with one step a symbol and no branch or table, so that the compiler does many symbols at a time.
-// Each promises what its run holds afterwards and that every other symbol of the buffer is as it was.
+// Each promises what its run holds afterwards and that every other symbol of the buffer is as it was. Beside them the table of inverses with its look-up,
+// and the test for zeros, which stops early.
+use symbol::Symbol;
 use symbol::ladder::product;
 use symbol::powers::all_powers;
 ghost use mathlib.Core.Path.{_≡_};
@@ -252,8 +254,8 @@ pub fn inverses(table: &mut [u8])
     let powers = all_powers();
     table[0] = 0;
     let mut i = 0usize;
-    while i < 255 {
-        table[powers[i] as usize] = powers[(255 - i) % 255];
+    while i < Symbol::ORDER {
+        table[powers[i] as usize] = powers[(Symbol::ORDER - i) % Symbol::ORDER];
         i += 1;
     }
 }

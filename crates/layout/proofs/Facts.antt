@@ -1,15 +1,15 @@
 -- What an admissible layout is, as a test and as facts, and what follows for its numbers.
-use mathlib.Core.Path.{_≡_, refl, sym, ap, _∙_}
-use mathlib.Core.Bool.{Bool, true, false, not, _&&_, _||_}
-use mathlib.Core.Logic.{⊎-elim, _⊎_, inl, inr}
-use Prim.Native.Nat.{ℕ, zero, suc, _+_, _-_, _*_, _/_, _%_, _^_, _≤_, _<_}
-use native.Mathlib.Nat.{le-mul-of-pos-right, mul-comm, mul-one, one-le-pow, pow-le-pow-right, le-trans, le-of-lt, div-lt-iff-lt-mul, div-le-self}
+use mathlib.Core.Path.{_≡_, sym}
+use mathlib.Core.Bool.{Bool, true, false, not}
+use mathlib.Core.Logic.{⊎-elim}
+use Prim.Native.Nat.{ℕ, _+_, _-_, _*_, _/_, _%_, _^_, _≤_, _<_}
+use native.Mathlib.Nat.{le-mul-of-pos-right, one-le-pow, pow-le-pow-right, le-trans, le-of-lt, div-lt-iff-lt-mul, div-le-self}
 use native.Mathlib.Omega.{arith}
-use lib.Dec.{leb, ltb, eqb}
+use lib.Dec.{leb}
 use borrow.Author.Tests.{leb-true, le-leb, eqb-true}
 use Rattle.lists.proofs.Bools.{both, and-true, not-both, either, not-true-false, told-true}
 use Rattle.layout.specs.declared.Layout.{Layout}
-use Rattle.layout.specs.Layout.{trays, wholeRacks, checks, digits, layers, groups, trayLimit, layerLimit, sizeAllowed, admissible, lostCountFits, Admissible}
+use Rattle.layout.specs.Layout.{trays, wholeRacks, digits, layers, groups, trayLimit, layerLimit, sizeAllowed, admissible, lostCountFits, Admissible}
 
 module _ (l : Layout) where
   pub admissible-facts : admissible l ≡ true → Admissible l

@@ -1,6 +1,6 @@
--- The numbers of a cabinet and which layouts are admissible, as document 01 says.
+-- The numbers of a cabinet and which layouts are admissible, as document 01 says, with the limits of document 02 (W4).
 -- Assumes nothing.
-use mathlib.Core.Bool.{Bool, true, false, cond, _&&_, _||_}
+use mathlib.Core.Bool.{Bool, true, cond, _&&_, _||_}
 use mathlib.Core.Path.{_≡_}
 use Prim.Native.Nat.{ℕ, _+_, _-_, _*_, _/_, _%_, _^_, _≤_}
 use lib.Dec.{leb, eqb}

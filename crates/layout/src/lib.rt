@@ -1,4 +1,4 @@
-// Layouts: the four numbers of a cabinet, which of them document 01 admits, and the numbers that follow. Promises the definitions of specs/Layout.antt
+// Layouts: the four numbers of a cabinet, which of them documents 01 and 02 admit, and the numbers that follow. Promises the definitions of specs/Layout.antt
 // for all 32-bit values, with no sum or product that wraps. A rack, a tray and a layer number are kinds of their own.
 pub mod power;
 
@@ -6,7 +6,7 @@ use power::capped_power;
 ghost use mathlib.Core.Path.{_≡_};
 ghost use Prim.Native.Nat.{_+_, _*_, _/_, _%_, _^_, _<_, _≤_};
 ghost use Rattle.algebra.specs.Layers.{digit, groupOf, layerOf};
-ghost use Rattle.layout.specs.Layout.{sizeAllowed, admissible, lostCountFits, trays, checks, digits, layers, groups, parityRacks, layerLimit, Admissible, measured};
+ghost use Rattle.layout.specs.Layout.{sizeAllowed, admissible, lostCountFits, trays, checks, digits, layers, groups, layerLimit, Admissible, measured};
 ghost use Rattle.layout.specs.Inner.{InGroup, HasLayer};
 
 // The limits on the trays of a cabinet and the layers of a tray (document 02, W4).

@@ -16,7 +16,7 @@ use Rattle.layout.specs.declared.Layout.{Layout}
 use Rattle.layout.specs.Layout.{trays, admissible, trayLimit}
 use Rattle.layout.proofs.Facts.{admissible-facts, dimension-in}
 use Rattle.margin.specs.declared.LossMargin.the-variants.{Known, Refused}
-use Rattle.margin.specs.Margin.{stateLimit, present, marginOf, statesKnown, marginRefusal, marginAnswer, marginValue}
+use Rattle.margin.specs.Margin.{stateLimit, live, marginOf, statesKnown, marginRefusal, marginAnswer, marginValue}
 use Rattle.margin.proofs.Signed.{handed-on}
 
 module _ (states : List ℕ) where
@@ -83,7 +83,7 @@ module _ (l : Layout) (states : List ℕ) where
       given-dimension = measurable (sym given-0) .dimension-high
 
       -- a margin m that is handed on
-      module _ (count : ℕ) (p : count ≡ present states (length states)) (h : count ≤ trayLimit) (m : ℤ) (m-is : m ≡ pos count -ℤ pos (l .dimension)) where
+      module _ (count : ℕ) (p : count ≡ live states (length states)) (h : count ≤ trayLimit) (m : ℤ) (m-is : m ≡ pos count -ℤ pos (l .dimension)) where
         is-margin : toZ w32 (ofZ w32 m) ≡ marginOf l states
         unfolding marginOf
         is-margin = handed-on count (l .dimension) h given-dimension m m-is ∙ ap (λ n. pos n -ℤ pos (l .dimension)) p

@@ -13,8 +13,8 @@ use lib.Signed.{leZ, _≤ℤ_, leZ-yes}
 use borrow.Author.Tests.{lt-ltb, le-ltb, le-leb}
 use Rattle.layout.specs.declared.Layout.{Layout}
 use Rattle.layout.specs.Layout.{trays, admissible}
-use Rattle.margin.specs.Margin.{stateLimit, counts, present, marginOf, marginRefusal}
-use Rattle.margin.proofs.Counting.{present-high, present-same}
+use Rattle.margin.specs.Margin.{stateLimit, counts, live, marginOf, marginRefusal}
+use Rattle.margin.proofs.Counting.{live-high, live-same}
 use Rattle.margin.proofs.Signed.{sub-is}
 use Rattle.margin.proofs.Grounds.{measurable, known-true, margin-0}
 
@@ -36,9 +36,9 @@ pub margin-range : (l : Layout) (states : List ℕ) → marginRefusal l states �
 unfolding marginOf
 margin-range l states h =
     let m = measurable l states h in
-    let p = present states (length states) in (
+    let p = live states (length states) in (
       subst (λ (z : ℤ). z ≤ℤ (pos p -ℤ pos (l .dimension))) (+ℤ-idl (negℤ (pos (l .dimension)))) (rises 0 p (l .dimension) (omega arith)),
-      rises p (trays l) (l .dimension) (omega (arith, present-high states (length states), m .length-is)),
+      rises p (trays l) (l .dimension) (omega (arith, live-high states (length states), m .length-is)),
     )
 
 -- every tray in one state x, which counts or not
@@ -53,7 +53,7 @@ module _ (l : Layout) (a : admissible l ≡ true) (x : ℕ) (h : x ≤ stateLimi
   unfolding marginOf
   alike = (
     sym (margin-0 l states true (sym a) refl (trays l) refl (length-replicate (trays l) x) true (known-true states (λ i k. omega (arith, each i k))) refl),
-    ap (λ n. pos n -ℤ pos (l .dimension)) (present-same t states (length states) (λ i k. ap counts (each i k) ∙ e) ∙ ap (λ n. cond t n 0) (length-replicate (trays l) x)),
+    ap (λ n. pos n -ℤ pos (l .dimension)) (live-same t states (length states) (λ i k. ap counts (each i k) ∙ e) ∙ ap (λ n. cond t n 0) (length-replicate (trays l) x)),
   )
 
 pub margin-ends : (l : Layout) → admissible l ≡ true →

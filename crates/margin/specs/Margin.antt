@@ -21,13 +21,13 @@ abbrev pub counts : ℕ → Bool
 counts state = eqb state 1
 
 -- the trays that count among the first n
-unfoldable pub present : List ℕ → ℕ → ℕ
-present states zero = 0
-present states (suc n) = present states n + cond (counts (getD states n 0)) 1 0
+unfoldable pub live : List ℕ → ℕ → ℕ
+live states zero = 0
+live states (suc n) = live states n + cond (counts (getD states n 0)) 1 0
 
 -- the margin, below zero too
 unfoldable pub marginOf : Layout → List ℕ → ℤ
-marginOf l states = pos (present states (length states)) -ℤ pos (l .dimension)
+marginOf l states = pos (live states (length states)) -ℤ pos (l .dimension)
 
 unfoldable pub statesKnown : List ℕ → Bool
 statesKnown states = all (λ x. leb (getD states x 0) stateLimit) (length states)

@@ -6,7 +6,7 @@ ghost use Prim.Native.Nat.{_≤_};
 ghost use lib.IntN.{pos, _-ℤ_};
 ghost use lib.ListN.{length};
 ghost use Rattle.layout.specs.Layout.{trayLimit};
-ghost use Rattle.margin.specs.Margin.{counts, present, statesKnown, marginRefusal, marginAnswer, marginValue, refusalOf, valueOf};
+ghost use Rattle.margin.specs.Margin.{counts, live, statesKnown, marginRefusal, marginAnswer, marginValue, refusalOf, valueOf};
 
 // The states are 0 absent, 1 live and 2 demonstration.
 const LIVE: u8 = 1;
@@ -27,9 +27,9 @@ fn counted(state: u8) -> bool
 }
 
 // The trays that count.
-fn present_count(states: &[u8]) -> u32
+fn live_count(states: &[u8]) -> u32
     requires { ⌜ length (now states) ≤ trayLimit ⌝ }
-    ensures { λ r. ⌜ (r ≡ present (now (states .entry)) (length (now (states .entry)))) × (r ≤ trayLimit) ⌝ }
+    ensures { λ r. ⌜ (r ≡ live (now (states .entry)) (length (now (states .entry)))) × (r ≤ trayLimit) ⌝ }
 {
     let mut count = 0u32;
     let mut x = 0usize;
@@ -89,5 +89,5 @@ pub fn margin(l: Layout, states: &[u8]) -> LossMargin
     if refusal != 0 {
         return LossMargin::Refused(refusal);
     }
-    LossMargin::Known(difference(present_count(states), k))
+    LossMargin::Known(difference(live_count(states), k))
 }

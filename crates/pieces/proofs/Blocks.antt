@@ -1,14 +1,13 @@
 -- The blocks of a piece, and what a block is told.
 -- Assumes nothing.
-use mathlib.Core.Path.{_≡_, refl, sym, ap, ap₂, _∙_, subst}
-use mathlib.Core.Bool.{true, false, false≢true}
+use mathlib.Core.Path.{_≡_, sym, ap, _∙_, subst}
 use mathlib.Core.List.{List}
 use Prim.Native.Nat.{ℕ, suc, _+_, _-_, _*_, _/_, _%_, _^_, _<_, _≤_}
 use native.Mathlib.Nat.{div-add-mod', mod-one, mul-one, mul-le-mul-right, le-refl, le-trans, pow-zero, pow-suc, mul-pos, le-mul-of-pos-right}
 use native.Mathlib.Omega.{arith}
 use mir.Val.{Fits}
 use mir.Syntax.{w32, w64}
-use lib.ListN.{length, getD}
+use lib.ListN.{length}
 use Rattle.lists.proofs.Numbers.{mul-below}
 use Rattle.algebra.proofs.Layers.{power-pos}
 use Rattle.kernel.specs.Runs.{Inverses}

@@ -1,13 +1,12 @@
 -- The numbers of a call in range, and a run all of whose layers are done, from the tests as the code makes them.
 -- Assumes nothing.
 use mathlib.Core.Path.{_≡_, sym, ap, subst}
-use mathlib.Core.Bool.{Bool, true, false, not}
+use mathlib.Core.Bool.{Bool, true, false}
 use Prim.Native.Nat.{ℕ, _+_, _-_, _/_, _≤_, _<_}
 use native.Mathlib.Decide.{ℕ-discrete}
 use native.Mathlib.Omega.{arith}
 use lib.Dec.{leb, ltb}
 use borrow.Author.Tests.{lt-ltb, ltb-true, le-leb, leb-true, eq-eqb, ne-eqb}
-use Rattle.lists.specs.Lists.{all}
 use Rattle.lists.proofs.Bools.{both, not-true-false, all-holds, all-true}
 use Rattle.layout.specs.declared.Layout.{Layout}
 use Rattle.layout.specs.Layout.{layerLimit, trays, layers, groups, Admissible}

@@ -1,6 +1,6 @@
 -- Whether what was found meets the checks that were not needed to solve.
 -- Assumes nothing.
-use mathlib.Core.Path.{_≡_, refl, sym, ap, ap₂, _∙_, subst}
+use mathlib.Core.Path.{_≡_, sym, ap, ap₂, _∙_, subst}
 use mathlib.Core.Bool.{Bool, true, false, false≢true}
 use mathlib.Core.List.{List}
 use Prim.Native.Nat.{ℕ, _+_, _-_, _*_, _/_, _%_, _<_, _≤_}
@@ -11,7 +11,7 @@ use mir.Val.{Fits}
 use mir.Syntax.{w8, w64}
 use lib.ListN.{length, getD}
 use Rattle.algebra.specs.Field.{Ops}
-use Rattle.algebra.specs.Sum.{sum, pow}
+use Rattle.algebra.specs.Sum.{pow}
 use Rattle.algebra.specs.Lagrange.{check}
 use Rattle.algebra.specs.Erasure.{recover}
 use Rattle.algebra.specs.Repair.{restored}

@@ -2,7 +2,7 @@
 -- Assumes nothing.
 use mathlib.Core.Path.{_≡_, refl, sym, ap, _∙_, subst}
 use mathlib.Core.List.{List}
-use Prim.Native.Nat.{ℕ, _+_, _-_, _*_, _/_, _^_, _<_, _≤_}
+use Prim.Native.Nat.{ℕ, _+_, _-_, _*_, _<_, _≤_}
 use native.Mathlib.Nat.{not-suc-le-zero, add-assoc, mul-le-mul-right, le-trans}
 use native.Mathlib.Decide.{ℕ-discrete, decLt}
 use native.Mathlib.Omega.{arith}
@@ -14,10 +14,10 @@ use Rattle.algebra.specs.Erasure.{zeros, Alike, Places, recover}
 use Rattle.algebra.specs.Repair.{restored}
 use Rattle.algebra.proofs.Erasure.{fill-at, fill-outside, fill-values, fill-congr, erased-congr, place-cases}
 use Rattle.symbol.specs.Elem.{Elem, elem, ops, gf256}
-use Rattle.kernel.specs.Runs.{cell, Run, copied}
+use Rattle.kernel.specs.Runs.{Run, copied}
 use Rattle.kernel.proofs.Rows.{row-end, row-before, row-in, cell-is}
 use Rattle.layout.specs.declared.Layout.{Layout}
-use Rattle.layout.specs.Layout.{trays, checks, digits, layers, Admissible}
+use Rattle.layout.specs.Layout.{trays, checks, layers, Admissible}
 use Rattle.codeword.specs.Codeword.{symbolAt, pointAt}
 use Rattle.syndrome.specs.Syndrome.{Block, entryOf, Listed, Sums}
 use Rattle.restore.specs.Restored.{restoredAt, Erasing, RestoredTo}

@@ -1,17 +1,16 @@
 -- Room to work in.
 -- Assumes nothing.
-use mathlib.Core.Path.{_≡_, refl, sym, _∙_, subst}
+use mathlib.Core.Path.{_≡_, sym, _∙_, subst}
 use mathlib.Core.List.{List}
 use Prim.Native.Nat.{ℕ, _+_, _*_, _/_, _^_, _<_, _≤_}
-use native.Mathlib.Nat.{mul-le-mul, mul-le-mul-right, le-trans, div-le-self}
+use native.Mathlib.Nat.{mul-le-mul-right, le-trans, div-le-self}
 use native.Mathlib.Omega.{arith}
 use mir.Val.{Fits}
 use mir.Syntax.{w64}
 use lib.ListN.{length}
 use Rattle.lists.proofs.Numbers.{mul-below}
 use Rattle.layout.specs.declared.Layout.{Layout}
-use Rattle.layout.specs.Layout.{trays, checks, digits, layers, trayLimit, layerLimit, Admissible}
-use Rattle.layout.proofs.Facts.{bounds}
+use Rattle.layout.specs.Layout.{checks, digits, trayLimit, layerLimit, Admissible}
 use Rattle.syndrome.specs.Syndrome.{blockLimit, roomLimit, Block, Listed, Room}
 use Rattle.syndrome.proofs.Room.{roomOf, rowOf, room-long, row-long}
 use Rattle.restore.specs.Restored.{Erasing}

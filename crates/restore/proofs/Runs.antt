@@ -1,6 +1,6 @@
 -- Runs of layers in which the points of the trays listed stay.
 -- Assumes nothing.
-use mathlib.Core.Path.{_≡_, refl, sym, ap, ap₂, _∙_, subst}
+use mathlib.Core.Path.{_≡_, sym, ap, ap₂, _∙_, subst}
 use mathlib.Core.List.{List}
 use Prim.Native.Nat.{ℕ, _+_, _-_, _*_, _/_, _%_, _^_, _<_, _≤_}
 use native.Mathlib.Nat.{mul-comm, mul-assoc, mul-pos, mul-div-cancel, add-assoc, add-mul, add-mul-div-left, div-add-mod', mod-lt, mod-mod, mul-le-mul, le-mul-of-pos-right, le-trans, not-suc-le-zero}
@@ -16,7 +16,7 @@ use Rattle.symbol.specs.Elem.{Elem, elem, gf256}
 use Rattle.kernel.specs.Runs.{cell, Run, sampled}
 use Rattle.kernel.proofs.Rows.{row-before, row-in, cell-is, cell-other}
 use Rattle.layout.specs.declared.Layout.{Layout}
-use Rattle.layout.specs.Layout.{trays, checks, digits, layers, Admissible}
+use Rattle.layout.specs.Layout.{trays, digits, Admissible}
 use Rattle.codeword.specs.Codeword.{pointAt}
 use Rattle.syndrome.specs.Syndrome.{Block, Listed, TrayPoints}
 use Rattle.syndrome.proofs.Digits.{run-pos, point-run, point-cycle, same-block}

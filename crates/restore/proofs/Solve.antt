@@ -1,6 +1,6 @@
 -- A block solved: the symbols found are those that the checks determine.
 -- Assumes nothing.
-use mathlib.Core.Path.{_≡_, refl, sym, ap, ap₂, _∙_, subst}
+use mathlib.Core.Path.{_≡_, refl, sym, ap, ap₂, _∙_}
 use mathlib.Core.List.{List}
 use Prim.Native.Nat.{ℕ, zero, suc, _+_, _*_, _/_, _%_, _^_, _<_, _≤_}
 use native.Mathlib.Nat.{mod-lt, mul-le-mul, mul-le-mul-right, le-trans}
@@ -8,7 +8,6 @@ use native.Mathlib.Omega.{arith}
 use lib.Dec.{eqb}
 use lib.ListN.{length, getD}
 use Rattle.algebra.specs.Field.{Ops}
-use Rattle.algebra.specs.Sum.{sum}
 use Rattle.algebra.specs.Poly.{coeff}
 use Rattle.algebra.specs.Lagrange.{factor, basis, check, solve}
 use Rattle.algebra.specs.Erasure.{zeros, rest, erased}
@@ -20,7 +19,7 @@ use Rattle.symbol.proofs.Elem.{laws, neg-is}
 use Rattle.kernel.specs.Runs.{cell}
 use Rattle.columns.specs.Columns.{column, Systems, Solved}
 use Rattle.layout.specs.declared.Layout.{Layout}
-use Rattle.layout.specs.Layout.{trays, checks, digits, layers, Admissible}
+use Rattle.layout.specs.Layout.{trays, digits, Admissible}
 use Rattle.codeword.specs.Codeword.{symbolAt, pointAt}
 use Rattle.syndrome.specs.Syndrome.{Block, entryOf, Listed, survivorAt, Sums}
 use Rattle.restore.specs.Inner.{erasedAt, Steady, ListedPoints, Workspace, FoundBlock}

@@ -1,6 +1,6 @@
 // Erased trays worked out from the others, whole blocks of layers at a time, by the products of differences: the symbols that the checks determine, and
 // whether these meet the checks that were not needed to solve. Never looks at the old bytes of the trays listed. What is promised here is what recovering
-// and storing rest on (specs/Inner.antt).
+// and storing rest on (specs/Restored.antt).
 use layout::Layout;
 ghost use mathlib.Core.Path.{_≡_};
 ghost use mathlib.Core.Bool.{true, false};

@@ -1,5 +1,6 @@
 -- Shares, groups and document 01's rule of repair for one lost tray, over any field. A rack's u·L numbers lie tray after tray.
--- The rule for several lost trays, which every other definition of the library speaks of, is in Lost.antt; for one tray the two are the same (proofs/Single.antt).
+-- The rule for several lost trays, which the calls promise, is in Lost.antt; for one tray the two are the same (proofs/Single.antt), and the claims for one tray
+-- (repair/specs/One.antt) are stated by this one.
 -- Assumes nothing.
 use mathlib.Core.Path.{_≡_}
 use mathlib.Core.List.{List}

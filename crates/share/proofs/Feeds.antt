@@ -1,6 +1,6 @@
 -- Shares built up tray by tray: in any order, each tray fed once, they are the rack's e shares; a tray fed twice counts twice, and among bytes cancels.
 -- Assumes nothing.
-use mathlib.Core.Bool.{Bool, true, false, cond}
+use mathlib.Core.Bool.{Bool, true, false, not, cond}
 use mathlib.Core.Path.{_≡_, refl, sym, ap, ap₂, _∙_}
 use mathlib.Core.List.{List, [], _∷_}
 use Prim.Native.Nat.{ℕ, zero, suc, _+_, _*_, _%_, _≤_, _<_}
@@ -26,7 +26,7 @@ use Rattle.layout.proofs.Facts.{bounds}
 use Rattle.rule.specs.Rule.{trayPart}
 use Rattle.rule.proofs.Racks.{tray-long}
 use Rattle.share.specs.Many.{sharesOf, manyRefusal, manyBuffer, partAt, fedMany, addManyRefusal, addManyBuffer}
-use Rattle.share.specs.Feeds.{count, cleared, Feeds, none, feed, refused}
+use Rattle.share.specs.Feeds.{count, odd, cleared, Feeds, none, feed, refused}
 use Rattle.share.proofs.Refusals.{shareable, rack-grounds, tray-done, tray-shareable, buffer-done, add-refused, add-done}
 use Rattle.share.proofs.Parts.{all-parts}
 
@@ -170,7 +170,28 @@ both-cancel : (x y : Elem) → x ≡ ops .add x (ops .add y y)
 unfolding ops
 both-cancel x y = sym (add-zero ops (gf256-laws .laws) x) ∙ ap (ops .add x) (sym (gf256-laws .laws .neg-add y))
 
--- among bytes a tray fed twice cancels: for any call, refused or done
+-- a symbol added so often stays where that is odd
+often : (n : ℕ) (y : Elem) → sum ops n (λ k. y) ≡ choose (odd n) y (ops .zero)
+unfolding odd choose
+often zero y = sum-zero ops _
+often (suc n) y = sum-suc ops n _ ∙ ap (λ x. ops .add x y) (often n y) ∙ go (odd n)
+  where
+    go : (t : Bool) → ops .add (choose t y (ops .zero)) y ≡ choose (not t) y (ops .zero)
+    go true = sym (zero-add ops (gf256-laws .laws) (ops .add y y)) ∙ sym (both-cancel (ops .zero) y)
+    go false = zero-add ops (gf256-laws .laws) y
+
+-- among bytes, after any feeds, the trays fed an odd number of times are in the shares, once each, and those fed an even number of times have cancelled
+pub feeds-cancel : (l : Layout) (e : ℕ) → Admissible l → (host i : ℕ) → host < l .racks → i < l .racks → 0 < e → e + l .dimension % l .size ≤ l .size → ¬ (host ≡ i) →
+    (rack : List ℕ) → length rack ≡ l .size * layers l → (start : List ℕ) → length start ≡ e * groups l → InRange (gf256 .coding) start →
+    (places held : List ℕ) → Feeds gf256 l e host i rack start places held →
+    held ≡ table (λ n. gf256 .coding .val (ops .add (gf256 .coding .elem (getD start n 0))
+    (sum ops (l .size) (λ g. choose (odd (count g places)) (partAt gf256 l host (i * l .size + g) (trayPart l rack g) n) (ops .zero))))) (e * groups l)
+feeds-cancel l e a host i hh hi some few differ rack long start room range places held feeds =
+    feeds-sum gf256 gf256-laws l e a host i hh hi some few differ rack long start room range places held feeds
+    ∙ table-same _ _ (e * groups l) (λ n k.
+    ap (λ y. gf256 .coding .val (ops .add (gf256 .coding .elem (getD start n 0)) y)) (sum-congr ops (l .size) _ _ (λ g h. often (count g places) _)))
+
+-- so the same call twice leaves the buffer as it was, refused or done
 pub twice-cancels : (l : Layout) (e host x : ℕ) (symbols held : List ℕ) → InRange (gf256 .coding) held →
     addManyBuffer gf256 l e host x symbols (addManyBuffer gf256 l e host x symbols held) ≡ held
 twice-cancels l e host x symbols held range = go (ℕ-discrete (addManyRefusal l e host x (length symbols) (length held)) 0)

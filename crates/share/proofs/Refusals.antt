@@ -10,11 +10,11 @@ use native.Mathlib.Omega.{arith}
 use lib.Arith.{digits-div}
 use lib.Dec.{eqb, ltb}
 use lib.ListN.{length}
-use borrow.Author.Tests.{eq-eqb, ne-eqb, lt-ltb, le-leb, eqb-true, eqb-false, leb-true, ltb-true, not-true}
-use Rattle.lists.proofs.Bools.{both, and-true, not-both, passed, not-true-false}
+use borrow.Author.Tests.{eq-eqb, ne-eqb, lt-ltb, eqb-true, eqb-false, ltb-true, not-true}
+use Rattle.lists.proofs.Bools.{both, not-both, passed, not-true-false}
 use Rattle.algebra.specs.Shape.{Field}
 use Rattle.layout.specs.declared.Layout.{Layout}
-use Rattle.layout.specs.Layout.{trays, layers, groups, admissible, lostCountFits, Admissible}
+use Rattle.layout.specs.Layout.{layers, groups, admissible, lostCountFits, Admissible}
 use Rattle.layout.proofs.Facts.{admissible-facts, facts-admissible, size-pos, fits, fits-so}
 use Rattle.share.specs.Share.{shareRefusal, addRefusal}
 use Rattle.share.specs.Many.{sharesOf, fedMany, manyRefusal, manyBuffer, addManyRefusal, addManyBuffer}

@@ -1,6 +1,6 @@
 -- Lists of feeds into one buffer of e shares, in any order, and what is claimed of every such list. With e = 1 they are feeds into document 01's share.
 -- Assumes nothing.
-use mathlib.Core.Bool.{cond}
+use mathlib.Core.Bool.{Bool, false, not, cond}
 use mathlib.Core.Path.{_≡_}
 use mathlib.Core.List.{List, [], _∷_}
 use Prim.Native.Nat.{ℕ, zero, suc, _+_, _*_, _<_}
@@ -17,6 +17,11 @@ use Rattle.share.specs.Many.{addManyRefusal, addManyBuffer}
 unfoldable pub count : ℕ → List ℕ → ℕ
 count n [] = 0
 count n (x ∷ xs) = cond (eqb n x) (suc (count n xs)) (count n xs)
+
+-- whether a number is odd
+unfoldable pub odd : ℕ → Bool
+odd zero = false
+odd (suc n) = not (odd n)
 
 module _ {A : Type 0} (f : Field A) (l : Layout) (e : ℕ) where
   -- shares in which no tray has been fed

@@ -13,7 +13,7 @@ ghost use lib.ListN.{length, getD};
 ghost use Rattle.symbol.specs.Elem.{elem, gf256};
 ghost use Rattle.layout.specs.Layout.{groups, Admissible};
 ghost use Rattle.share.specs.Share.{shareRefusal, shareBuffer, addRefusal, addBuffer};
-ghost use Rattle.share.specs.Many.{sharesOf, fedMany, manyRefusal, manyBuffer, addManyRefusal, addManyBuffer};
+ghost use Rattle.share.specs.Many.{sharesOf, manyRefusal, manyBuffer, addManyRefusal, addManyBuffer};
 ghost use Rattle.share.specs.Inner.{grounds, RunsOf, InRuns, DigitAdded, DigitsAdded, Summing, sumAt, Summed, Added, Weighing, Feeding, Gathering};
 
 // Runs shorter than this are added across.

@@ -1,6 +1,6 @@
 -- The system that the code solves has the rule's host sums as its solution.
 -- Assumes nothing.
-use mathlib.Core.Path.{_≡_, refl, sym, ap, ap₂, _∙_}
+use mathlib.Core.Path.{_≡_, refl, sym, ap, _∙_}
 use mathlib.Core.List.{List}
 use Prim.Native.Nat.{ℕ, _+_, _-_, _*_, _<_}
 use native.Mathlib.Omega.{arith}
@@ -16,7 +16,6 @@ use Rattle.algebra.specs.Repair.{helperPlace, known, hostSum}
 use Rattle.algebra.proofs.Ring.{zero-add, mul-zero, mul-assoc}
 use Rattle.algebra.proofs.Sum.{sum-congr, sum-is-zero}
 use Rattle.algebra.proofs.Weighted.{pow-split}
-use Rattle.algebra.proofs.Layers.{layer-digit}
 use Rattle.algebra.proofs.Lagrange.{solve-congr}
 use Rattle.algebra.proofs.Erasure.{fill-same, fill-outside, check-congr, check-fill}
 use Rattle.algebra.proofs.Skip.{join-add, skip-unskip}
@@ -26,8 +25,7 @@ use Rattle.symbol.specs.Elem.{Elem, ops, gf256}
 use Rattle.symbol.proofs.Elem.{laws, neg-is}
 use Rattle.layout.specs.declared.Layout.{Layout}
 use Rattle.layout.specs.Layout.{digits, parityRacks, Admissible}
-use Rattle.layout.proofs.Facts.{bounds}
-use Rattle.codeword.specs.Codeword.{shapeOf, pointAt}
+use Rattle.codeword.specs.Codeword.{shapeOf}
 use Rattle.codeword.proofs.Usable.{usable}
 use Rattle.rule.specs.Lost.{sentSymbol}
 use Rattle.rule.proofs.Rule.{helping-from}

@@ -1,9 +1,9 @@
 -- The points of the unknowns in a block, and the columns that stand for its groups.
 -- Assumes nothing.
-use mathlib.Core.Path.{_≡_, refl, sym, ap, ap₂, _∙_, subst}
+use mathlib.Core.Path.{_≡_, sym, ap, ap₂, _∙_, subst}
 use mathlib.Core.List.{List}
 use Prim.Native.Nat.{ℕ, _+_, _-_, _*_, _/_, _%_, _<_, _≤_}
-use native.Mathlib.Nat.{zero-mul, mul-one, div-one, mod-one, mod-eq-of-lt, not-suc-le-zero, le-mul-of-pos-right, le-refl, le-trans, mul-le-mul}
+use native.Mathlib.Nat.{mul-one, div-one, mod-eq-of-lt, not-suc-le-zero, le-mul-of-pos-right, le-refl, le-trans, mul-le-mul}
 use native.Mathlib.Decide.{ℕ-discrete}
 use native.Mathlib.Omega.{arith}
 use mir.Val.{Fits}
@@ -12,7 +12,7 @@ use lib.ListN.{length, getD}
 use Rattle.algebra.specs.Field.{Ops}
 use Rattle.algebra.specs.Sum.{pow}
 use Rattle.algebra.specs.Points.{point}
-use Rattle.algebra.specs.Layers.{digit, layerOf}
+use Rattle.algebra.specs.Layers.{layerOf}
 use Rattle.algebra.specs.Group.{skip, unskip, free, groupPoint}
 use Rattle.algebra.specs.Repair.{helperPlace}
 use Rattle.algebra.proofs.Skip.{skip-other, join-low, join-high}

@@ -3,15 +3,15 @@
 use mathlib.Core.Path.{_≡_, refl, sym, ap, ap₂, _∙_, subst}
 use mathlib.Core.List.{List}
 use Prim.Native.Nat.{ℕ, _+_, _-_, _*_, _/_, _%_, _<_, _≤_}
-use native.Mathlib.Nat.{mod-lt, not-suc-le-zero, mul-one, mul-le-mul, le-refl, le-trans, add-mul, one-mul}
-use native.Mathlib.Decide.{ℕ-discrete, decLt}
+use native.Mathlib.Nat.{mod-lt, not-suc-le-zero, mul-one, mul-le-mul, le-refl, le-trans}
+use native.Mathlib.Decide.{ℕ-discrete}
 use native.Mathlib.Omega.{arith}
 use mir.Val.{Fits}
 use mir.Syntax.{w32, w64}
 use lib.ListN.{length, getD}
 use Rattle.lists.proofs.Numbers.{cell-in}
 use Rattle.algebra.specs.Field.{Ops}
-use Rattle.algebra.specs.Sum.{sum, pow}
+use Rattle.algebra.specs.Sum.{pow}
 use Rattle.algebra.specs.Lagrange.{solve}
 use Rattle.algebra.specs.Points.{point}
 use Rattle.algebra.proofs.Ring.{zero-add, mul-comm}
@@ -26,7 +26,7 @@ use Rattle.layout.specs.declared.Layout.{Layout}
 use Rattle.layout.specs.Layout.{digits, parityRacks, trayLimit, Admissible}
 use Rattle.layout.proofs.Facts.{bounds}
 use Rattle.codeword.specs.Codeword.{shapeOf}
-use Rattle.sums.specs.Inner.{unknownPoint, sideTerm, rightSide, sumAt, Chosen, Cycle, PointsTo, Workspace, FoundSums, RowTimes, Weighing, Weighed, SidesTo, SumsTo, Summing}
+use Rattle.sums.specs.Inner.{unknownPoint, rightSide, sumAt, Chosen, Cycle, PointsTo, Workspace, FoundSums, RowTimes, Weighing, Weighed, SidesTo, SumsTo, Summing}
 use Rattle.sums.proofs.Steps.{digits-under, sums-high}
 use Rattle.sums.proofs.Points.{columns-in}
 use Rattle.sums.proofs.Formula.{solved-is}

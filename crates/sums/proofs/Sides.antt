@@ -1,6 +1,6 @@
 -- The right sides of a weight: what a helper's share adds, and helper after helper.
 -- Assumes nothing.
-use mathlib.Core.Path.{_≡_, refl, sym, ap, ap₂, _∙_, subst}
+use mathlib.Core.Path.{_≡_, sym, ap, ap₂, _∙_, subst}
 use mathlib.Core.List.{List}
 use Prim.Native.Nat.{ℕ, _+_, _*_, _%_, _<_, _≤_}
 use native.Mathlib.Nat.{zero-add, add-assoc}
@@ -9,7 +9,7 @@ use mir.Val.{Fits}
 use mir.Syntax.{w32, w64}
 use lib.ListN.{length, getD}
 use Rattle.algebra.specs.Field.{Ops}
-use Rattle.algebra.specs.Sum.{sum, pow}
+use Rattle.algebra.specs.Sum.{pow}
 use Rattle.algebra.specs.Layers.{layerOf}
 use Rattle.algebra.proofs.Ring.{zero-add as nothing-add, one-mul, mul-comm, mul-assoc}
 use Rattle.algebra.proofs.Sum.{sum-zero, sum-add-one}
@@ -120,9 +120,6 @@ module _ (l : Layout) (h w first : ℕ) (helpers shares : List ℕ) (e m k : ℕ
 
   pub share-there : (n at : ℕ) → n ≡ groups l → at ≡ (k * e + m) * n + first → at + w ≤ length shares
   share-there n at en ea = rw (ea, en, g .received .shares-long) (share-in l layout-of e m k (g .received .few) (g .weight-in) helper-in first w (g .block .inside))
-
-  pub helper-number : k < length helpers
-  helper-number = rw (g .received .chosen .many) helper-in
 
   pub helper-rack : getD helpers k 0 < l .racks
   helper-rack = g .received .chosen .inside k helper-in

@@ -1,6 +1,6 @@
 -- Places in the word of a group, the points of a rack in a block of groups, and where a share stands.
 -- Assumes nothing.
-use mathlib.Core.Path.{_≡_, refl, sym, ap, ap₂, _∙_, subst}
+use mathlib.Core.Path.{_≡_, refl, sym, ap, ap₂, _∙_}
 use mathlib.Core.List.{List}
 use Prim.Native.Nat.{ℕ, suc, pred, _+_, _-_, _*_, _/_, _%_, _^_, _<_, _≤_}
 use native.Mathlib.Nat.{mul-div-cancel, mul-mod-left, mul-assoc, mul-le-mul, mul-comm, add-mul, zero-mul, div-add-mod', mod-lt, div-div-eq-div-mul, pow-suc, le-refl}
@@ -11,7 +11,7 @@ use mir.Val.{Fits}
 use mir.Syntax.{w32, w64}
 use lib.Arith.{digits-div}
 use lib.Pow.{pow-add}
-use lib.ListN.{length, getD}
+use lib.ListN.{getD}
 use Rattle.lists.proofs.Numbers.{cell-in, mul-below}
 use Rattle.algebra.specs.Field.{Ops}
 use Rattle.algebra.specs.Sum.{pow}
@@ -33,7 +33,7 @@ use Rattle.layout.proofs.Numbers.{total, digits-small}
 use Rattle.codeword.specs.Codeword.{shapeOf, pointAt}
 use Rattle.syndrome.specs.Syndrome.{Block, DigitPowers}
 use Rattle.syndrome.proofs.Digits.{digit-low}
-use Rattle.sums.specs.Inner.{helperAt, RackPowers}
+use Rattle.sums.specs.Inner.{RackPowers}
 
 -- the unknowns' places, one helper after another
 pub free-first : (h : ℕ → ℕ) (i : ℕ) → i ≡ free h 0 i

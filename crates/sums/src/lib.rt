@@ -307,7 +307,7 @@ fn times_row(sums: &mut [u8], w: usize, q: usize, found: &[u8], a: usize, f: u8)
     kernel::add_multiple(sums, q * w, w, found, a * w, f);
 }
 
-// The host's sums of weight m, by what was found.
+// The host's sums of weight m: what was found, divided by the m-th powers of the host's points.
 fn weigh_sums(sums: &mut [u8], l: Layout, h: u32, w: usize, e: u32, m: u32, found: &[u8])
     requires { ⌜ Weighing l h w e m (now found) (now sums) ⌝ }
     ensures { λ _. ⌜ Weighed l h w m (digits l) (now (found .entry)) (now (sums .entry)) (now (sums .exit)) ⌝ }

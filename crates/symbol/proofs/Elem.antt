@@ -3,7 +3,7 @@
 use mathlib.Core.Path.{_≡_, refl, sym, _∙_, ap, ap₂}
 use mathlib.Core.HLevel.{isProp→PathP}
 use mathlib.Core.Logic.{⊎-elim}
-use Prim.Native.Nat.{ℕ, zero, suc, _+_, _-_, _*_, _%_, _^_, _<_}
+use Prim.Native.Nat.{ℕ, zero, suc, _-_, _*_, _%_, _<_}
 use native.Mathlib.Nat.{mod-lt, mod-eq-of-lt, mul-comm, eq-zero-or-pos}
 use native.Mathlib.Decide.{ℕ-discrete}
 use native.Mathlib.Omega.{arith}
@@ -16,8 +16,8 @@ use Rattle.algebra.proofs.Pow.{pow-zero, pow-suc}
 use Rattle.symbol.specs.Arithmetic.{_⊕_, _⊗_, mulz, shiftAdd, power, zpow, root, order}
 use Rattle.symbol.specs.Elem.{Elem, elem, squares, ops, z, coding, gf256}
 use Rattle.symbol.proofs.Xor.{⊕-comm, ⊕-assoc, zero-⊕, ⊕-self, ⊕-lt, ⊕-mod, ⊕-eq}
-use Rattle.symbol.proofs.Laws.{⊗-comm, ⊗-assoc, ⊗-⊕, ⊗-lt, one-⊗, ⊗-one}
-use Rattle.symbol.proofs.Power.{power-zero, power-suc, power-lt, power-square, power-zpow, zpow-zero, zpow-suc, zpow-lt}
+use Rattle.symbol.proofs.Laws.{⊗-comm, ⊗-assoc, ⊗-⊕, ⊗-lt, one-⊗}
+use Rattle.symbol.proofs.Power.{power-zero, power-suc, power-lt, power-square, power-zpow, zpow-lt}
 use Rattle.symbol.proofs.Tables.{zpow-log, zpow-turns, zpow-inj, zpow-order, log, ⊗-cancel, by-log}
 
 pub elem-path : (x y : Elem) → x .val ≡ y .val → x ≡ y

@@ -1,16 +1,16 @@
 -- The laws of the field.
 -- Assumes nothing.
-use mathlib.Core.Path.{_≡_, refl, sym, ap, ap₂, _∙_, subst}
+use mathlib.Core.Path.{_≡_, refl, sym, ap, ap₂, _∙_}
 use mathlib.Core.Bool.{Bool}
-use Prim.Native.Nat.{ℕ, zero, suc, _+_, _*_, _/_, _%_, _^_, _≤_, _<_}
+use Prim.Native.Nat.{ℕ, zero, suc, _*_, _/_, _%_, _^_, _≤_, _<_}
 use native.Mathlib.Nat.{mod-lt, zero-lt-suc, zero-mul, one-mul, mul-zero, div-eq-of-lt, mod-eq-of-lt}
 use native.Mathlib.Numerals.{add-one}
 use lib.Pow.{field, mod-mod-pow}
 use native.Mathlib.Omega.{arith}
 use lib.Dec.{T, eqb, ltb, eqb→eq, ltb→lt, lit<}
 use Rattle.symbol.specs.Arithmetic.{_⊕_, polynomial, mulz, shiftAdd, _⊗_}
-use Rattle.lists.proofs.Computed.{below, all-below}
-use Rattle.symbol.proofs.Xor.{⊕-comm, ⊕-assoc, zero-⊕, ⊕-zero, ⊕-lt, ⊕-half, ⊕-shr, ⊕-mod, ⊕-bit, bit-⊕, ⊕-double, ⊕-swap}
+use Rattle.lists.proofs.Computed.{all-below}
+use Rattle.symbol.proofs.Xor.{zero-⊕, ⊕-zero, ⊕-lt, ⊕-half, ⊕-shr, ⊕-mod, ⊕-bit, bit-⊕, ⊕-double, ⊕-swap}
 
 -- ---- z times a symbol
 

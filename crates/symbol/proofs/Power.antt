@@ -1,12 +1,12 @@
 -- Powers of symbols, over every exponent.
 -- Assumes nothing.
-use mathlib.Core.Path.{_≡_, refl, sym, ap, ap₂, _∙_, subst}
+use mathlib.Core.Path.{_≡_, refl, sym, ap, _∙_}
 use Prim.Native.Nat.{ℕ, zero, suc, _+_, _*_, _/_, _%_, _<_}
-use native.Mathlib.Nat.{zero-add, suc-add, add-zero, mul-zero, mul-suc, zero-mul, suc-mul, add-comm}
+use native.Mathlib.Nat.{zero-add, suc-add, mul-zero, mul-suc, add-comm}
 use native.Mathlib.Omega.{arith}
 use lib.Dec.{lit<}
 use Rattle.symbol.specs.Arithmetic.{_⊗_, power, zpow}
-use Rattle.symbol.proofs.Laws.{⊗-lt, ⊗-one, one-⊗, ⊗-comm, ⊗-assoc}
+use Rattle.symbol.proofs.Laws.{⊗-lt, ⊗-one, one-⊗, ⊗-assoc}
 
 pub power-zero : (x : ℕ) → power x 0 ≡ 1
 unfolding power

@@ -1,14 +1,14 @@
 -- The product by shifts and masks.
 -- Assumes nothing.
-use mathlib.Core.Path.{_≡_, refl, sym, ap, ap₂, _∙_}
+use mathlib.Core.Path.{_≡_, sym, ap, _∙_}
 use mathlib.Core.Bool.{Bool}
-use Prim.Native.Nat.{ℕ, zero, suc, _+_, _*_, _/_, _%_, _^_, _≤_, _<_}
+use Prim.Native.Nat.{ℕ, zero, suc, _+_, _*_, _/_, _%_, _^_, _<_}
 use native.Mathlib.Nat.{mod-lt, zero-lt-suc, zero-mul, one-mul, div-div-eq-div-mul, mod-eq-of-lt, div-one}
 use native.Mathlib.Omega.{arith}
 use lib.Bits.{bitXor, bitAnd, and-mask, and-zero-r}
 use lib.Dec.{T, eqb, eqb→eq}
 use Rattle.symbol.specs.Arithmetic.{_⊕_, mulz, shiftAdd, _⊗_}
-use Rattle.lists.proofs.Computed.{below, all-below}
+use Rattle.lists.proofs.Computed.{all-below}
 use Rattle.symbol.proofs.Xor.{⊕-assoc, ⊕-zero}
 use Rattle.symbol.proofs.Laws.{⊗-comm}
 

@@ -1,18 +1,17 @@
 -- The powers of the root and their logarithms: the two tables of src/, their rule and their inverse relation, each proved by one test that antt computes.
 -- Assumes nothing.
 use mathlib.Core.Path.{_≡_, refl, sym, ap, ap₂, _∙_, subst}
-use mathlib.Core.Bool.{Bool, true, false}
+use mathlib.Core.Bool.{Bool, true}
 use mathlib.Core.List.{List, [], _∷_}
-use Prim.Native.Nat.{ℕ, zero, suc, _+_, _*_, _-_, _/_, _%_, _≤_, _<_}
-use mathlib.Core.Logic.{_⊎_, inl, inr}
-use native.Mathlib.Nat.{zero-add, zero-lt-suc, zero-mul, suc-mul, div-add-mod', mod-lt, add-sub-of-le, sub-add-cancel, le-of-lt, eq-zero-or-pos}
+use Prim.Native.Nat.{ℕ, zero, suc, _*_, _-_, _/_, _%_, _<_}
+use native.Mathlib.Nat.{zero-add, zero-lt-suc, zero-mul, suc-mul, div-add-mod', mod-lt, add-sub-of-le, le-of-lt}
 use native.Mathlib.Omega.{arith}
 use lib.Dec.{T, eqb, ltb, eqb→eq, ltb→lt, lit<}
 use lib.ListN.{length, getD}
 use Rattle.symbol.specs.Arithmetic.{_⊕_, root, mulz, shiftAdd, _⊗_, zpow}
 use Rattle.lists.proofs.Computed.{both, both-left, both-right, every, chain, at, run}
 use Rattle.symbol.proofs.Power.{zpow-zero, zpow-suc, zpow-lt, zpow-add}
-use Rattle.symbol.proofs.Laws.{⊗-one, one-⊗, ⊗-comm, ⊗-assoc, ⊗-zero}
+use Rattle.symbol.proofs.Laws.{one-⊗, ⊗-comm, ⊗-assoc}
 
 unfoldable pub powers : List ℕ
 powers =
@@ -147,19 +146,9 @@ zpow-pos i = subst (λ (x : ℕ). 0 < x) (powers-rule (i % 255) l ∙ zpow-mod i
 
 -- ---- what the tables say of the product
 
-pub ⊗-logs : {a b : ℕ} → 0 < a → a < 256 → 0 < b → b < 256 → a ⊗ b ≡ zpow (log a + log b)
-⊗-logs {a} {b} pa ha pb hb = ap₂ _⊗_ (sym (zpow-log pa ha)) (sym (zpow-log pb hb)) ∙ sym (zpow-add (log a) (log b))
-
-pub ⊗-pos : {a b : ℕ} → 0 < a → a < 256 → 0 < b → b < 256 → 0 < a ⊗ b
-⊗-pos {a} {b} pa ha pb hb = subst (λ (x : ℕ). 0 < x) (sym (⊗-logs pa ha pb hb)) (zpow-pos (log a + log b))
-
 -- the inverse of a symbol that is not zero
 pub inv : ℕ → ℕ
 inv x = zpow (255 - log x)
-
-pub inv-lt : (x : ℕ) → inv x < 256
-unfolding inv
-inv-lt x = zpow-lt (255 - log x)
 
 pub ⊗-inv : {x : ℕ} → 0 < x → x < 256 → x ⊗ inv x ≡ 1
 unfolding inv
@@ -174,14 +163,6 @@ pub ⊗-cancel : {a b c : ℕ} → 0 < a → a < 256 → b < 256 → c < 256 →
     back : {x : ℕ} → x < 256 → inv a ⊗ (a ⊗ x) ≡ x
     back {x} l =
         sym (⊗-assoc (inv a) a x) ∙ ap (λ (y : ℕ). y ⊗ x) (⊗-comm (inv a) a ∙ ⊗-inv p h) ∙ one-⊗ l
-
--- no divisors of zero
-pub ⊗-eq-zero : {a b : ℕ} → a < 256 → b < 256 → a ⊗ b ≡ 0 → (a ≡ 0) ⊎ (b ≡ 0)
-⊗-eq-zero {a} {b} ha hb e = pick (eq-zero-or-pos a)
-  where
-    pick : (a ≡ 0) ⊎ (0 < a) → (a ≡ 0) ⊎ (b ≡ 0)
-    pick (inl z) = inl z
-    pick (inr p) = inr (⊗-cancel p ha hb (lit< tt) (e ∙ sym (⊗-zero a)))
 
 -- ---- what the code does with the tables
 

@@ -1,8 +1,8 @@
 -- The digits of the layers of a block, and what a tray's points hang on.
 -- Assumes nothing.
-use mathlib.Core.Path.{_≡_, refl, sym, ap, ap₂, _∙_, subst}
+use mathlib.Core.Path.{_≡_, sym, ap, ap₂, _∙_, subst}
 use Prim.Native.Nat.{ℕ, suc, _+_, _-_, _*_, _/_, _%_, _^_, _<_, _≤_, min}
-use native.Mathlib.Nat.{mul-comm, mul-assoc, mul-one, pow-zero, pow-suc, pow-le-pow-right, div-div-eq-div-mul, mul-div-cancel, zero-div, zero-mod, mul-pos, min-eq-left, add-mul-div-left, add-mul-mod-self-left, div-lt-iff-lt-mul, div-mul-le-self, div-add-mod', mod-lt, le-mul-of-pos-right}
+use native.Mathlib.Nat.{mul-comm, mul-assoc, mul-one, pow-zero, pow-suc, pow-le-pow-right, div-div-eq-div-mul, mul-div-cancel, zero-div, zero-mod, mul-pos, min-eq-left, add-mul-div-left, add-mul-mod-self-left, le-mul-of-pos-right}
 use native.Mathlib.Numerals.{add-one}
 use native.Mathlib.Decide.{decLe}
 use native.Mathlib.Omega.{arith}
@@ -21,8 +21,8 @@ use Rattle.algebra.proofs.Layers.{power-pos}
 use Rattle.symbol.specs.Elem.{Elem, ops, z, gf256}
 use Rattle.symbol.proofs.Elem.{laws}
 use Rattle.layout.specs.declared.Layout.{Layout}
-use Rattle.layout.specs.Layout.{trays, checks, digits, layers, trayLimit, layerLimit, Admissible}
-use Rattle.layout.proofs.Facts.{bounds, rack-in, power-in}
+use Rattle.layout.specs.Layout.{checks, digits, trayLimit, layerLimit, Admissible}
+use Rattle.layout.proofs.Facts.{bounds, power-in}
 use Rattle.layout.proofs.Numbers.{digits-small}
 use Rattle.codeword.specs.Codeword.{pointAt}
 use Rattle.syndrome.specs.Syndrome.{blockLimit, roomLimit, Block}

@@ -1,9 +1,9 @@
 -- The points of a tray in the layers of a block: stairs, repeated, or one point.
 -- Assumes nothing.
-use mathlib.Core.Path.{_≡_, refl, sym, ap, ap₂, _∙_, subst}
+use mathlib.Core.Path.{_≡_, sym, ap, ap₂, _∙_, subst}
 use mathlib.Core.List.{List}
 use Prim.Native.Nat.{ℕ, _+_, _-_, _*_, _/_, _%_, _^_, _<_, _≤_}
-use native.Mathlib.Nat.{zero-add, zero-mul, one-mul, add-mul, mod-lt, mod-eq-of-lt, mul-comm, mul-pos, mul-le-mul-right, add-mul-mod-self-left, pow-suc}
+use native.Mathlib.Nat.{zero-add, zero-mul, mod-lt, mul-pos}
 use native.Mathlib.Numerals.{add-one}
 use native.Mathlib.Omega.{arith}
 use mir.Val.{Fits}

@@ -1,6 +1,6 @@
 -- The sums of the checks over the trays that are not listed.
 -- Assumes nothing.
-use mathlib.Core.Path.{_≡_, refl, sym, ap, ap₂, _∙_, subst}
+use mathlib.Core.Path.{_≡_, sym, ap, ap₂, _∙_, subst}
 use mathlib.Core.Bool.{true, false, false≢true}
 use mathlib.Core.List.{List}
 use Prim.Native.Nat.{ℕ, _+_, _*_, _<_, _≤_}
@@ -10,10 +10,9 @@ use mir.Val.{Fits}
 use mir.Syntax.{w64}
 use lib.ListN.{length, getD}
 use Rattle.lists.specs.Lists.{absent}
-use Rattle.lists.proofs.Numbers.{mul-below}
 use Rattle.lists.proofs.Numbered.{absent-all, absent-true}
 use Rattle.algebra.specs.Field.{Ops}
-use Rattle.algebra.specs.Sum.{sum, pow}
+use Rattle.algebra.specs.Sum.{pow}
 use Rattle.algebra.proofs.Ring.{add-zero, mul-zero}
 use Rattle.algebra.proofs.Pow.{pow-zero}
 use Rattle.algebra.proofs.Sum.{sum-zero, sum-add-one}
@@ -23,7 +22,7 @@ use Rattle.symbol.proofs.Elem.{laws, elem-zero}
 use Rattle.kernel.specs.Runs.{cell, Run, filled, copied}
 use Rattle.kernel.proofs.Rows.{row-before, cell-is}
 use Rattle.layout.specs.declared.Layout.{Layout}
-use Rattle.layout.specs.Layout.{trays, layers, trayLimit, layerLimit, Admissible}
+use Rattle.layout.specs.Layout.{trays, layers, Admissible}
 use Rattle.codeword.specs.Codeword.{symbolAt, pointAt}
 use Rattle.syndrome.specs.Syndrome.{Block, entryOf, Listed, survivorAt, Room, TrayPoints, Terms, TrayTerms, KeptTerms, Sums}
 

@@ -3,7 +3,7 @@
 use mathlib.Core.Path.{_≡_, refl, sym, ap, ap₂, _∙_, subst}
 use mathlib.Core.List.{List}
 use Prim.Native.Nat.{ℕ, zero, suc, _+_, _*_, _<_, _≤_}
-use native.Mathlib.Nat.{zero-add, not-suc-le-zero}
+use native.Mathlib.Nat.{zero-add}
 use native.Mathlib.Decide.{ℕ-discrete}
 use native.Mathlib.Omega.{arith}
 use mir.Val.{Fits}
@@ -12,12 +12,12 @@ use lib.ListN.{length, getD}
 use Rattle.algebra.specs.Field.{Ops, Laws}
 use Rattle.algebra.specs.Sum.{pow}
 use Rattle.algebra.proofs.Pow.{pow-zero, pow-one, pow-add-one}
-use Rattle.algebra.proofs.Ring.{ring, one-mul, mul-comm, mul-assoc}
-use Rattle.symbol.specs.Arithmetic.{_⊕_, _⊗_}
+use Rattle.algebra.proofs.Ring.{one-mul, mul-comm, mul-assoc}
+use Rattle.symbol.specs.Arithmetic.{_⊗_}
 use Rattle.symbol.specs.Elem.{Elem, elem, ops}
 use Rattle.symbol.proofs.Elem.{laws, elem-⊕, elem-⊗}
 use Rattle.kernel.specs.Runs.{cell, Run, added, accrued, stepped}
-use Rattle.kernel.proofs.Rows.{row-before, row-in, cell-is, cell-other, row-zero, zero-cell}
+use Rattle.kernel.proofs.Rows.{row-in, cell-other, row-zero, zero-cell}
 use Rattle.syndrome.specs.Syndrome.{Room, term, Terms, Later, Adding}
 
 pub adding-none : (w : ℕ) (row cur was : List ℕ) → Adding w row cur was was cur 1

@@ -1,5 +1,5 @@
-// Checks of a block of layers at a time: the points of a tray in consecutive layers, and the sums of the checks over the trays that are not listed. A row of
-// the sums has a check, and a column a layer of the block. A block is a power of the digits' base, so that within it the digit of a low rack repeats and that
+// Checks of a block of layers at a time: the points of a tray in consecutive layers, or of a rack in consecutive groups, and the sums of the checks over the
+// trays that are not listed. A row of the sums has a check, and a column a layer of the block. A block is a power of the digits' base, so that within it the digit of a low rack repeats and that
 // of a high rack stays.
 use layout::Layout;
 use layout::power::capped_power;
@@ -7,11 +7,9 @@ use symbol::Symbol;
 use symbol::ladder::product;
 ghost use mathlib.Core.Path.{_≡_};
 ghost use Prim.Native.Nat.{ℕ, _+_, _*_, _/_, _^_, _<_, _≤_};
-ghost use lib.ListN.{length, getD};
-ghost use Rattle.symbol.specs.Elem.{elem, gf256};
+ghost use lib.ListN.{length};
 ghost use Rattle.kernel.specs.Runs.{Run};
 ghost use Rattle.layout.specs.Layout.{trays, checks, digits, layers, Admissible};
-ghost use Rattle.codeword.specs.Codeword.{symbolAt, pointAt};
 ghost use Rattle.syndrome.specs.Syndrome.{blockLimit, roomLimit, Block, Listed, Room, stair, DigitPowers, TrayPoints, Terms, Later, TrayTerms, KeptTerms, Sums};
 
 // The most layers of a block.
@@ -20,7 +18,7 @@ pub const BLOCK: usize = 256;
 // The symbols of a room: so many rows of a block, one for each check.
 pub const ROOM: usize = 1536;
 
-// How many digits run through a block: as many as the limits of a block, of a room and of a layer allow.
+// How many digits run through a block: as many as the limits of a block and of a room allow.
 pub fn block_digits(l: Layout) -> u32
     requires { ⌜ Admissible l ⌝ }
     ensures { λ e. ⌜ (e ≤ l .racks) × (digits l ^ e ≤ blockLimit) × (checks l * digits l ^ e ≤ roomLimit) ⌝ }

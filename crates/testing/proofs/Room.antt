@@ -3,13 +3,13 @@
 use mathlib.Core.Path.{_≡_, refl}
 use mathlib.Core.List.{List}
 use Prim.Native.Nat.{ℕ, _+_, _*_, _/_, _^_, _<_, _≤_}
-use native.Mathlib.Nat.{mul-le-mul, div-le-self}
+use native.Mathlib.Nat.{div-le-self}
 use native.Mathlib.Omega.{arith}
 use mir.Val.{Fits}
 use mir.Syntax.{w32, w64}
 use lib.ListN.{length}
 use Rattle.layout.specs.declared.Layout.{Layout}
-use Rattle.layout.specs.Layout.{checks, digits, layers, trayLimit, Admissible}
+use Rattle.layout.specs.Layout.{checks, digits, layers, Admissible}
 use Rattle.codeword.specs.Inner.{Scannable}
 use Rattle.syndrome.specs.Syndrome.{blockLimit, roomLimit, Block, Room}
 use Rattle.testing.specs.Inner.{FirstBroken}

@@ -19,8 +19,8 @@ use ordinary::Ordinary;
 use std::process::ExitCode;
 use version::{Library, Version};
 
-/// The layouts that are timed: the one with the most layers, the usual one, one with three digits,
-/// and one with racks of five.
+/// The layouts that are timed: the one that W9 names, the usual one, one with three digits, and one
+/// with racks of five.
 const LAYOUTS: [Layout; 4] = [
     Layout::new(10, 3, 24, 9),
     Layout::new(4, 3, 8, 3),

@@ -2,8 +2,8 @@
 //!
 //! What makes each call sound is the same. A slice goes over as its pointer and its length, and the
 //! loan lasts as long as the call: the library is proved to stay inside the lengths it is given and
-//! keeps no pointer. What it writes is lent `&mut`, so no two buffers of a call overlap. Structs
-//! and kinds have the layout of the header `c/gesarumbo.h`.
+//! keeps no pointer. What it writes is lent `&mut`, so a buffer that is written overlaps no other
+//! one of the call. Structs and kinds have the layout of the header `c/gesarumbo.h`.
 
 use crate::{Layer, Layout, Rack, ScrubRecord, Tray};
 

@@ -2,7 +2,8 @@
 
 use std::fmt;
 
-/// The four numbers of a cabinet, any 32-bit values; each call says whether they are admissible.
+/// The four numbers of a cabinet, any 32-bit values; each call says whether they are admissible:
+/// as the fields say, and with at most 4,096 layers, which are s^B for s = d − k/u (whole) + 1.
 ///
 /// ```
 /// use gesarumbo::{measure, Layout, Refusal};

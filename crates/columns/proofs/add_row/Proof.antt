@@ -1,5 +1,4 @@
 use Prim.Native.Nat.{_-_}
-use native.Mathlib.Omega.{arith}
 use Rattle.columns.proofs.Rows.{row-wide, period-room, period-fits, turns-room, count-fits, width-fits, wide-room}
 use borrow.Author.Needs.{needs}
 use Rattle.columns.proofs.add_row.Statement.{statement}

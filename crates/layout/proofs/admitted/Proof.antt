@@ -2,7 +2,7 @@ use borrow.Author.Needs.{needs}
 use mathlib.Core.Path.{_≡_, sym, _∙_}
 use native.Mathlib.Omega.{arith}
 use borrow.Author.Tests.{not-true, not-false}
-use mathlib.Core.Bool.{true, false, false≢true}
+use mathlib.Core.Bool.{true, false≢true}
 use Prim.Native.Nat.{_≤_}
 use Rattle.layout.specs.Layout.{trayLimit, sizeAllowed}
 use Rattle.lists.proofs.Numbers.{mul-below}

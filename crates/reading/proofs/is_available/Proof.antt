@@ -1,5 +1,4 @@
 use native.Mathlib.Omega.{arith}
-use borrow.Author.Needs.{needs}
 use Rattle.reading.proofs.Ranges.{asked, done-high, from-store, from-spare}
 use Rattle.reading.proofs.is_available.Statement.{statement}
 use Rattle.reading.proofs.is_available.Tie as tie

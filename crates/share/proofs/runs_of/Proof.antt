@@ -1,4 +1,3 @@
-use native.Mathlib.Omega.{arith}
 use borrow.Author.Needs.{needs}
 use Rattle.share.proofs.Sums.{runs-are}
 use Rattle.share.proofs.runs_of.Statement.{statement}

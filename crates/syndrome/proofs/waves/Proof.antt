@@ -1,5 +1,4 @@
 use Prim.Native.Nat.{_-_}
-use native.Mathlib.Omega.{arith}
 use Rattle.syndrome.proofs.Points.{wave-powers, wave-room, wave-count, wave-some, wave-fits, wave-run, wave-period}
 use borrow.Author.Needs.{needs}
 use Rattle.syndrome.proofs.waves.Statement.{statement}

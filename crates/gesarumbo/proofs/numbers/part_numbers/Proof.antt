@@ -1,5 +1,4 @@
 use borrow.Author.Tests.{eq-eqb, ne-eqb}
-use borrow.Author.Needs.{needs}
 use Rattle.gesarumbo.proofs.numbers.part_numbers.Statement.{statement}
 use Rattle.gesarumbo.proofs.numbers.part_numbers.Tie as tie
 

@@ -1,4 +1,4 @@
-use mathlib.Core.Path.{_≡_, _∙_, ap, sym}
+use mathlib.Core.Path.{ap, sym}
 use borrow.Author.Needs.{needs}
 use Rattle.gesarumbo.specs.declared.numbers.TestNumbers.{TestNumbers}
 use Rattle.gesarumbo.specs.Boundary.{testNumbers}
