@@ -1,11 +1,8 @@
 -- Points of the field of 256 as the code works them out.
 -- Assumes nothing.
-use mathlib.Core.Path.{_≡_, refl, sym, ap, ap₂, _∙_}
-use mathlib.Core.List.{List}
+use mathlib.Core.Path.{_≡_, refl, sym, ap, _∙_}
 use Prim.Native.Nat.{ℕ, _+_, _*_, _/_, _%_, _<_}
 use native.Mathlib.Nat.{mod-lt}
-use lib.ListN.{getD}
-use Rattle.algebra.specs.Field.{Ops}
 use Rattle.algebra.specs.Sum.{pow}
 use Rattle.algebra.specs.Points.{trayPoint, point, place}
 use Rattle.algebra.specs.Layers.{digit}
@@ -13,13 +10,13 @@ use Rattle.algebra.specs.Cabinet.{layerPoint}
 use Rattle.algebra.proofs.Pow.{pow-mul}
 use Rattle.algebra.proofs.Points.{exponent}
 use Rattle.algebra.proofs.Layers.{digit-below}
-use Rattle.symbol.specs.Arithmetic.{zpow, _⊗_}
+use Rattle.symbol.specs.Arithmetic.{zpow}
 use Rattle.symbol.specs.Elem.{elem, ops, z, gf256}
-use Rattle.symbol.proofs.Elem.{laws, elem-zpow, elem-⊗}
+use Rattle.symbol.proofs.Elem.{laws, elem-zpow}
 use Rattle.layout.specs.declared.Layout.{Layout}
-use Rattle.layout.specs.Layout.{trays, digits, layers, Admissible}
+use Rattle.layout.specs.Layout.{trays, digits, Admissible}
 use Rattle.layout.proofs.Facts.{bounds, rack-in}
-use Rattle.codeword.specs.Codeword.{shapeOf, symbolAt, pointAt}
+use Rattle.codeword.specs.Codeword.{shapeOf, pointAt}
 use Rattle.codeword.specs.Inner.{exponentAt}
 use Rattle.codeword.proofs.Usable.{usable}
 
@@ -36,14 +33,6 @@ pub place-power-is : (l : Layout) (g m : ℕ) → elem (zpow (255 / l .size * g 
 unfolding place
 place-power-is l g m =
     elem-zpow (255 / l .size * g * m) ∙ pow-mul ops laws z (255 / l .size * g) m ∙ ap (λ y. pow ops y m) (pow-mul ops laws z (255 / l .size) g)
-
--- a tray's part in a check
-pub term-is : (l : Layout) (c : List ℕ) (total x j t p at r : ℕ) → elem p ≡ pow ops (pointAt gf256 l j x) t → at ≡ x * total + j → total ≡ layers l → r ≡ p ⊗ getD c at 0 →
-    elem r ≡ ops .mul (pow ops (pointAt gf256 l j x) t) (symbolAt gf256 l c x j)
-unfolding symbolAt
-term-is l c total x j t p at r ep ea et er =
-    ap elem er ∙ elem-⊗ p (getD c at 0)
-    ∙ ap₂ (ops .mul) ep (ap (λ i. elem (getD c i 0)) (ea ∙ ap (λ n. x * n + j) et))
 
 module _ (l : Layout) (a : Admissible l) where
   -- exponents are below the root's order

@@ -24,14 +24,6 @@ pub record Scannable (l : Layout) (total : ℕ) (c : List ℕ) : Type 0 where
   pub total-is : total ≡ layers l
   pub long : length c ≡ trays l * layers l
 
--- the same with a layer and a check
-pub record Placed (l : Layout) (total : ℕ) (c : List ℕ) (j t : ℕ) : Type 0 where
-  pub adm : Admissible l
-  pub total-is : total ≡ layers l
-  pub long : length c ≡ trays l * layers l
-  pub layer-in : j < layers l
-  pub check-in : t < checks l
-
 -- what a test past its refusals finds
 abbrev pub Scanned : {A : Type 0} → Field A → Layout → List ℕ → Tested → Type 0
 Scanned f l c Sound = (j : ℕ) → j < layers l → (t : ℕ) → t < checks l → checkAt f l c j t ≡ f .ops .zero

@@ -1,16 +1,15 @@
-// Codewords of document 01 in a buffer: the points, a check's sum, and what a test answers (crate testing).
+// Codewords of document 01 in a buffer: the points, where a symbol stands, and what a test answers (crate testing).
 use layout::Layer;
 use layout::Layout;
 use symbol::Symbol;
 ghost use mathlib.Core.Path.{_≡_};
 ghost use Prim.Native.Nat.{_+_, _*_, _<_, _≤_};
-ghost use Rattle.algebra.specs.Field.{Ops};
 ghost use Rattle.algebra.specs.Sum.{pow};
 ghost use Rattle.algebra.specs.Points.{place};
 ghost use Rattle.symbol.specs.Elem.{elem, ops, gf256};
 ghost use Rattle.layout.specs.Layout.{trays, trayLimit, layerLimit, Admissible};
-ghost use Rattle.codeword.specs.Codeword.{shapeOf, pointAt, symbolAt, checkAt};
-ghost use Rattle.codeword.specs.Inner.{exponentAt, Placed};
+ghost use Rattle.codeword.specs.Codeword.{shapeOf, pointAt};
+ghost use Rattle.codeword.specs.Inner.{exponentAt};
 
 // What a test of a codeword answers.
 pub enum Tested {
@@ -56,28 +55,4 @@ pub fn cell(total: u32, x: u32, j: u32) -> usize
     ensures { λ r. ⌜ r ≡ x * total + j ⌝ }
 {
     x as usize * total as usize + j as usize
-}
-
-// Tray x's part in check t of layer j.
-fn check_term(l: Layout, total: u32, c: &[u8], x: u32, j: u32, t: u32) -> Symbol
-    requires { ⌜ Placed l total (now c) j t × (x < trays l) ⌝ }
-    ensures { λ r. ⌜ elem (r .0) ≡ ops .mul (pow ops (pointAt gf256 l j x) t) (symbolAt gf256 l (now (c .entry)) x j) ⌝ }
-{
-    let at = cell(total, x, j);
-    point_power(l, x, j, t).mul(Symbol(c[at]))
-}
-
-// The sum of check t in layer j.
-pub fn check_sum(l: Layout, total: u32, c: &[u8], j: u32, t: u32) -> Symbol
-    requires { ⌜ Placed l total (now c) j t ⌝ }
-    ensures { λ r. ⌜ elem (r .0) ≡ checkAt gf256 l (now (c .entry)) j t ⌝ }
-{
-    let n = layout::tray_count(l);
-    let mut sum = Symbol(0);
-    let mut x = 0u32;
-    while x < n {
-        sum = sum.add(check_term(l, total, c, x, j, t));
-        x += 1;
-    }
-    sum
 }

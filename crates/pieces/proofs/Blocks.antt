@@ -1,27 +1,24 @@
 -- The blocks of a piece, and what a block is told.
 -- Assumes nothing.
-use mathlib.Core.Path.{_≡_, sym, ap, _∙_, subst}
+use mathlib.Core.Path.{_≡_, sym}
 use mathlib.Core.List.{List}
-use Prim.Native.Nat.{ℕ, suc, _+_, _-_, _*_, _/_, _%_, _^_, _<_, _≤_}
-use native.Mathlib.Nat.{div-add-mod', mod-one, mul-one, mul-le-mul-right, le-refl, le-trans, pow-zero, pow-suc, mul-pos, le-mul-of-pos-right}
+use Prim.Native.Nat.{ℕ, _+_, _*_, _/_, _%_, _<_, _≤_}
+use native.Mathlib.Nat.{div-le-self, mul-le-mul-right, le-refl, le-trans, le-mul-of-pos-right}
 use native.Mathlib.Omega.{arith}
 use mir.Val.{Fits}
-use mir.Syntax.{w32, w64}
+use mir.Syntax.{w32}
 use lib.ListN.{length}
-use Rattle.lists.proofs.Numbers.{mul-below}
-use Rattle.algebra.proofs.Layers.{power-pos}
 use Rattle.kernel.specs.Runs.{Inverses}
 use Rattle.layout.specs.declared.Layout.{Layout}
 use Rattle.layout.specs.Layout.{digits, layers, groups, parityRacks, trayLimit, Admissible}
-use Rattle.layout.proofs.Facts.{bounds, rack-in, power-in}
-use Rattle.layout.proofs.Numbers.{digits-small, groups-are}
-use Rattle.syndrome.specs.Syndrome.{blockLimit, roomLimit}
+use Rattle.layout.proofs.Facts.{bounds, rack-in}
+use Rattle.syndrome.specs.Syndrome.{blockLimit, roomLimit, Block, Allowed}
 use Rattle.syndrome.proofs.Room.{roomOf, rowOf, room-long, row-long}
 use Rattle.rule.specs.Lost.{firstLost, Losses}
 use Rattle.sums.specs.Inner.{Received, Groups, Summing}
 use Rattle.sums.proofs.Steps.{unknowns-high, sums-high}
 use Rattle.group.specs.Inner.{Losing, Mending, Workspace}
-use Rattle.pieces.specs.Inner.{Allowed, Rows, Fitting, Piecing, Rooms}
+use Rattle.pieces.specs.Inner.{Rows, Fitting, Piecing, Rooms}
 
 -- ---- the rows of a block
 module _ (l : Layout) (adm : Admissible l) (e s r : ℕ) (few : e + l .dimension % l .size ≤ l .size) (es : s ≡ digits l) (er : r ≡ parityRacks l) where
@@ -44,58 +41,12 @@ fitting-of l e rows p left w r a = record {
   sums = le-trans (mul-le-mul-right w (r .sums)) (a .fits);
 }
 
--- ---- the largest block
-pub allowed-of : (p left rows w : ℕ) → w ≤ left → w ≤ blockLimit → rows * w ≤ roomLimit → p % w ≡ 0 → Allowed p left rows w
-allowed-of p left rows w a b c d = record { within = a; small = b; fits = c; aligned = d }
+-- ---- the groups of a block
+pub groups-under : (l : Layout) → groups l ≤ layers l
+groups-under l = div-le-self (layers l) (digits l)
 
-pub allowed-one : (p left rows : ℕ) → 0 < left → rows ≤ trayLimit → Allowed p left rows 1
-allowed-one p left rows h k = record { within = h; small = omega arith; fits = omega (arith, mul-one rows); aligned = mod-one p }
-
-pub room-fits : (rows w : ℕ) → rows ≤ trayLimit → w ≤ blockLimit → Fits w64 (rows * w)
-room-fits rows w h k = record { fits = mul-below trayLimit blockLimit h k tt }
-
-pub one-rack : (l : Layout) → Admissible l → 1 ≤ l .racks
-one-rack l a = omega (arith, a .racks-low)
-
-pub width-one : (s : ℕ) → 1 ≡ s ^ (1 - 1)
-width-one s = sym (pow-zero s)
-
--- one digit more
-pub width-more : (n w s : ℕ) → 0 < n → w ≡ s ^ (n - 1) → w * s ≡ s ^ (n + 1 - 1)
-width-more n w s h e = ap (λ y. y * s) e ∙ sym (pow-suc s (n - 1)) ∙ (let q : suc (n - 1) ≡ n + 1 - 1 = omega arith in ap (λ k. s ^ k) q)
-
-module _ (l : Layout) (adm : Admissible l) where
-  pub width-low : (n w s : ℕ) → s ≡ digits l → w ≡ s ^ (n - 1) → 0 < w
-  width-low n w s es e = rw e (power-pos s (n - 1) (rw es (bounds l adm .digits-low)))
-
-  pub next-low : (n w s : ℕ) → s ≡ digits l → w ≡ s ^ (n - 1) → 0 < w * s
-  next-low n w s es e = mul-pos (width-low n w s es e) (rw es (bounds l adm .digits-low))
-
-  pub next-fits : (p left rows w s : ℕ) → s ≡ digits l → Allowed p left rows w → Fits w32 (w * s)
-  next-fits p left rows w s es a = let d = digits-small l adm in record { fits = mul-below blockLimit 4 (a .small) (omega arith) tt }
-
-  pub groups-of : (p left rows n w s : ℕ) → p + left ≤ groups l → 0 < n → n ≤ l .racks → s ≡ digits l → w ≡ s ^ (n - 1) → Allowed p left rows w → Groups l w p
-  groups-of p left rows n w s h n0 n1 es ew a =
-      let g : groups l ≤ layers l = under in
-      record {
-        block = record {
-          adm = adm;
-          power = n - 1;
-          power-in = omega arith;
-          width = ew ∙ ap (λ y. y ^ (n - 1)) es;
-          number = p / w;
-          first-is = sym (div-add-mod' p w) ∙ (let z = a .aligned in omega arith);
-          inside = let t = a .within in omega arith;
-        };
-        inside = let t = a .within in omega arith;
-      }
-    where
-      under : groups l ≤ layers l
-      under =
-          let s = bounds l adm .digits-low in
-          let more : digits l ^ (l .racks - 1) ≤ digits l ^ (l .racks - 1) * digits l = le-mul-of-pos-right (digits l ^ (l .racks - 1)) s in
-          let e : suc (l .racks - 1) ≡ l .racks = omega (arith, adm .racks-low) in
-          rw (groups-are l adm) (subst (λ n. digits l ^ (l .racks - 1) ≤ n) (sym (pow-suc (digits l) (l .racks - 1)) ∙ ap (λ k. digits l ^ k) e) more)
+pub groups-of : (l : Layout) (p left rows w : ℕ) → p + left ≤ groups l → Block l w p → Allowed p left rows w → Groups l w p
+groups-of l p left rows w h b a = record { block = b; inside = let t = a .within in omega arith }
 
 -- ---- what a block is told
 module _ (l : Layout) (lost helpers shares host : List ℕ) (w first : ℕ) (spare sums sides found points coefs row cur : List ℕ)

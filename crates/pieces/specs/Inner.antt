@@ -2,19 +2,12 @@
 -- Assumes nothing.
 use mathlib.Core.Path.{_≡_}
 use mathlib.Core.List.{List}
-use Prim.Native.Nat.{ℕ, _+_, _*_, _%_, _≤_}
+use Prim.Native.Nat.{ℕ, _+_, _*_, _≤_}
 use lib.ListN.{length}
 use Rattle.layout.specs.declared.Layout.{Layout}
 use Rattle.layout.specs.Layout.{digits, layers, groups, parityRacks, trayLimit, Admissible}
 use Rattle.syndrome.specs.Syndrome.{blockLimit, roomLimit}
 use Rattle.rule.specs.Lost.{Losses}
-
--- w groups may be a block from group p on, where so many are left and so many rows of a block are needed
-pub record Allowed (p left rows w : ℕ) : Type 0 where
-  pub within : w ≤ left
-  pub small : w ≤ blockLimit
-  pub fits : rows * w ≤ roomLimit
-  pub aligned : p % w ≡ 0
 
 -- rows enough for the R unknowns of a group and for its host sums, with e lost trays
 pub record Rows (l : Layout) (e rows : ℕ) : Type 0 where

@@ -2,16 +2,14 @@
 // go through it in runs (crates sums and group). Promises that the layers of these groups in the spare are as the rule fixes them, and every other byte as it
 // was.
 use layout::Layout;
-ghost use mathlib.Core.Path.{_≡_};
-ghost use mathlib.Core.Bool.{true};
-ghost use Prim.Native.Nat.{_+_, _%_, _<_, _≤_};
+ghost use Prim.Native.Nat.{_+_, _%_, _≤_};
 ghost use lib.ListN.{length};
 ghost use Rattle.symbol.specs.Elem.{gf256};
 ghost use Rattle.kernel.specs.Runs.{Inverses};
-ghost use Rattle.layout.specs.Layout.{groups, trayLimit, Admissible};
+ghost use Rattle.layout.specs.Layout.{Admissible};
 ghost use Rattle.rule.specs.Lost.{Piece};
 ghost use Rattle.sums.specs.Inner.{Groups};
-ghost use Rattle.pieces.specs.Inner.{Allowed, Rows, Fitting, Piecing, Rooms};
+ghost use Rattle.pieces.specs.Inner.{Rows, Fitting, Piecing, Rooms};
 
 // The rows that a block needs: for the unknowns of its groups, and for their host sums.
 fn row_count(l: Layout, e: u32) -> u32
@@ -24,43 +22,6 @@ fn row_count(l: Layout, e: u32) -> u32
         return host_sums;
     }
     unknowns
-}
-
-// Whether w groups may be a block from group p on, where so many are left.
-fn allowed(p: u32, left: u32, rows: u32, w: u32) -> bool
-    requires { ⌜ (0 < w) × (rows ≤ trayLimit) ⌝ }
-    ensures { λ r. ⌜ (r ≡ true → Allowed p left rows w) ⌝ }
-{
-    if left < w {
-        return false;
-    }
-    if syndrome::BLOCK < w as usize {
-        return false;
-    }
-    if syndrome::ROOM < rows as usize * w as usize {
-        return false;
-    }
-    p % w == 0
-}
-
-// The groups of the largest block from group p on, where so many are left.
-fn block_at(l: Layout, p: u32, left: u32, rows: u32) -> u32
-    requires { ⌜ Admissible l × (0 < left) × (p + left ≤ groups l) × (rows ≤ trayLimit) ⌝ }
-    ensures { λ w. ⌜ Groups l w p × Allowed p left rows w × (0 < w) ⌝ }
-{
-    let s = layout::digit_count(l);
-    let b = l.racks;
-    let mut w = 1u32;
-    let mut n = 1u32;
-    while n < b {
-        let next = w * s;
-        if !allowed(p, left, rows, next) {
-            return w;
-        }
-        w = next;
-        n += 1;
-    }
-    w
 }
 
 // Repairs a block of groups.
@@ -148,7 +109,7 @@ fn mend_blocks(
     let rows = row_count(l, lost.len() as u32);
     let mut k = 0u32;
     while k < count {
-        let w = block_at(l, first + k, count - k, rows);
+        let w = syndrome::block_at(l, first + k, count - k, rows);
         mend_block(
             l,
             lost,

@@ -2,17 +2,15 @@
 -- Assumes nothing.
 use mathlib.Core.Path.{_≡_, refl, sym, ap, _∙_}
 use mathlib.Core.Bool.{Bool, true, false, cond, _&&_}
-use mathlib.Core.List.{List}
-use Prim.Native.Nat.{ℕ, zero, suc, _+_, _-_, _<_, _≤_}
+use Prim.Native.Nat.{ℕ, zero, suc, _+_, _<_, _≤_}
 use native.Mathlib.Nat.{add-zero, zero-add, suc-add}
 use borrow.Author.Tests.{eq-eqb, ne-eqb}
 use native.Mathlib.Decide.{ℕ-discrete}
 use native.Mathlib.Omega.{arith}
 use lib.Dec.{eqb}
-use Rattle.layout.specs.declared.Layout.{Layout}
 use Rattle.scrub.specs.declared.Walk.{Walk}
 use Rattle.scrub.specs.Scrub.{badCount, leastBad, after}
-use Rattle.scrub.specs.Inner.{look, Ahead}
+use Rattle.scrub.specs.Inner.{look}
 
 -- records with the same numbers are the same
 pub same : {a a′ b b′ e e′ : ℕ} → a ≡ a′ → b ≡ b′ → e ≡ e′ →
@@ -105,43 +103,53 @@ first-look true zero j e least = refl
 first-look true (suc n) j e least = simp (ne-eqb (suc n + 1) 0 (λ z. omega arith), ne-eqb (suc n) 0 (λ z. omega arith))
 first-look false n j e least = rw (add-zero n) refl
 
-module _ (p : ℕ → Bool) (w : Walk) where
-  pub look-good : p (w .next) ≡ false → record { next = w .next + 1; bad = w .bad; first = w .first } ≡ look p w
+module _ (t : Bool) (w : Walk) where
+  pub look-good : t ≡ false → record { next = w .next + 1; bad = w .bad; first = w .first } ≡ look t w
   unfolding look
   look-good e = rw e (same refl (sym (add-zero (w .bad))) refl)
 
-  pub look-first : p (w .next) ≡ true → w .bad ≡ 0 → record { next = w .next + 1; bad = 1; first = w .next } ≡ look p w
+  pub look-first : t ≡ true → w .bad ≡ 0 → record { next = w .next + 1; bad = 1; first = w .next } ≡ look t w
   unfolding look
   look-first e z = simp (e, z)
 
-  pub look-bad : p (w .next) ≡ true → (w .bad ≡ 0 → ⊥) → record { next = w .next + 1; bad = w .bad + 1; first = w .first } ≡ look p w
+  pub look-bad : t ≡ true → (w .bad ≡ 0 → ⊥) → record { next = w .next + 1; bad = w .bad + 1; first = w .first } ≡ look t w
   unfolding look
   look-bad e d = simp (e, ne-eqb _ _ d)
 
-  -- no more layers, and one more
+  pub look-high : w .bad ≤ w .next → look t w .bad ≤ look t w .next
+  unfolding look
+  look-high h = go t
+    where
+      go : (b : Bool) → w .bad + cond b 1 0 ≤ w .next + 1
+      go true = omega arith
+      go false = omega arith
+
+  pub look-next : look t w .next ≡ w .next + 1
+  unfolding look
+  look-next = refl
+
+module _ (p : ℕ → Bool) (w : Walk) where
+  -- no more layers, one more, and so many more
   pub after-none : after p w 0 ≡ w
   unfolding after badCount leastBad
   after-none = same (add-zero (w .next)) (add-zero (w .bad)) (cond-same (eqb (w .bad) 0) (w .first))
 
-  pub after-look : (k : ℕ) → after p (look p w) k ≡ after p w (suc k)
+  pub after-look : (k : ℕ) → after p (look (p (w .next)) w) k ≡ after p w (suc k)
   unfolding after look badCount leastBad
   after-look k = same (omega arith) (omega arith) (first-look (p (w .next)) (w .bad) (w .next) (w .first) (λ e. leastBad p (w .next + 1) e k))
 
--- the same in the forms of a loop that has k layers to go: s is the record after one more
-module _ (p : ℕ → Bool) (w s : Walk) (k : ℕ) (pos : 0 < k) (is : s ≡ look p w) where
-  pub after-turn : after p s (k - 1) ≡ after p w k
-  after-turn = let e : suc (k - 1) ≡ k = omega arith in ap (λ (x : Walk). after p x (k - 1)) is ∙ after-look p w (k - 1) ∙ ap (after p w) e
+  pub after-high : (k : ℕ) → w .bad ≤ w .next → after p w k .bad ≤ after p w k .next
+  unfolding after
+  after-high k h = omega (arith, count-high p (w .next) k)
 
-  pub ahead-turn : {l : Layout} {total : ℕ} {c : List ℕ} → Ahead l total c w k → Ahead l total c s (k - 1)
-  unfolding look
-  ahead-turn a = rw is (record { scannable = a .scannable; room = omega (arith, a .room); bad-in = go (p (w .next)) })
-    where
-      go : (t : Bool) → w .bad + cond t 1 0 ≤ w .next + 1
-      go true = omega (arith, a .bad-in)
-      go false = omega (arith, a .bad-in)
+  pub after-next : (k : ℕ) → after p w k .next ≡ w .next + k
+  unfolding after
+  after-next k = refl
 
-pub ahead-one : {l : Layout} {total : ℕ} {c : List ℕ} {w : Walk} {k : ℕ} → Ahead l total c w k → 0 < k → Ahead l total c w 1
-ahead-one a h = record { scannable = a .scannable; room = omega (arith, a .room); bad-in = a .bad-in }
+pub after-on : (p : ℕ → Bool) (w : Walk) (k m : ℕ) → after p (after p w k) m ≡ after p w (k + m)
+after-on p w zero m = ap (λ (x : Walk). after p x m) (after-none p w) ∙ ap (after p w) (sym (zero-add m))
+after-on p w (suc k) m =
+    ap (λ (x : Walk). after p x m) (sym (after-look p w k)) ∙ after-on p (look (p (w .next)) w) k m ∙ after-look p w (k + m) ∙ ap (after p w) (sym (suc-add k m))
 
 pub after-end : (p : ℕ → Bool) (s : Walk) (k : ℕ) {r : Walk} → k ≤ 0 → after p s k ≡ r → s ≡ r
 after-end p s k h e = let z : 0 ≡ k = omega arith in sym (after-none p s) ∙ ap (after p s) z ∙ e

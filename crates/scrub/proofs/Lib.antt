@@ -1,4 +1,6 @@
 pub mod Layers
+pub mod Columns
+pub mod Blocks
 pub mod Answers
 pub mod Walks
 pub mod Broken

@@ -1,20 +1,26 @@
 -- What inner functions are told and give. Nothing here has to be believed.
 -- Assumes nothing.
-use mathlib.Core.Bool.{Bool, cond, _&&_}
+use mathlib.Core.Bool.{Bool, not, cond, _&&_}
 use mathlib.Core.List.{List}
-use Prim.Native.Nat.{ℕ, _+_, _≤_}
+use Prim.Native.Nat.{ℕ, _+_, _*_, _≤_}
 use lib.Dec.{eqb}
+use lib.ListN.{getD}
+use Rattle.lists.specs.Lists.{all}
 use Rattle.layout.specs.declared.Layout.{Layout}
 use Rattle.layout.specs.Layout.{layers}
 use Rattle.codeword.specs.Inner.{Scannable}
 use Rattle.scrub.specs.declared.Walk.{Walk}
 
--- the record after one more layer
-unfoldable pub look : (ℕ → Bool) → Walk → Walk
-look p w = record {
+-- whether some check is broken in column j of the sums of r checks, which have w columns
+unfoldable pub columnBad : (w r : ℕ) → List ℕ → ℕ → Bool
+columnBad w r sums j = not (all (λ t. eqb (getD sums (t * w + j) 0) 0) r)
+
+-- the record after one more layer, which is bad or not
+unfoldable pub look : Bool → Walk → Walk
+look t w = record {
   next = w .next + 1;
-  bad = w .bad + cond (p (w .next)) 1 0;
-  first = cond (p (w .next) && eqb (w .bad) 0) (w .next) (w .first);
+  bad = w .bad + cond t 1 0;
+  first = cond (t && eqb (w .bad) 0) (w .next) (w .first);
 }
 
 -- a buffer to walk over, and a record with k layers to go at least

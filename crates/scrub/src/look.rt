@@ -1,24 +1,24 @@
-// Looking at layers: which are bad, and the record after them.
+// Looking at layers, a block at a time: which are bad, and the record after them.
 use crate::Walk;
 use layout::Layout;
 ghost use mathlib.Core.Path.{_≡_};
-ghost use Prim.Native.Nat.{_<_};
+ghost use mathlib.Core.Bool.{Bool};
+ghost use Prim.Native.Nat.{ℕ, _+_, _*_, _<_, _≤_};
+ghost use lib.ListN.{length};
 ghost use Rattle.symbol.specs.Elem.{gf256};
-ghost use Rattle.layout.specs.Layout.{layers};
-ghost use Rattle.codeword.specs.Inner.{Scannable};
+ghost use Rattle.layout.specs.Layout.{trays, checks, layers, layerLimit};
+ghost use Rattle.syndrome.specs.Syndrome.{blockLimit, roomLimit, Block, Room};
 ghost use Rattle.scrub.specs.Scrub.{badLayer, after};
-ghost use Rattle.scrub.specs.Inner.{look, Ahead};
+ghost use Rattle.scrub.specs.Inner.{columnBad, look, Ahead};
 
-// Whether some check of layer j is broken.
-fn bad_layer(l: Layout, total: u32, c: &[u8], j: u32) -> bool
-    requires { ⌜ Scannable l total (now c) × (j < layers l) ⌝ }
-    ensures { λ r. ⌜ r ≡ badLayer gf256 l (now (c .entry)) j ⌝ }
+// Whether some check is broken in column j of the sums of r checks, which have w columns.
+fn bad_column(sums: &[u8], w: usize, r: usize, j: usize) -> bool
+    requires { ⌜ (r * w ≤ length (now sums)) × (j < w) ⌝ }
+    ensures { λ b. ⌜ b ≡ columnBad w r (now (sums .entry)) j ⌝ }
 {
-    let r = layout::check_count(l);
-    let mut t = 0u32;
+    let mut t = 0usize;
     while t < r {
-        let sum = codeword::check_sum(l, total, c, j, t);
-        if sum.0 != 0 {
+        if sums[t * w + j] != 0 {
             return true;
         }
         t += 1;
@@ -26,15 +26,15 @@ fn bad_layer(l: Layout, total: u32, c: &[u8], j: u32) -> bool
     false
 }
 
-// Looks at the next layer.
-fn look_at(l: Layout, total: u32, c: &[u8], walk: Walk) -> Walk
-    requires { ⌜ Ahead l total (now c) walk 1 ⌝ }
-    ensures { λ r. ⌜ r ≡ look (badLayer gf256 l (now (c .entry))) walk ⌝ }
+// The record after one more layer, which is bad or not.
+fn look_at(walk: Walk, bad: bool) -> Walk
+    requires { ⌜ (walk .next < layerLimit) × (walk .bad ≤ walk .next) ⌝ }
+    ensures { λ r. ⌜ r ≡ look bad walk ⌝ }
 {
     let j = walk.next;
     let n = walk.bad;
     let f = walk.first;
-    if !bad_layer(l, total, c, j) {
+    if !bad {
         return Walk {
             next: j + 1,
             bad: n,
@@ -55,16 +55,85 @@ fn look_at(l: Layout, total: u32, c: &[u8], walk: Walk) -> Walk
     }
 }
 
+// The record after so many layers more, by the sums of their checks.
+fn look_along(walk: Walk, w: usize, r: usize, sums: &[u8]) -> Walk
+    requires { ⌜ (r * w ≤ length (now sums)) × (walk .next + w ≤ layerLimit) × (walk .bad ≤ walk .next) ⌝ }
+    ensures { λ s. ⌜ ((p : ℕ → Bool) → ((j : ℕ) → j < w → columnBad w r (now (sums .entry)) j ≡ p (walk .next + j)) → s ≡ after p walk w) ⌝ }
+{
+    let mut seen = walk;
+    let mut j = 0usize;
+    while j < w {
+        seen = look_at(seen, bad_column(sums, w, r, j));
+        j += 1;
+    }
+    seen
+}
+
+// The same for the layers of a block. No tray is left out: `none` is an empty list.
+fn look_block(
+    l: Layout,
+    c: &[u8],
+    none: &[u32],
+    walk: Walk,
+    w: usize,
+    sums: &mut [u8],
+    cur: &mut [u8],
+    row: &mut [u8],
+) -> Walk
+    requires { ⌜ Block l w (walk .next) × (walk .bad ≤ walk .next) × (length (now c) ≡ trays l * layers l) × (length (now none) ≡ 0) × Room w (checks l) (now sums) (now cur) (now row) ⌝ }
+    ensures { λ s. ⌜ s ≡ after (badLayer gf256 l (now (c .entry))) walk w ⌝ }
+{
+    let r = layout::check_count(l) as usize;
+    let first = walk.next;
+    syndrome::sum_kept(sums, l, w, first as usize, r, c, none, cur, row);
+    look_along(walk, w, r, sums)
+}
+
+// Block after block.
+fn look_blocks(
+    l: Layout,
+    total: u32,
+    c: &[u8],
+    none: &[u32],
+    walk: Walk,
+    count: u32,
+    sums: &mut [u8],
+    cur: &mut [u8],
+    row: &mut [u8],
+) -> Walk
+    requires { ⌜ Ahead l total (now c) walk count × (length (now none) ≡ 0) × (roomLimit ≤ length (now sums)) × (blockLimit ≤ length (now cur)) × (blockLimit ≤ length (now row)) ⌝ }
+    ensures { λ s. ⌜ s ≡ after (badLayer gf256 l (now (c .entry))) walk count ⌝ }
+{
+    let r = layout::check_count(l);
+    let mut seen = walk;
+    let mut left = count;
+    while left > 0 {
+        let first = seen.next;
+        let w = syndrome::block_at(l, first, left, r);
+        seen = look_block(l, c, none, seen, w as usize, sums, cur, row);
+        left -= w;
+    }
+    seen
+}
+
 // Looks at the next so many layers.
 pub fn look_on(l: Layout, total: u32, c: &[u8], walk: Walk, count: u32) -> Walk
     requires { ⌜ Ahead l total (now c) walk count ⌝ }
     ensures { λ r. ⌜ r ≡ after (badLayer gf256 l (now (c .entry))) walk count ⌝ }
 {
-    let mut seen = walk;
-    let mut left = count;
-    while left > 0 {
-        seen = look_at(l, total, c, seen);
-        left -= 1;
-    }
-    seen
+    let none = [0u32; 0];
+    let mut sums = [0u8; syndrome::ROOM];
+    let mut cur = [0u8; syndrome::BLOCK];
+    let mut row = [0u8; syndrome::BLOCK];
+    look_blocks(
+        l,
+        total,
+        c,
+        &none,
+        walk,
+        count,
+        &mut sums,
+        &mut cur,
+        &mut row,
+    )
 }

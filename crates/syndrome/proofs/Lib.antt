@@ -4,3 +4,5 @@ pub mod Terms
 pub mod Sums
 pub mod Blocks
 pub mod Room
+pub mod Widths
+pub mod Whole

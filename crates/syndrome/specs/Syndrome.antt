@@ -2,7 +2,7 @@
 -- Assumes nothing.
 use mathlib.Core.Path.{_≡_}
 use mathlib.Core.List.{List}
-use Prim.Native.Nat.{ℕ, _+_, _*_, _/_, _^_, _<_, _≤_}
+use Prim.Native.Nat.{ℕ, _+_, _*_, _%_, _/_, _^_, _<_, _≤_}
 use lib.ListN.{length, getD}
 use Rattle.algebra.specs.Field.{Ops}
 use Rattle.algebra.specs.Sum.{sum, pow}
@@ -32,6 +32,13 @@ pub record Block (l : Layout) (w first : ℕ) : Type 0 where
   pub number : ℕ
   pub first-is : first ≡ number * w
   pub inside : first + w ≤ layers l
+
+-- w numbers may be a block from number p on, where so many are left and so many rows of a block are needed
+pub record Allowed (p left rows w : ℕ) : Type 0 where
+  pub within : w ≤ left
+  pub small : w ≤ blockLimit
+  pub fits : rows * w ≤ roomLimit
+  pub aligned : p % w ≡ 0
 
 -- the tray that entry k of a list names
 abbrev pub entryOf : List ℕ → ℕ → ℕ

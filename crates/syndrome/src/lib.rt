@@ -6,11 +6,12 @@ use layout::power::capped_power;
 use symbol::Symbol;
 use symbol::ladder::product;
 ghost use mathlib.Core.Path.{_≡_};
+ghost use mathlib.Core.Bool.{true};
 ghost use Prim.Native.Nat.{ℕ, _+_, _*_, _/_, _^_, _<_, _≤_};
 ghost use lib.ListN.{length};
 ghost use Rattle.kernel.specs.Runs.{Run};
-ghost use Rattle.layout.specs.Layout.{trays, checks, digits, layers, Admissible};
-ghost use Rattle.syndrome.specs.Syndrome.{blockLimit, roomLimit, Block, Listed, Room, stair, DigitPowers, TrayPoints, Terms, Later, TrayTerms, KeptTerms, Sums};
+ghost use Rattle.layout.specs.Layout.{trays, checks, digits, layers, trayLimit, Admissible};
+ghost use Rattle.syndrome.specs.Syndrome.{blockLimit, roomLimit, Block, Allowed, Listed, Room, stair, DigitPowers, TrayPoints, Terms, Later, TrayTerms, KeptTerms, Sums};
 
 // The most layers of a block.
 pub const BLOCK: usize = 256;
@@ -47,6 +48,43 @@ pub fn block_width(l: Layout, e: u32) -> usize
     ensures { λ w. ⌜ w ≡ digits l ^ e ⌝ }
 {
     capped_power(layout::digit_count(l), e) as usize
+}
+
+// Whether w numbers may be a block from number p on, where so many are left.
+fn allowed(p: u32, left: u32, rows: u32, w: u32) -> bool
+    requires { ⌜ (0 < w) × (rows ≤ trayLimit) ⌝ }
+    ensures { λ r. ⌜ (r ≡ true → Allowed p left rows w) ⌝ }
+{
+    if left < w {
+        return false;
+    }
+    if BLOCK < w as usize {
+        return false;
+    }
+    if ROOM < rows as usize * w as usize {
+        return false;
+    }
+    p % w == 0
+}
+
+// How many layers or groups the largest block from number p on has, where so many are left and so many rows of a block are needed.
+pub fn block_at(l: Layout, p: u32, left: u32, rows: u32) -> u32
+    requires { ⌜ Admissible l × (0 < left) × (p + left ≤ layers l) × (rows ≤ trayLimit) ⌝ }
+    ensures { λ w. ⌜ Block l w p × Allowed p left rows w × (0 < w) ⌝ }
+{
+    let s = layout::digit_count(l);
+    let b = l.racks;
+    let mut w = 1u32;
+    let mut n = 0u32;
+    while n < b {
+        let next = w * s;
+        if !allowed(p, left, rows, next) {
+            return w;
+        }
+        w = next;
+        n += 1;
+    }
+    w
 }
 
 // s runs of equal symbols, each run z times the one before.

@@ -6,54 +6,22 @@ use Prim.Native.Nat.{ℕ, _+_, _-_, _*_, _<_, _≤_}
 use native.Mathlib.Decide.{decLt}
 use native.Mathlib.Omega.{arith}
 use mir.Val.{Fits}
-use mir.Syntax.{w8, w64}
+use mir.Syntax.{w8}
 use lib.ListN.{length, getD}
 use Rattle.algebra.specs.Field.{Ops}
-use Rattle.algebra.specs.Sum.{pow}
-use Rattle.algebra.specs.Lagrange.{check}
-use Rattle.algebra.specs.Erasure.{fill}
-use Rattle.algebra.proofs.Sum.{sum-congr}
 use Rattle.symbol.specs.Elem.{elem, ops, gf256}
 use Rattle.symbol.proofs.Elem.{elem-zero, elem-nil}
-use Rattle.kernel.specs.Runs.{cell}
-use Rattle.kernel.proofs.Rows.{row-end, row-before, cell-is}
+use Rattle.kernel.proofs.Rows.{row-end, cell-is}
 use Rattle.layout.specs.declared.Layout.{Layout}
-use Rattle.layout.specs.Layout.{trays, checks, layers, Admissible}
-use Rattle.codeword.specs.Codeword.{symbolAt, pointAt, checkAt}
+use Rattle.layout.specs.Layout.{trays, checks, layers}
+use Rattle.codeword.specs.Codeword.{checkAt}
 use Rattle.codeword.specs.Test.{FirstBad}
-use Rattle.syndrome.specs.Syndrome.{Block, Listed, entryOf, survivorAt, Room, Sums}
+use Rattle.syndrome.specs.Syndrome.{Room, Sums}
+use Rattle.syndrome.proofs.Whole.{sums-are}
 use Rattle.testing.specs.Inner.{FirstIn, FirstBroken}
-
--- a row and a column lie in the sums
-pub sum-in : (sums : List ℕ) (w r t j : ℕ) → r * w ≤ length sums → t < r → j < w → t * w + j < length sums
-sum-in sums w r t j h ht hj = let e = row-before t r w ht in omega arith
-
-pub row-fits : (sums : List ℕ) (w r t j : ℕ) → r * w ≤ length sums → t < r → j < w → Fits w64 (length sums) → Fits w64 (t * w)
-row-fits sums w r t j h ht hj f = let e = sum-in sums w r t j h ht hj in omega arith
-
-pub sum-fits : (sums : List ℕ) (w r t j : ℕ) → r * w ≤ length sums → t < r → j < w → Fits w64 (length sums) → Fits w64 (t * w + j)
-sum-fits sums w r t j h ht hj f = let e = sum-in sums w r t j h ht hj in omega arith
 
 pub sums-in : (w r : ℕ) (sums new cur row : List ℕ) → Room w r sums cur row → length new ≡ length sums → r * w ≤ length new
 sums-in w r sums new cur row g e = rw e (g .sums-long)
-
--- an empty list leaves no tray out
-pub none-listed : (l : Layout) (es : List ℕ) → length es ≡ 0 → Listed l es
-none-listed l es e = record {
-  places = record { apart = λ j k hj hk q. absurd (omega arith); inside = λ k h. absurd (omega arith) };
-  few = omega arith;
-}
-
-survivor-all : (l : Layout) (es c : List ℕ) → length es ≡ 0 → (j x : ℕ) → survivorAt l es c j x ≡ symbolAt gf256 l c x j
-unfolding survivorAt fill
-survivor-all l es c e j x = ap (λ n. fill (entryOf es) (λ k. ops .zero) n (λ y. symbolAt gf256 l c y j) x) e
-
--- so the sums are the checks
-sums-are : (l : Layout) (w first r : ℕ) (c es sums : List ℕ) → length es ≡ 0 → Sums l w first r c es (trays l) sums → (t j : ℕ) → t < r → j < w →
-    cell w sums t j ≡ checkAt gf256 l c (first + j) t
-unfolding checkAt check
-sums-are l w first r c es sums e s t j ht hj =
-    s .at t j ht hj ∙ sum-congr ops (trays l) _ _ (λ x h. ap (ops .mul (pow ops (pointAt gf256 l (first + j) x) t)) (survivor-all l es c e (first + j) x))
 
 pub first-of : (l : Layout) (w first r : ℕ) (c es sums : List ℕ) (j t : ℕ) → length es ≡ 0 → r ≡ checks l → Sums l w first r c es (trays l) sums →
     ((i : ℕ) → Fits w8 (getD sums i 0)) → FirstIn w r sums j t → FirstBroken l w first c j t

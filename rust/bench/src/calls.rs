@@ -15,7 +15,7 @@ pub struct Call {
     pub after: fn(&Filled) -> Vec<u8>,
 }
 
-pub const CALLS: [Call; 8] = [
+pub const CALLS: [Call; 9] = [
     Call {
         name: "store",
         before: |f| vec![CLEARED; f.codeword.len()],
@@ -26,6 +26,12 @@ pub const CALLS: [Call; 8] = [
         name: "test",
         before: |f| f.codeword.clone(),
         run: |version, f, codeword| assert_eq!(version.test(f.layout, codeword), Tested::Sound),
+        after: |f| f.codeword.clone(),
+    },
+    Call {
+        name: "walk",
+        before: |f| f.codeword.clone(),
+        run: |version, f, codeword| assert_eq!(version.walk(f.layout, codeword), 0),
         after: |f| f.codeword.clone(),
     },
     Call {

@@ -181,6 +181,7 @@ mod tests {
                     panic!("{} takes a damaged codeword for sound", version.name());
                 };
                 assert_eq!((bad.number() as usize, check), (layer, 0));
+                assert_eq!(version.walk(layout, &codeword), 1);
                 let mut lent = codeword.clone();
                 assert!(!version.recover(layout, &mut lent, &[Tray::new(0)]));
                 assert!(lent == codeword, "{} wrote", version.name());

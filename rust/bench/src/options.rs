@@ -11,7 +11,7 @@ usage: bench [--rounds N] [--quick]
        bench --count CALL VERSION [--rounds N]
            does one call N times and prints nothing
 each for one layout only: --layout B u k d
-calls: store, test, recover-1, recover-r, share-first, share-middle, share-last, repair
+calls: store, test, walk, recover-1, recover-r, share-first, share-middle, share-last, repair
 versions: library, log-exp, product-table";
 
 /// The word that asks for one call only.

@@ -1,11 +1,11 @@
 use mathlib.Core.Path.{_≡_, refl, subst, _∙_}
-use Prim.Native.Nat.{_-_, _≤_}
+use Prim.Native.Nat.{_+_, _-_, _≤_}
 use native.Mathlib.Omega.{arith}
 use lib.ListN.{length}
 use Rattle.symbol.specs.Elem.{gf256}
 use Rattle.rule.specs.Lost.{Piece}
 use Rattle.pieces.proofs.Pieces.{piece-none, piece-more, piecing-next}
-use Rattle.pieces.proofs.Blocks.{rooms-next, start-fits, fitting-of}
+use Rattle.pieces.proofs.Blocks.{rooms-next, start-fits, fitting-of, groups-under, groups-of}
 use borrow.Author.Needs.{needs}
 use Rattle.pieces.proofs.mend_blocks.Statement.{statement}
 use Rattle.pieces.proofs.mend_blocks.Tie as tie
@@ -32,7 +32,7 @@ sub-block-at : tie.Need-sub-block-at Inv-loop μ-loop
 sub-block-at c = search needs
 
 block-at-requires : tie.Need-block-at-requires Inv-loop μ-loop
-block-at-requires c κs = let p = c .before .before .before .before .before .before .before .before .before .before .before .before .before .before .before .before .pre .0 in (p .adm, omega arith, omega (arith, p .within), c .before .before .row-count .ensures .few)
+block-at-requires c κs = let p = c .before .before .before .before .before .before .before .before .before .before .before .before .before .before .before .before .pre .0 in (p .adm, omega arith, omega (arith, p .within, groups-under (c .before .before .before .before .before .before .before .before .before .before .before .before .before .before .before .before .args .l)), c .before .before .row-count .ensures .few)
 
 add-mend-block : tie.Need-add-mend-block Inv-loop μ-loop
 add-mend-block c = search needs
@@ -44,7 +44,7 @@ mend-block-requires c κs =
     let o = c .before .before .before .before .before .before .before .before .before .before .loop in
     let w = c .before .before .before .before .before .before .before .before .block-at in (
       piecing-next (a .l) (a .lost .now) (a .helpers .now) (a .shares .now) (a .host .now) (a .first) (a .count) (o .k) (w .result) (a .spare .now) _ (s .pre .0) (omega (arith, w .ensures .1 .within)) (o .inv .8 .long),
-      w .ensures .0,
+      groups-of (a .l) (a .first + o .k) (a .count - o .k) _ (w .result) (omega (arith, s .pre .0 .within)) (w .ensures .0) (w .ensures .1),
       fitting-of (a .l) (length (a .lost .now)) _ _ _ _ (c .before .before .before .before .before .before .before .before .before .before .before .row-count .ensures) (w .ensures .1),
       rooms-next (a .sums .now) (a .sides .now) (a .found .now) (a .points .now) (a .coefs .now) (a .row .now) (a .cur .now) _ _ _ _ _ _ _ (s .pre .1) (o .inv .1) (o .inv .2) (o .inv .3) (o .inv .4) (o .inv .5) (o .inv .6) (o .inv .7),
       s .pre .2,

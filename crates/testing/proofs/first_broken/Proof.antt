@@ -1,6 +1,7 @@
 use Prim.Native.Nat.{_-_}
 use borrow.Author.Needs.{needs}
-use Rattle.testing.proofs.Blocks.{none-listed, first-of, sums-in}
+use Rattle.syndrome.proofs.Whole.{none-listed}
+use Rattle.testing.proofs.Blocks.{first-of, sums-in}
 use Rattle.testing.proofs.first_broken.Statement.{statement}
 use Rattle.testing.proofs.first_broken.Tie as tie
 

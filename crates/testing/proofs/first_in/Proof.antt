@@ -4,7 +4,7 @@ use native.Mathlib.Nat.{not-suc-le-zero}
 use native.Mathlib.Omega.{arith}
 use lib.ListN.{getD}
 use borrow.Author.Count.{below-more}
-use Rattle.testing.proofs.Blocks.{sum-in, row-fits, sum-fits}
+use Rattle.syndrome.proofs.Whole.{sum-in, row-fits, sum-fits}
 use Rattle.testing.proofs.first_in.Statement.{statement}
 use Rattle.testing.proofs.first_in.Tie as tie
 

@@ -76,6 +76,14 @@ pub fn test(multiply: &impl Multiply, layout: Layout, codeword: &[u8]) -> Tested
     Tested::Sound
 }
 
+pub fn walk(multiply: &impl Multiply, layout: Layout, codeword: &[u8]) -> u32 {
+    let call = Layers::new(multiply, layout);
+    let Numbers { checks, layers, .. } = call.numbers;
+    let sums = call.sums(0..call.trays.len(), codeword);
+    let bad = |layer: &usize| (0..checks).any(|t| sums[t * layers + layer] != 0);
+    (0..layers).filter(bad).count() as u32
+}
+
 pub fn store(multiply: &impl Multiply, layout: Layout, data: &[u8], codeword: &mut [u8]) {
     let call = Layers::new(multiply, layout);
     let parity = Vec::from_iter(layout.dimension as usize..call.trays.len());

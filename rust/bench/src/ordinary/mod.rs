@@ -34,6 +34,10 @@ impl<M: Multiply> Version for Ordinary<M> {
         layers::test(&self.multiply, layout, codeword)
     }
 
+    fn walk(&self, layout: Layout, codeword: &[u8]) -> u32 {
+        layers::walk(&self.multiply, layout, codeword)
+    }
+
     fn recover(&self, layout: Layout, codeword: &mut [u8], erased: &[Tray]) -> bool {
         let erased: Vec<usize> = erased.iter().map(|tray| tray.number() as usize).collect();
         layers::recover(&self.multiply, layout, codeword, &erased)

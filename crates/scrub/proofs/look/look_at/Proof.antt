@@ -1,6 +1,6 @@
 use native.Mathlib.Omega.{arith}
 use borrow.Author.Needs.{needs}
-use Rattle.lists.proofs.Bools.{told-true, told-false}
+use borrow.Author.Tests.{not-true, not-false}
 use Rattle.scrub.proofs.Layers.{look-good, look-first, look-bad}
 use Rattle.scrub.proofs.look.look_at.Statement.{statement}
 use Rattle.scrub.proofs.look.look_at.Tie as tie
@@ -8,11 +8,10 @@ use Rattle.scrub.proofs.look.look_at.Tie as tie
 pub look-at-spec : {M : Type 1} → statement M
 look-at-spec =
     tie.close (tie.spec
-    (λ c κs. search needs)
     (λ c. search needs)
-    (λ c. look-good _ _ (told-false (c .before .bad-layer .ensures) (c .if1 .taken)))
+    (λ c. look-good _ _ (not-true _ (c .if1 .taken)))
     (λ c. search needs)
-    (λ c. look-first _ _ (told-true (c .before .before .bad-layer .ensures) (c .before .if1 .left)) (omega arith))
+    (λ c. look-first _ _ (not-false _ (c .before .if1 .left)) (omega arith))
     (λ c. search needs)
     (λ c. search needs)
-    (λ c. look-bad _ _ (told-true (c .before .before .bad-layer .ensures) (c .before .if1 .left)) (λ z. omega arith)))
+    (λ c. look-bad _ _ (not-false _ (c .before .if1 .left)) (λ z. omega arith)))

@@ -1,10 +1,10 @@
 use mathlib.Core.Bool.{false≢true}
 use native.Mathlib.Omega.{arith}
 use borrow.Author.Tests.{eqb-true}
-use Rattle.pieces.proofs.Blocks.{room-fits, allowed-of}
+use Rattle.syndrome.proofs.Widths.{room-fits, allowed-of}
 use borrow.Author.Needs.{needs}
-use Rattle.pieces.proofs.allowed.Statement.{statement}
-use Rattle.pieces.proofs.allowed.Tie as tie
+use Rattle.syndrome.proofs.allowed.Statement.{statement}
+use Rattle.syndrome.proofs.allowed.Tie as tie
 
 returns : tie.Need-returns
 returns c = λ e. absurd (false≢true e)

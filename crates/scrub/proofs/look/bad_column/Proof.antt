@@ -1,0 +1,29 @@
+use mathlib.Core.Path.{_≡_}
+use Prim.Native.Nat.{ℕ, _+_, _-_, _*_, _<_, _≤_}
+use native.Mathlib.Nat.{not-suc-le-zero}
+use native.Mathlib.Omega.{arith}
+use lib.ListN.{getD}
+use borrow.Author.Count.{below-more}
+use Rattle.syndrome.proofs.Whole.{sum-in, row-fits, sum-fits}
+use Rattle.scrub.proofs.Columns.{column-bad, column-good}
+use Rattle.scrub.proofs.look.bad_column.Statement.{statement}
+use Rattle.scrub.proofs.look.bad_column.Tie as tie
+
+abbrev Inv-loop : tie.InvT-loop
+Inv-loop sums w r j t₀ t = (t ≤ r) × ((v : ℕ) → v < t → getD sums (v * w + j) 0 ≡ 0)
+
+abbrev μ-loop : tie.MeasureT-loop
+μ-loop sums w r j t₀ t = r - t
+
+pub bad-column-spec : {M : Type 1} → statement M
+bad-column-spec =
+    tie.close (tie.spec Inv-loop μ-loop
+    (λ c. (omega arith, λ v h. absurd (not-suc-le-zero h)))
+    (λ c. search row-fits)
+    (λ c. search sum-fits)
+    (λ c. search sum-in)
+    (λ c. search column-bad)
+    (λ c. omega arith)
+    (λ c. omega arith)
+    (λ c. (omega arith, below-more _ _ (c .before .before .before .loop .inv .1) (c .if1 .left)))
+    (λ c. search column-good))
