@@ -322,6 +322,79 @@ gesarumbo_scrubbed gesarumbo_scrub(gesarumbo_layout layout,
                                    const uint8_t *codeword, size_t codeword_length,
                                    gesarumbo_scrub_record record, uint64_t budget);
 
+/*
+ * The sixteen-tray box, a cabinet of its own with no layout. It has 16 trays of one symbol in four
+ * racks of four: tray x stands in rack x/4, at place x mod 4. Symbols are the numbers 0 to 15,
+ * elements of the field of 16 by x^4 + x + 1 with root y = 2; sums are exclusive or. The trays'
+ * points are, rack after rack, 0, 1, y^5, y^10; y, y^2, y^4, y^8; y^6, y^7, y^9, y^13; y^3, y^11,
+ * y^12, y^14. The data are the 7 coefficients of a polynomial, the lowest first, and its word is the
+ * polynomial's values at the 16 points. Any 7 trays determine the word. The trays do not hold the
+ * data as they are: gesarumbo_box_data gives them.
+ *
+ * The grounds of refusal are those above, with n = 16, k = 7 and two helpers. Besides, 3 is a value
+ * above 15, unless it is never looked at, and 8 is also for two shares that differ.
+ */
+
+typedef struct {
+    uint32_t refusal;
+    uint32_t crossed; /* symbols crossed: 2 */
+} gesarumbo_box_repaired;
+
+/*
+ * Stores 7 symbols of data in the 16 trays of the box.
+ * Grounds: 2, either buffer; 3, the data.
+ * Done: values is the word of the data, whatever it held. Different data have different words.
+ */
+uint32_t gesarumbo_box_store(const uint8_t *data, size_t data_length,
+                             uint8_t *values, size_t values_length);
+
+/*
+ * Gives the 7 symbols of data from the trays of the box that are not erased.
+ * Grounds: 2, either buffer; 3, a tray listed, or the value of a tray that is not; 4; 5, more than 9
+ * trays; 8, exactly when no word has the trays that are not listed.
+ * Done: data is the only one whose word has these survivors, whatever it held. What values holds at
+ * the trays listed is not looked at.
+ */
+uint32_t gesarumbo_box_data(const uint8_t *values, size_t values_length,
+                            const uint32_t *erased, size_t erased_count,
+                            uint8_t *data, size_t data_length);
+
+/*
+ * Fills the erased trays of the box from all the others.
+ * Grounds: 2, values; 3, a tray listed, or the value of a tray that is not; 4; 5, more than 9 trays;
+ * 8, exactly when no word has the trays that are not listed.
+ * Done: values is a word, the only one with these survivors. Erased trays alone are written, and
+ * their old values are not looked at. With none erased nothing is written, and the call is a test: 0
+ * or 8.
+ */
+uint32_t gesarumbo_box_recover(uint8_t *values, size_t values_length,
+                               const uint32_t *erased, size_t erased_count);
+
+/*
+ * Works out a helper rack's share for a host rack, one symbol, from the helper's four values.
+ * Grounds: 2, either buffer; 3, either rack or a value; 6, both racks are the same.
+ * Done: share is the top coefficient, that of x^3, of the polynomial of degree below 4 through the
+ * helper's values at its points, whatever it held. Of a word all four racks' shares are the same.
+ */
+uint32_t gesarumbo_box_share(uint32_t host, uint32_t helper,
+                             const uint8_t *rack, size_t rack_length,
+                             uint8_t *share, size_t share_length);
+
+/*
+ * Repairs a lost tray of the box. helpers are two racks, rising; shares are theirs in this order, 2
+ * bytes; host is the four values of the lost tray's rack, of which that of the lost tray is not
+ * looked at; spare has one byte.
+ * Grounds: 2, shares, host or spare; 3, the tray, a helper, a share or one of the three other values
+ * of host; 4; 5, not exactly two helpers; 6; 8, the shares differ.
+ * Done: spare is the one value with which the top coefficient of the lost tray's rack is that of the
+ * helpers. From the shares and values of a word it is the word's.
+ */
+gesarumbo_box_repaired gesarumbo_box_repair(uint32_t lost,
+                                            const uint32_t *helpers, size_t helpers_count,
+                                            const uint8_t *shares, size_t shares_length,
+                                            const uint8_t *host, size_t host_length,
+                                            uint8_t *spare, size_t spare_length);
+
 #ifdef __cplusplus
 }
 #endif

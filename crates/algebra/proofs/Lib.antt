@@ -6,6 +6,7 @@ pub mod Pow
 pub mod Poly
 pub mod Roots
 pub mod Lagrange
+pub mod Interpolate
 pub mod Weighted
 pub mod Erasure
 pub mod Points

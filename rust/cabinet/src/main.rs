@@ -29,6 +29,7 @@ mod reading;
 mod runs;
 mod screen;
 mod seen;
+mod sixteen;
 mod spare;
 mod svg;
 mod task;

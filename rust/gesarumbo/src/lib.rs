@@ -58,6 +58,7 @@ mod refusal;
 mod repair;
 mod scrub;
 mod share;
+pub mod sixteen;
 mod state;
 mod store;
 mod test;

@@ -1,6 +1,9 @@
 //! The grounds of each call: everything is wrong at first, and is put right one ground at a time.
 //! Each call must name the first ground that is left, and leave the buffer it was lent as it was.
 
+#[path = "grounds/sixteen.rs"]
+mod sixteen;
+
 use gesarumbo::*;
 use std::fmt::Debug;
 

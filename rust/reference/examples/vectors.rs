@@ -1,10 +1,12 @@
-//! Writes the vectors of W1, W6, W7 and W8, in the format of
+//! Writes the vectors of W1, W6, W7, W8 and W11, in the format of
 //! `tests/vectors/FORMAT.md`, into the folder named:
 //!
 //!     cargo run --offline --release -p reference --example vectors -- FOLDER
 
 #[path = "../tests/common/mod.rs"]
 mod common;
+#[path = "vectors/sixteen.rs"]
+mod sixteen;
 
 use common::cases::*;
 use common::*;
@@ -16,7 +18,7 @@ const RULES: &str = "# rules: field=256 w2=1 w4=1 w5=1 w12=0";
 
 fn main() -> std::io::Result<()> {
     let folder = std::env::args().nth(1).unwrap_or_else(|| "vectors".into());
-    for sheet in [of_w1(), of_w6(), of_w7(), of_w8()] {
+    for sheet in [of_w1(), of_w6(), of_w7(), of_w8(), sixteen::of_w11()] {
         let text = [vec![RULES.to_string()], sheet.lines].concat().join("\n");
         std::fs::write(format!("{folder}/request-{}.txt", sheet.name), text + "\n")?;
     }

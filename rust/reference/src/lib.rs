@@ -22,6 +22,7 @@ pub mod refusal;
 pub mod repair;
 pub mod scrub;
 pub mod share;
+pub mod sixteen;
 pub mod store;
 pub mod test;
 

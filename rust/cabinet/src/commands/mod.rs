@@ -15,6 +15,7 @@ mod recover;
 mod repair;
 mod scrub;
 mod share;
+mod sixteen;
 mod store;
 mod test;
 
@@ -42,6 +43,7 @@ pub const COMMANDS: &[Command] = &[
     read::COMMAND,
     margin::COMMAND,
     inspect::COMMAND,
+    sixteen::COMMAND,
 ];
 
 /// Does what a command line asks for.

@@ -2,9 +2,9 @@
 
 use crate::bench::{assert_readable, Bench};
 
-const COMMANDS: [&str; 11] = [
+const COMMANDS: [&str; 12] = [
     "demo", "plan", "store", "test", "scrub", "recover", "share", "repair", "read", "margin",
-    "inspect",
+    "inspect", "box",
 ];
 
 #[test]

@@ -10,4 +10,5 @@ mod refusals;
 mod repair;
 mod scrub;
 mod several;
+mod sixteen;
 mod xml;

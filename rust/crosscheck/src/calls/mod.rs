@@ -11,6 +11,7 @@ pub mod share;
 pub mod share_add;
 pub mod share_add_many;
 pub mod share_many;
+pub mod sixteen;
 pub mod store;
 pub mod test;
 pub mod walk;
@@ -39,7 +40,7 @@ pub struct Call {
     pub reference: fn(&Inputs) -> Answer,
 }
 
-pub const CALLS: [&Call; 16] = [
+pub const CALLS: [&Call; 21] = [
     &measure::CALL,
     &test::CALL,
     &store::CALL,
@@ -56,6 +57,11 @@ pub const CALLS: [&Call; 16] = [
     &margin::CALL,
     &walk_reset::CALL,
     &walk::CALL,
+    &sixteen::store::CALL,
+    &sixteen::data::CALL,
+    &sixteen::recover::CALL,
+    &sixteen::share::CALL,
+    &sixteen::repair::CALL,
 ];
 
 /// The inputs of a call for one share: layout, host rack, the rack or tray that gives, its bytes and

@@ -7,7 +7,7 @@ use crate::spoil::spoil;
 
 pub const DRAW: Draw = Draw {
     name: "any call",
-    gate: 150_000,
+    gate: 200_000,
     short: 500,
     case,
 };

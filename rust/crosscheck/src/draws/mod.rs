@@ -1,6 +1,7 @@
 //! Random cases, one file and one entry of [`DRAWS`] each.
 
 mod any_call;
+mod box_calls;
 mod cutting;
 mod feeds;
 mod one_lost;
@@ -19,7 +20,7 @@ pub struct Draw {
     pub case: fn(&mut Crosscheck),
 }
 
-pub const DRAWS: [&Draw; 7] = [
+pub const DRAWS: [&Draw; 8] = [
     &any_call::DRAW,
     &cutting::DRAW,
     &feeds::DRAW,
@@ -27,4 +28,5 @@ pub const DRAWS: [&Draw; 7] = [
     &reading::DRAW,
     &same_group::DRAW,
     &walks::DRAW,
+    &box_calls::DRAW,
 ];

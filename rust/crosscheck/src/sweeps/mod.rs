@@ -1,6 +1,8 @@
 //! Cases gone through one after another, one file and one entry of [`SWEEPS`]
 //! each.
 
+mod box_losses;
+mod box_trays;
 mod every_layout;
 mod header_bytes;
 mod least_check;
@@ -20,11 +22,13 @@ pub struct Sweep {
     pub item: fn(&mut Crosscheck, usize),
 }
 
-pub const SWEEPS: [&Sweep; 6] = [
+pub const SWEEPS: [&Sweep; 8] = [
     &every_layout::SWEEP,
     &small_layouts::SWEEP,
     &least_check::SWEEP,
     &header_bytes::SWEEP,
     &lost_counts::SWEEP,
     &whole_repairs::SWEEP,
+    &box_losses::SWEEP,
+    &box_trays::SWEEP,
 ];

@@ -57,15 +57,15 @@ pub trait Case: Clone + 'static {
     fn refusal(&self) -> Option<Refusal>;
 }
 
-/// The sound case with each single fault, with each two faults of different
-/// grounds and with each bad layout, and the ground to be given.
-pub fn faulty<C: Case>() -> Vec<(Refusal, C)> {
+/// The sound case with each single fault and with each two faults of different
+/// grounds, and the ground to be given.
+pub fn faulted<C: Clone>(sound: fn() -> C, faults: &[Fault<C>]) -> Vec<(Refusal, C)> {
     let rank = |ground: &Refusal| ORDER.iter().position(|other| other == ground);
     let mut cases = vec![];
-    for (later, spoil) in C::FAULTS {
-        let mut once = C::sound();
+    for (later, spoil) in faults {
+        let mut once = sound();
         spoil(&mut once);
-        for (earlier, spoil_too) in C::FAULTS {
+        for (earlier, spoil_too) in faults {
             if rank(earlier) < rank(later) {
                 let mut twice = once.clone();
                 spoil_too(&mut twice);
@@ -74,6 +74,12 @@ pub fn faulty<C: Case>() -> Vec<(Refusal, C)> {
         }
         cases.push((*later, once));
     }
+    cases
+}
+
+/// The same, and the sound case with each bad layout.
+pub fn faulty<C: Case>() -> Vec<(Refusal, C)> {
+    let mut cases = faulted(C::sound, C::FAULTS);
     let of_layout = |shape| C::sound().with_layout(Layout::from(shape));
     cases.extend(BAD_LAYOUTS.map(|shape| (Refusal::Layout, of_layout(shape))));
     cases

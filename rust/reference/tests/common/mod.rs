@@ -2,6 +2,7 @@
 #![allow(dead_code)] // each test file uses a part
 
 pub mod cases;
+pub mod sixteen;
 
 use reference::checks::Checks;
 use reference::elimination::solve;

@@ -1,0 +1,152 @@
+/*
+ * The sixteen-tray box in one program, after Example 1 of its source: data are stored, three trays
+ * of the first rack are lost and recovered, a lost tray is repaired from two other racks, the data
+ * come back from seven trays, and damage is found.
+ *
+ * Every buffer is lent with guard bytes beside it, which must be untouched at the end.
+ */
+#include <stdio.h>
+#include <stdlib.h>
+#include <string.h>
+
+#include "gesarumbo.h"
+
+enum { TRAYS = 16, SIZE = 4, DATA = 7, HELPERS = 2 };
+enum { GUARD = 8, GUARD_BYTE = 0xA5 };
+
+/* A buffer of at most 16 bytes with a guard before and after it. */
+typedef struct {
+    uint8_t before[GUARD], bytes[TRAYS], after[GUARD];
+} guarded;
+
+static guarded data, values, back, shares, spare;
+
+/* Ends the program if something is not as the library promises. */
+static void must(int holds, const char *what)
+{
+    if (!holds) {
+        printf("not as promised: %s\n", what);
+        exit(1);
+    }
+}
+
+static int untouched(const uint8_t *from, const uint8_t *end)
+{
+    for (; from < end; from++)
+        if (*from != GUARD_BYTE)
+            return 0;
+    return 1;
+}
+
+/* Whether every byte beside a buffer's first ones, so many, is a guard byte still. */
+static int guards_of(const guarded *lent, size_t length)
+{
+    return untouched(lent->before, lent->before + GUARD)
+           && untouched(lent->bytes + length, lent->bytes + TRAYS)
+           && untouched(lent->after, lent->after + GUARD);
+}
+
+static void print_symbols(const char *name, const uint8_t *symbols, size_t count)
+{
+    printf("%s", name);
+    for (size_t i = 0; i < count; i++)
+        printf(" %X", symbols[i]);
+    printf("\n");
+}
+
+static void print_racks(void)
+{
+    for (size_t i = 0; i < TRAYS / SIZE; i++) {
+        printf("rack %zu:", i);
+        print_symbols("", values.bytes + i * SIZE, SIZE);
+    }
+}
+
+static void store(const uint8_t coefficients[DATA])
+{
+    memcpy(data.bytes, coefficients, DATA);
+    must(gesarumbo_box_store(data.bytes, DATA, values.bytes, TRAYS) == 0, "data are stored");
+}
+
+/* h(x) = x + x^4, by which the racks are sorted: it is 0, 1, y^5 and y^10 there. */
+static void store_the_sorting_polynomial(void)
+{
+    static const uint8_t h[DATA] = { 0, 1, 0, 0, 1, 0, 0 };
+    store(h);
+    print_racks();
+}
+
+/* The trays at 1, y^5 and y^10 are lost together. */
+static void recover_three_of_a_rack(void)
+{
+    static const uint32_t erased[] = { 1, 2, 3 };
+    uint8_t kept[TRAYS];
+    memcpy(kept, values.bytes, TRAYS);
+    memset(values.bytes + 1, 0xEE, 3);
+    must(gesarumbo_box_recover(values.bytes, TRAYS, erased, 3) == 0, "three trays are recovered");
+    printf("trays 1, 2 and 3 are %s\n",
+           memcmp(values.bytes, kept, TRAYS) == 0 ? "as they were" : "wrong");
+}
+
+/* Racks 0 and 3 each send one symbol for rack 1, which has lost tray 6. */
+static void repair(void)
+{
+    static const uint32_t helpers[HELPERS] = { 0, 3 };
+    uint8_t kept = values.bytes[6];
+    for (size_t i = 0; i < HELPERS; i++)
+        must(gesarumbo_box_share(1, helpers[i], values.bytes + SIZE * helpers[i], SIZE,
+                                 shares.bytes + i, 1) == 0,
+             "a share is worked out");
+    print_symbols("shares:", shares.bytes, HELPERS);
+    values.bytes[6] = 0xEE;
+    gesarumbo_box_repaired done = gesarumbo_box_repair(6, helpers, HELPERS, shares.bytes, HELPERS,
+                                                       values.bytes + SIZE, SIZE, spare.bytes, 1);
+    must(done.refusal == 0, "a tray is repaired");
+    printf("crossed %u, tray 6 is %s\n", done.crossed, spare.bytes[0] == kept ? "as it was" : "wrong");
+    shares.bytes[0] ^= 1;
+    printf("shares that differ: refused %u\n",
+           gesarumbo_box_repair(6, helpers, HELPERS, shares.bytes, HELPERS, values.bytes + SIZE, SIZE,
+                                spare.bytes, 1).refusal);
+    must(spare.bytes[0] == kept, "a refusal changes nothing");
+    values.bytes[6] = kept;
+}
+
+/* Trays 0 to 8 are lost; the other seven give the data. */
+static void give_data(void)
+{
+    static const uint32_t erased[] = { 0, 1, 2, 3, 4, 5, 6, 7, 8, 9 };
+    memset(values.bytes, 0xEE, 9);
+    printf("nine lost: %u,", gesarumbo_box_data(values.bytes, TRAYS, erased, 9, back.bytes, DATA));
+    printf(" the data are %s\n", memcmp(back.bytes, data.bytes, DATA) == 0 ? "as they were" : "wrong");
+    printf("ten lost: refused %u\n",
+           gesarumbo_box_data(values.bytes, TRAYS, erased, 10, back.bytes, DATA));
+    must(gesarumbo_box_recover(values.bytes, TRAYS, erased, 9) == 0, "nine trays are recovered");
+}
+
+static void find_damage(void)
+{
+    printf("test: %u", gesarumbo_box_recover(values.bytes, TRAYS, NULL, 0));
+    values.bytes[15] ^= 1;
+    printf(", with one tray damaged %u", gesarumbo_box_recover(values.bytes, TRAYS, NULL, 0));
+    values.bytes[15] = 16;
+    printf(", with no symbol %u\n", gesarumbo_box_recover(values.bytes, TRAYS, NULL, 0));
+}
+
+int main(void)
+{
+    static const uint8_t coefficients[DATA] = { 1, 2, 3, 4, 5, 6, 7 };
+    guarded *lent[] = { &data, &values, &back, &shares, &spare };
+    static const size_t lengths[] = { DATA, TRAYS, DATA, HELPERS, 1 };
+    for (size_t i = 0; i < 5; i++)
+        memset(lent[i], GUARD_BYTE, sizeof *lent[i]);
+    store_the_sorting_polynomial();
+    store(coefficients);
+    print_racks();
+    recover_three_of_a_rack();
+    repair();
+    give_data();
+    find_damage();
+    for (size_t i = 0; i < 5; i++)
+        must(guards_of(lent[i], lengths[i]), "no byte beside a buffer is written");
+    return 0;
+}

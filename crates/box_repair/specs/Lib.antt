@@ -1,0 +1,4 @@
+pub mod Share
+pub mod Repair
+pub mod Examples
+pub mod Inner

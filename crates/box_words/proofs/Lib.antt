@@ -1,0 +1,4 @@
+pub mod PointTable
+pub mod Words
+pub mod SumLoops
+pub mod Answers
