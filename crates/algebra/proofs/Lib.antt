@@ -3,6 +3,7 @@ pub mod Ring
 pub mod Coding
 pub mod Sum
 pub mod Pow
+pub mod Plain
 pub mod Poly
 pub mod Roots
 pub mod Lagrange

@@ -10,3 +10,4 @@ pub mod Layers
 pub mod Cabinet
 pub mod Group
 pub mod Repair
+pub mod Plain

@@ -21,9 +21,11 @@ use Rattle.algebra.specs.Cabinet.{layerPoint, groupSum}
 use Rattle.symbol.specs.Arithmetic.{_⊕_, _⊗_, shiftAdd, mulz}
 use Rattle.symbol.specs.Elem.{Elem, elem, ops, gf256, coding}
 use Rattle.symbol.proofs.Elem.{elem-path, val-zero}
+use Rattle.symbol.proofs.Working.{working}
 use Rattle.layout.specs.declared.Layout.{Layout}
 use Rattle.layout.specs.Layout.{trays, checks, layers, admissible, sizeAllowed, measured}
 use Rattle.layout.proofs.Facts.{admissible-facts}
+use Rattle.range.specs.Range.{symbolsFrom}
 use Rattle.codeword.specs.Codeword.{symbolAt, pointAt, checkAt, Codeword}
 use Rattle.rule.specs.Rule.{weightedSum, shareSymbol}
 use Rattle.share.specs.Share.{shareOf, shareRefusal}
@@ -35,7 +37,7 @@ use Rattle.bench_book.specs.Table.{AllHold, benchBook, cabinet, tray0, t
 -- the test that c is what storing the data gives: an admissible layout, the lengths, bytes, checks that are zero, and the data in front
 unfoldable isStored : Layout → List ℕ → List ℕ → Bool
 isStored l given c =
-    admissible l
+    admissible (gf256 .order) l
     && eqb (length given) (l .dimension * layers l)
     && eqb (length c) (trays l * layers l)
     && all (λ i. ltb (getD given i 0) 256) (length given)
@@ -56,8 +58,8 @@ module _ (l : Layout) (given c : List ℕ) where
       let p4 = both _ (all (λ i. ltb (getD c i 0) 256) (length c)) (p5 .0) in
       let p3 = both _ (all (λ i. ltb (getD given i 0) 256) (length given)) (p4 .0) in
       let p2 = both _ (eqb (length c) (trays l * layers l)) (p3 .0) in
-      let p1 = both (admissible l) (eqb (length given) (l .dimension * layers l)) (p2 .0) in
-      let w = store-exists l (admissible-facts l (p1 .0)) given (eqb-true _ _ (p1 .1)) (bytes given (p3 .1)) in
+      let p1 = both (admissible (gf256 .order) l) (eqb (length given) (l .dimension * layers l)) (p2 .0) in
+      let w = store-exists working l (admissible-facts (gf256 .order) l (p1 .0)) given (eqb-true _ _ (p1 .1)) (bytes given (p3 .1)) in
       let word : Codeword gf256 l c = record {
         long = eqb-true _ _ (p2 .1);
         symbols = bytes c (p4 .1);
@@ -74,5 +76,5 @@ stored = (refl, refl)
 
 -- THE BENCH BOOK
 pub worked-examples : AllHold benchBook
-unfolding measured admissible sizeAllowed storeRefusal shareRefusal shareOf table shareSymbol groupSum groupOf weightedSum place symbolAt choose sum pow ops elem _⊕_ _⊗_ shiftAdd mulz marginRefusal marginOf live statesKnown all
-worked-examples = (refl, (refl, (refl, (refl, (refl, (refl, (refl, (refl, (refl, (refl, ((refl, is-stored _ _ _ (stored .0)), ((refl, is-stored _ _ _ (stored .1)), ((refl, refl), ((refl, refl), (refl, ((refl, refl), ((refl, refl), ((refl, refl), ((refl, refl), tt)))))))))))))))))))
+unfolding measured admissible sizeAllowed storeRefusal symbolsFrom shareRefusal shareOf table shareSymbol groupSum groupOf weightedSum place symbolAt choose sum pow ops elem _⊕_ _⊗_ shiftAdd mulz marginRefusal marginOf live statesKnown all
+worked-examples = (refl, (refl, (refl, (refl, (refl, (refl, (refl, (refl, (refl, (refl, (refl, (refl, ((refl, is-stored _ _ _ (stored .0)), ((refl, is-stored _ _ _ (stored .1)), ((refl, refl), ((refl, refl), (refl, ((refl, refl), ((refl, refl), ((refl, refl), ((refl, refl), tt)))))))))))))))))))))

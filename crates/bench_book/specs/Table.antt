@@ -14,8 +14,8 @@ use Rattle.margin.specs.Margin.{marginRefusal, marginOf}
 
 -- a line of the bench book
 pub data Line : Type 0 where
-  -- a layout, and what the layout call answers: the refusal, L, r and the symbols that cross
-  measures : Layout → ℕ → ℕ → ℕ → ℕ → Line
+  -- a layout, and what the layout call of the field whose root has N powers answers: the refusal, L, r and the symbols that cross
+  measures : ℕ → Layout → ℕ → ℕ → ℕ → ℕ → Line
   -- data, and the codeword they are stored as
   stores : Layout → List ℕ → List ℕ → Line
   -- a host rack, a helper, the helper's rack, and its share
@@ -24,10 +24,10 @@ pub data Line : Type 0 where
   margins : Layout → List ℕ → ℤ → Line
 
 abbrev pub Holds : Line → Type 0
-Holds (measures l refusal total r cost) = numbersOf (measured l) ≡ record { refusal = refusal; layers = total; checks = r; traffic = cost }
-Holds (stores l given c) = (storeRefusal l (length given) (length c) ≡ 0) × Stores gf256 l given c
-Holds (shares l host helper rack share) = (shareRefusal l host helper (length rack) (length share) ≡ 0) × (shareOf gf256 l 0 host rack ≡ share)
-Holds (margins l states margin) = (marginRefusal l states ≡ 0) × (marginOf l states ≡ margin)
+Holds (measures N l refusal total r cost) = numbersOf (measured N l) ≡ record { refusal = refusal; layers = total; checks = r; traffic = cost }
+Holds (stores l given c) = (storeRefusal gf256 l given (length c) ≡ 0) × Stores gf256 l given c
+Holds (shares l host helper rack share) = (shareRefusal gf256 l host helper rack (length share) ≡ 0) × (shareOf gf256 l 0 host rack ≡ share)
+Holds (margins l states margin) = (marginRefusal (gf256 .order) l states ≡ 0) × (marginOf l states ≡ margin)
 
 abbrev pub AllHold : List Line → Type 0
 AllHold [] = Unit
@@ -51,23 +51,26 @@ present live absent = replicate live 1 ++ replicate absent 0
 
 abbrev pub benchBook : List Line
 benchBook =
-    measures (cabinet 4 3 8 3) 0 16 4 24
-    ∷ measures (cabinet 4 4 8 3) 1 0 0 0
-    ∷ measures (cabinet 4 3 2 3) 1 0 0 0
-    ∷ measures (cabinet 4 3 10 3) 1 0 0 0
-    ∷ measures (cabinet 4 3 8 4) 1 0 0 0
-    ∷ measures (cabinet 4 3 8 1) 1 0 0 0
-    ∷ measures (cabinet 10 3 24 9) 0 1024 6 4608
+    measures 255 (cabinet 4 3 8 3) 0 16 4 24
+    ∷ measures 255 (cabinet 4 4 8 3) 1 0 0 0
+    ∷ measures 255 (cabinet 4 3 2 3) 1 0 0 0
+    ∷ measures 255 (cabinet 4 3 10 3) 1 0 0 0
+    ∷ measures 255 (cabinet 4 3 8 4) 1 0 0 0
+    ∷ measures 255 (cabinet 4 3 8 1) 1 0 0 0
+    ∷ measures 255 (cabinet 10 3 24 9) 0 1024 6 4608
     -- document 02, W4: two more cabinets, and one still too large
-    ∷ measures (cabinet 11 3 27 10) 0 2048 6 10240
-    ∷ measures (cabinet 7 5 24 6) 0 2187 11 4374
-    ∷ measures (cabinet 13 3 33 12) 1 0 0 0
+    ∷ measures 255 (cabinet 11 3 27 10) 0 2048 6 10240
+    ∷ measures 255 (cabinet 7 5 24 6) 0 2187 11 4374
+    ∷ measures 255 (cabinet 13 3 33 12) 1 0 0 0
+    -- document 02, W10: racks of four in the field modulo 257, refused in the field of 256
+    ∷ measures 256 (cabinet 5 4 15 4) 0 32 5 64
+    ∷ measures 255 (cabinet 5 4 15 4) 1 0 0 0
     ∷ stores (cabinet 2 1 1 1) (0xA7 ∷ []) (0xA7 ∷ 0xA7 ∷ [])
     ∷ stores (cabinet 3 1 1 2) tray0 (tray0 ++ tray1 ++ tray2)
     ∷ shares (cabinet 3 1 1 2) 0 1 tray1 (0x03 ∷ 0x03 ∷ 0x03 ∷ 0x03 ∷ [])
     ∷ shares (cabinet 3 1 1 2) 0 2 tray2 (0x03 ∷ 0x03 ∷ 0x03 ∷ 0x03 ∷ [])
     -- 8 symbols cross
-    ∷ measures (cabinet 3 1 1 2) 0 8 2 8
+    ∷ measures 255 (cabinet 3 1 1 2) 0 8 2 8
     ∷ shares (cabinet 3 1 1 2) 1 0 tray0 (0x0C ∷ 0x0C ∷ 0x0C ∷ 0x0C ∷ [])
     ∷ margins (cabinet 4 3 8 3) (present 7 5) (negsuc 0)
     ∷ margins (cabinet 4 3 8 3) (present 12 0) (pos 4)

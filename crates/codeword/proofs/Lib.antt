@@ -3,3 +3,4 @@ pub mod Buffers
 pub mod Points
 pub mod Answers
 pub mod Unique
+pub mod Places

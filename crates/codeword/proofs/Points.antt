@@ -1,51 +1,45 @@
--- Points of the field of 256 as the code works them out.
+-- Points as the code works them out.
 -- Assumes nothing.
 use mathlib.Core.Path.{_≡_, refl, sym, ap, _∙_}
-use Prim.Native.Nat.{ℕ, _+_, _*_, _/_, _%_, _<_}
-use native.Mathlib.Nat.{mod-lt}
+use Prim.Native.Nat.{ℕ, _+_, _*_, _/_, _%_}
+use Rattle.algebra.specs.Field.{Ops}
+use Rattle.algebra.specs.Coding.{Coding}
 use Rattle.algebra.specs.Sum.{pow}
+use Rattle.algebra.specs.Shape.{Field, FieldLaws}
 use Rattle.algebra.specs.Points.{trayPoint, point, place}
 use Rattle.algebra.specs.Layers.{digit}
 use Rattle.algebra.specs.Cabinet.{layerPoint}
+use Rattle.algebra.specs.Plain.{rootPower, Working}
 use Rattle.algebra.proofs.Pow.{pow-mul}
-use Rattle.algebra.proofs.Points.{exponent}
-use Rattle.algebra.proofs.Layers.{digit-below}
-use Rattle.symbol.specs.Arithmetic.{zpow}
-use Rattle.symbol.specs.Elem.{elem, ops, z, gf256}
-use Rattle.symbol.proofs.Elem.{laws, elem-zpow}
+use Rattle.algebra.proofs.Plain.{elem-rootPower}
 use Rattle.layout.specs.declared.Layout.{Layout}
-use Rattle.layout.specs.Layout.{trays, digits, Admissible}
-use Rattle.layout.proofs.Facts.{bounds, rack-in}
+use Rattle.layout.specs.Layout.{digits}
 use Rattle.codeword.specs.Codeword.{shapeOf, pointAt}
 use Rattle.codeword.specs.Inner.{exponentAt}
-use Rattle.codeword.proofs.Usable.{usable}
 
--- the point by its exponent
-point-is : (l : Layout) (x j : ℕ) → pointAt gf256 l j x ≡ pow ops z (exponentAt l x j)
-unfolding pointAt exponentAt layerPoint trayPoint point
-point-is l x j = refl
+-- the exponent as the code works it out
+pub exponent-known : (N : ℕ) (l : Layout) (x j s d : ℕ) → s ≡ digits l → d ≡ digit s j (x / l .size) →
+    x / l .size * s + d + x % l .size * (N / l .size) ≡ exponentAt N l x j
+unfolding exponentAt
+exponent-known N l x j s d es ed = rw (ed, es) refl
 
-pub point-power-is : (l : Layout) (x j t : ℕ) → elem (zpow (exponentAt l x j * t)) ≡ pow ops (pointAt gf256 l j x) t
-point-power-is l x j t =
-    elem-zpow (exponentAt l x j * t) ∙ pow-mul ops laws z (exponentAt l x j) t ∙ ap (λ p. pow ops p t) (sym (point-is l x j))
+module _ {A : Type 0} {f : Field A} (W : Working f) (l : Layout) where
+  open Field f using (ops, root, order)
+  open Coding (f .coding) using (elem)
+  open FieldLaws (W .field) using (laws)
 
-pub place-power-is : (l : Layout) (g m : ℕ) → elem (zpow (255 / l .size * g * m)) ≡ pow ops (place (shapeOf gf256 l) g) m
-unfolding place
-place-power-is l g m =
-    elem-zpow (255 / l .size * g * m) ∙ pow-mul ops laws z (255 / l .size * g) m ∙ ap (λ y. pow ops y m) (pow-mul ops laws z (255 / l .size) g)
+  -- the point by its exponent
+  point-is : (x j : ℕ) → pointAt f l j x ≡ pow ops root (exponentAt order l x j)
+  unfolding pointAt exponentAt layerPoint trayPoint point
+  point-is x j = refl
 
-module _ (l : Layout) (a : Admissible l) where
-  -- exponents are below the root's order
-  pub exponent-below : (x j : ℕ) → x < trays l → exponentAt l x j < 255
-  unfolding exponentAt
-  exponent-below x j h =
-      exponent (shapeOf gf256 l) (usable l a .fits) (x / l .size) (digit (digits l) j (x / l .size)) (x % l .size)
-      (rack-in l a x h) (digit-below (digits l) (bounds l a .digits-low) j (x / l .size)) (mod-lt x (bounds l a .size-low))
+  pub point-power-is : (x j t e r : ℕ) → e ≡ exponentAt order l x j → r ≡ rootPower f (e * t) → elem r ≡ pow ops (pointAt f l j x) t
+  point-power-is x j t e r p q =
+      ap elem (q ∙ ap (λ (y : ℕ). rootPower f (y * t)) p) ∙ elem-rootPower W (exponentAt order l x j * t)
+      ∙ pow-mul ops laws root (exponentAt order l x j) t ∙ ap (λ y. pow ops y t) (sym (point-is x j))
 
-  -- the exponent as the code works it out
-  pub exponent-known : (x j s d : ℕ) → x < trays l → s ≡ digits l → d ≡ digit s j (x / l .size) →
-      (x / l .size * s + d + x % l .size * (255 / l .size) ≡ exponentAt l x j) × (x / l .size * s + d + x % l .size * (255 / l .size) < 255)
-  exponent-known x j s d h es ed = (same, rw same (exponent-below x j h))
-    where
-      same : x / l .size * s + d + x % l .size * (255 / l .size) ≡ exponentAt l x j
-      same = unfold exponentAt in rw (ed, es) refl
+  pub place-power-is : (g m r : ℕ) → r ≡ rootPower f (order / l .size * g * m) → elem r ≡ pow ops (place (shapeOf f l) g) m
+  unfolding place
+  place-power-is g m r q =
+      ap elem q ∙ elem-rootPower W (order / l .size * g * m) ∙ pow-mul ops laws root (order / l .size * g) m
+      ∙ ap (λ y. pow ops y m) (pow-mul ops laws root (order / l .size) g)

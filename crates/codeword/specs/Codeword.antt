@@ -34,7 +34,7 @@ module _ {A : Type 0} (f : Field A) (l : Layout) where
     pub symbols : InRange (f .coding) c
     pub holds : (j : ℕ) → j < layers l → (t : ℕ) → t < checks l → checkAt c j t ≡ f .ops .zero
 
--- what the theorems ask of a field and a layout; for the field of 256 every admissible layout has it
+-- what the theorems ask of a field and a layout; every layout that is admissible for the field has it
 pub record Usable {A : Type 0} (f : Field A) (l : Layout) : Type 0 where
   pub field : FieldLaws f
   pub fits : Fits (shapeOf f l)

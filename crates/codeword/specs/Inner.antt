@@ -8,19 +8,19 @@ use Rattle.algebra.specs.Layers.{digit}
 use Rattle.algebra.specs.Shape.{Field}
 use Rattle.layout.specs.declared.Layout.{Layout}
 use Rattle.layout.specs.declared.Layer.{Layer}
-use Rattle.layout.specs.Layout.{trays, checks, digits, layers, Admissible}
+use Rattle.layout.specs.Layout.{trays, checks, digits, layers, Cabinet}
 use Rattle.codeword.specs.declared.Tested.{Tested}
 use Rattle.codeword.specs.declared.Tested.the-variants.{Sound, Bad, Refused}
 use Rattle.codeword.specs.Codeword.{checkAt}
 use Rattle.codeword.specs.Test.{FirstBad}
 
--- the exponent of the point of tray x in layer j
-unfoldable pub exponentAt : Layout → ℕ → ℕ → ℕ
-exponentAt l x j = x / l .size * digits l + digit (digits l) j (x / l .size) + x % l .size * (255 / l .size)
+-- the exponent of the point of tray x in layer j, where the root has N powers
+unfoldable pub exponentAt : ℕ → Layout → ℕ → ℕ → ℕ
+exponentAt N l x j = x / l .size * digits l + digit (digits l) j (x / l .size) + x % l .size * (N / l .size)
 
--- an admissible layout, its number of layers, and a buffer of the right length
+-- a cabinet's layout, its number of layers, and a buffer of the right length
 pub record Scannable (l : Layout) (total : ℕ) (c : List ℕ) : Type 0 where
-  pub adm : Admissible l
+  pub adm : Cabinet l
   pub total-is : total ≡ layers l
   pub long : length c ≡ trays l * layers l
 

@@ -5,7 +5,8 @@ use mathlib.Core.List.{List}
 use Prim.Native.Nat.{ℕ, _*_, _<_}
 use lib.Dec.{eqb}
 use lib.ListN.{length}
-use Rattle.lists.specs.Lists.{unless}
+use Rattle.lists.specs.Lists.{unless, allBelow}
+use Rattle.algebra.specs.Coding.{Coding}
 use Rattle.algebra.specs.Shape.{Field}
 use Rattle.layout.specs.declared.Layout.{Layout}
 use Rattle.layout.specs.declared.Layer.{Layer}
@@ -14,9 +15,9 @@ use Rattle.codeword.specs.declared.Tested.{Tested}
 use Rattle.codeword.specs.declared.Tested.the-variants.{Sound, Bad, Refused}
 use Rattle.codeword.specs.Codeword.{checkAt, Codeword}
 
--- the refusal of a test, given the buffer's length; 0 for none
-unfoldable pub testRefusal : Layout → ℕ → ℕ
-testRefusal l n = unless (admissible l) 1 (unless (eqb n (trays l * layers l)) 2 0)
+-- the refusal of a test; 0 for none. Ground 3 is a number that stands for no symbol, which no byte is
+unfoldable pub testRefusal : {A : Type 0} → Field A → Layout → List ℕ → ℕ
+testRefusal f l c = unless (admissible (f .order) l) 1 (unless (eqb (length c) (trays l * layers l)) 2 (unless (allBelow c (f .coding .size)) 3 0))
 
 module _ {A : Type 0} (f : Field A) (l : Layout) (c : List ℕ) where
   -- layer j is the first with a broken check, and t the least broken there
@@ -29,9 +30,9 @@ module _ {A : Type 0} (f : Field A) (l : Layout) (c : List ℕ) where
 
   -- the contract of the test
   abbrev pub TestAnswer : Tested → Type 0
-  TestAnswer Sound = (testRefusal l (length c) ≡ 0) × Codeword f l c
-  TestAnswer (Bad j t) = (testRefusal l (length c) ≡ 0) × FirstBad (j .0) t
-  TestAnswer (Refused e) = (e ≡ testRefusal l (length c)) × (0 < e)
+  TestAnswer Sound = (testRefusal f l c ≡ 0) × Codeword f l c
+  TestAnswer (Bad j t) = (testRefusal f l c ≡ 0) × FirstBad (j .0) t
+  TestAnswer (Refused e) = (e ≡ testRefusal f l c) × (0 < e)
 
 -- document 01's numbers for each answer: the refusal (0 for none), the verdict (1 sound, 2 bad), the layer and the check
 pub record Numbers : Type 0 where

@@ -15,48 +15,26 @@ use Rattle.algebra.specs.Sum.{sum}
 use Rattle.algebra.specs.Poly.{coeff}
 use Rattle.algebra.specs.Lagrange.{basis, solve}
 use Rattle.algebra.proofs.Sum.{sum-zero, sum-add-one, sum-congr}
-use Rattle.symbol.specs.Elem.{Elem, elem, ops}
-use Rattle.symbol.specs.Arithmetic.{_⊕_, _⊗_}
-use Rattle.symbol.proofs.Elem.{elem-zero, elem-⊕, elem-⊗}
+use Rattle.algebra.specs.Coding.{Coding}
+use Rattle.algebra.specs.Shape.{Field, FieldLaws}
+use Rattle.algebra.specs.Plain.{plus, times, Working}
+use Rattle.algebra.proofs.Ring.{mul-neg, neg-mul}
+use Rattle.algebra.proofs.Plain.{elem-zero, elem-plus, elem-times, plus-below, zero-below}
 use Rattle.kernel.specs.Runs.{cell, Run, filled, repeated, addedProduct, addedMultiple}
 use Rattle.kernel.proofs.Runs.{run-none, run-append}
-use Rattle.kernel.proofs.Rows.{row-end, row-before, row-in, cell-other}
+use Rattle.kernel.proofs.Rows.{row-end, row-before, row-in, row-other}
 use Rattle.columns.specs.Columns.{column, Columns, Coefficients, weighted, stretched, Places, Systems, Combined, Solved}
-
--- ---- a row of columns
-pub columns-none : (found : List ℕ) (to v run : ℕ) (sums : List ℕ) (from : ℕ) (coefs : List ℕ) (at : ℕ) → Run (weighted found to v run sums from coefs at) found found to (0 * run)
-columns-none found to v run sums from coefs at = rw (zero-mul run) (run-none (weighted found to v run sums from coefs at) found to)
-
-pub columns-more : (was is new : List ℕ) (to v run : ℕ) (sums : List ℕ) (from : ℕ) (coefs : List ℕ) (at c : ℕ) →
-    Run (weighted was to v run sums from coefs at) was is to (c * run) → Run (addedMultiple is (to + c * run) sums (from + c * run) (getD coefs (at + c % v) 0)) is new (to + c * run) run →
-    Run (weighted was to v run sums from coefs at) was new to ((c + 1) * run)
-unfolding addedMultiple weighted
-columns-more was is new to v run sums from coefs at c r n =
-    rw (row-end c run)
-    (run-append (weighted was to v run sums from coefs at) (addedMultiple is (to + c * run) sums (from + c * run) (getD coefs (at + c % v) 0)) was is new to (c * run) run r n same)
-  where
-    same : (i : ℕ) → i < run → addedMultiple is (to + c * run) sums (from + c * run) (getD coefs (at + c % v) 0) i ≡ weighted was to v run sums from coefs at (c * run + i)
-    same i h =
-        ap₂ (λ x y. x ⊕ y ⊗ getD coefs (at + c % v) 0)
-        (r .high (to + c * run + i) (omega arith) ∙ ap (λ k. getD was k 0) (add-assoc to (c * run) i))
-        (ap (λ k. getD sums k 0) (add-assoc from (c * run) i))
-        ∙ ap (λ k. getD was (to + (c * run + i)) 0 ⊕ getD sums (from + (c * run + i)) 0 ⊗ getD coefs (at + k % v) 0) (sym (digits-div c h))
-
-pub columns-end : (found is : List ℕ) (to v run turns : ℕ) (sums : List ℕ) (from : ℕ) (coefs : List ℕ) (at c : ℕ) → Run (weighted found to v run sums from coefs at) found is to (c * run) →
-    c ≤ v * turns → v * turns ≤ c → Run (weighted found to v run sums from coefs at) found is to (v * turns * run)
-columns-end found is to v run turns sums from coefs at c r h l =
-    let e : c ≡ v * turns = omega arith in subst (λ n. Run (weighted found to v run sums from coefs at) found is to (n * run)) e r
 
 -- ---- the coefficient of every place
 pub spread-none : (coefs : List ℕ) (at run : ℕ) (was : List ℕ) → Run (stretched coefs at run) was was 0 (0 * run)
 spread-none coefs at run was = rw (zero-mul run) (run-none (stretched coefs at run) was 0)
 
-pub spread-more : (coefs : List ℕ) (at run c : ℕ) (was is new : List ℕ) → Run (stretched coefs at run) was is 0 (c * run) → Run (filled (getD coefs (at + c) 0)) is new (c * run) run →
+pub spread-more : (coefs : List ℕ) (at run c x : ℕ) (was is new : List ℕ) → Run (stretched coefs at run) was is 0 (c * run) → x ≡ getD coefs (at + c) 0 → Run (filled x) is new (c * run) run →
     Run (stretched coefs at run) was new 0 ((c + 1) * run)
 unfolding stretched filled
-spread-more coefs at run c was is new r n =
+spread-more coefs at run c x was is new r e n =
     rw (row-end c run)
-    (run-append (stretched coefs at run) (filled (getD coefs (at + c) 0)) was is new 0 (c * run) run r (subst (λ k. Run (filled (getD coefs (at + c) 0)) is new k run) (sym (zero-add (c * run))) n)
+    (run-append (stretched coefs at run) (filled (getD coefs (at + c) 0)) was is new 0 (c * run) run r (subst (λ k. Run (filled (getD coefs (at + c) 0)) is new k run) (sym (zero-add (c * run))) (subst (λ y. Run (filled y) is new (c * run) run) e n))
     (λ i h. ap (λ k. getD coefs (at + k) 0) (sym (digits-div c h))))
 
 pub spread-end : (coefs : List ℕ) (at run c v : ℕ) (was is : List ℕ) → Run (stretched coefs at run) was is 0 (c * run) → c ≤ v → v ≤ c → Run (stretched coefs at run) was is 0 (v * run)
@@ -70,21 +48,6 @@ spread-fits v run c was h l f = let k = row-before c v run l in omega arith
 
 pub turned : (v run turns : ℕ) → turns * (v * run) ≡ v * turns * run
 turned v run turns = sym (times-assoc turns v run) ∙ ap (λ y. y * run) (times-comm turns v)
-
-pub row-wide : (found is : List ℕ) (to v run turns : ℕ) (sums : List ℕ) (from : ℕ) (coefs : List ℕ) (at : ℕ) (old mid row : List ℕ) → 0 < run → 0 < v →
-    Run (stretched coefs at run) old mid 0 (v * run) → Run (repeated mid (v * run)) mid row 0 (turns * (v * run)) →
-    Run (addedProduct found to sums from row 0) found is to (v * turns * run) → Run (weighted found to v run sums from coefs at) found is to (v * turns * run)
-unfolding stretched repeated addedProduct weighted
-row-wide found is to v run turns sums from coefs at old mid row p q r n g = record { long = g .long; done = λ j h. g .done j h ∙ same j h; low = g .low; high = g .high }
-  where
-    value : (j : ℕ) → j < v * turns * run → getD row (0 + j) 0 ≡ getD coefs (at + j / run % v) 0
-    value j h =
-        n .done j (rw (turned v run turns) h) ∙ ap (λ k. getD mid k 0) (sym (zero-add (j % (v * run))))
-        ∙ r .done (j % (v * run)) (mod-lt j (mul-pos q p))
-        ∙ ap (λ k. getD coefs (at + k) 0) (ap (λ k. k / run) (mod-mul j q p) ∙ digits-div (j / run % v) (mod-lt j p))
-
-    same : (j : ℕ) → j < v * turns * run → addedProduct found to sums from row 0 j ≡ weighted found to v run sums from coefs at j
-    same j h = ap (λ y. getD found (to + j) 0 ⊕ getD sums (from + j) 0 ⊗ y) (value j h)
 
 -- where a column lies
 pub column-found : (to v run turns : ℕ) (found sums : List ℕ) (from : ℕ) (coefs : List ℕ) (at c : ℕ) → Places to v run turns found sums from coefs at → c < v * turns →
@@ -127,48 +90,6 @@ turns-room v run turns row new h e = let q = turned v run turns in omega arith
 pub wide-room : (v run turns : ℕ) (row mid new : List ℕ) → v * turns * run ≤ length row → length mid ≡ length row → length new ≡ length mid → 0 + v * turns * run ≤ length new
 wide-room v run turns row mid new h e f = omega arith
 
--- ---- a row of what is found
-pub combined-none : (w v run i : ℕ) (sums coefs was is : List ℕ) → Run (filled 0) was is (i * w) w → Combined w v run 0 i sums coefs is is
-unfolding cell filled
-combined-none w v run i sums coefs was is r = record {
-  long = refl;
-  here = λ j h. ap elem (r .done j h) ∙ elem-zero ∙ sym (sum-zero ops _);
-  others = λ x j h d. refl;
-}
-
-weighted-row : (w v run i n : ℕ) (sums coefs is new : List ℕ) → Run (weighted is (i * w) v run sums (n * w) coefs (n * v)) is new (i * w) w → (j : ℕ) → j < w →
-    cell w new i j ≡ ops .add (cell w is i j) (ops .mul (cell w sums n j) (cell v coefs n (j / run % v)))
-unfolding cell weighted
-weighted-row w v run i n sums coefs is new r j h =
-    ap elem (r .done j h) ∙ elem-⊕ (getD is (i * w + j) 0) (getD sums (n * w + j) 0 ⊗ getD coefs (n * v + j / run % v) 0)
-    ∙ ap (ops .add (elem (getD is (i * w + j) 0))) (elem-⊗ (getD sums (n * w + j) 0) (getD coefs (n * v + j / run % v) 0))
-
-pub combined-more : (w v run turns m n i : ℕ) (sums coefs was is new : List ℕ) → w ≡ v * turns * run → Combined w v run n i sums coefs was is →
-    Run (weighted is (i * w) v run sums (n * w) coefs (n * v)) is new (i * w) (v * turns * run) → Combined w v run (n + 1) i sums coefs was new
-combined-more w v run turns m n i sums coefs was is new e g r = record {
-  long = r .long ∙ g .long;
-  here = λ j h.
-      term j h ∙ ap (λ x. ops .add x (ops .mul (cell w sums n j) (cell v coefs n (j / run % v)))) (g .here j h)
-      ∙ sym (sum-add-one ops n (λ t. ops .mul (cell w sums t j) (cell v coefs t (j / run % v))));
-  others = λ x j h d. cell-other _ is new i w whole x j h d ∙ g .others x j h d;
-}
-  where
-    whole : Run (weighted is (i * w) v run sums (n * w) coefs (n * v)) is new (i * w) w
-    whole = subst (λ k. Run (weighted is (i * w) v run sums (n * w) coefs (n * v)) is new (i * w) k) (sym e) r
-
-    term : (j : ℕ) → j < w → cell w new i j ≡ ops .add (cell w is i j) (ops .mul (cell w sums n j) (cell v coefs n (j / run % v)))
-    term j h = weighted-row w v run i n sums coefs is new whole j h
-
-pub combined-end : (w v run m n i : ℕ) (sums coefs was mid is : List ℕ) → Run (filled 0) was mid (i * w) w → Combined w v run n i sums coefs mid is → n ≤ m → m ≤ n →
-    Combined w v run m i sums coefs was is
-combined-end w v run m n i sums coefs was mid is r g h l =
-    let e : n ≡ m = omega arith in
-    record {
-      long = g .long ∙ r .long;
-      here = λ j k. g .here j k ∙ ap (λ b. sum ops b (λ t. ops .mul (cell w sums t j) (cell v coefs t (j / run % v)))) e;
-      others = λ x j k d. g .others x j k d ∙ cell-other _ was mid i w r x j k d;
-    }
-
 pub found-in : (w v run turns m i : ℕ) (found sums coefs row : List ℕ) → Systems w v run turns m found sums coefs row → i < m → i * w + w ≤ length found
 found-in w v run turns m i found sums coefs row s h = row-in found m w i (s .found-long) h
 
@@ -188,28 +109,6 @@ row-room w v run turns m found sums coefs was is s e = rw (sym (s .width), e) (s
 
 pub sums-in : (w v run turns m t : ℕ) (found sums coefs row : List ℕ) → Systems w v run turns m found sums coefs row → t < m → (t * w + w ≤ length sums) × (t * v + v ≤ length coefs)
 sums-in w v run turns m t found sums coefs row s h = (row-in sums m w t (s .sums-long) h, row-in coefs m v t (s .coefs-long) h)
-
--- ---- all unknowns
-pub solved-none : (w v run m : ℕ) (sums points found : List ℕ) → Solved w v run m sums points found 0
-solved-none w v run m sums points found = record { at = λ i j h k. absurd (not-suc-le-zero h) }
-
-pub solved-more : (w v run m i : ℕ) (sums points coefs was is : List ℕ) → 0 < v → Solved w v run m sums points was i →
-    Coefficients v m points i coefs → Combined w v run m i sums coefs was is → Solved w v run m sums points is (i + 1)
-unfolding solve
-solved-more w v run m i sums points coefs was is y s f g = record { at = λ k j h l. go k j h l (ℕ-discrete k i) }
-  where
-    inside : (j : ℕ) → j / run % v < v
-    inside j = mod-lt (j / run) y
-
-    go : (k j : ℕ) → k < i + 1 → j < w → Dec (k ≡ i) → cell w is k j ≡ solve ops (column v points (j / run % v)) m (λ t. cell w sums t j) k
-    go k j h l (no d) = g .others k j l d ∙ s .at k j (omega arith) l
-    go k j h l (yes q) =
-        ap (λ n. cell w is n j) q ∙ g .here j l
-        ∙ sum-congr ops m _ (λ t. ops .mul (cell w sums t j) (coeff ops (basis ops (column v points (j / run % v)) i m) t)) (λ t b. ap (ops .mul (cell w sums t j)) (f .at t (j / run % v) b (inside j)))
-        ∙ ap (solve ops (column v points (j / run % v)) m (λ t. cell w sums t j)) (sym q)
-
-pub solved-end : (w v run m n i : ℕ) (sums points found : List ℕ) → Solved w v run m sums points found i → i ≤ n → n ≤ i → Solved w v run m sums points found n
-solved-end w v run m n i sums points found s h l = let e : i ≡ n = omega arith in subst (λ k. Solved w v run m sums points found k) e s
 
 pub systems-next : (w v run turns m : ℕ) (was is sums before after old row : List ℕ) → Systems w v run turns m was sums before old → length is ≡ length was → length after ≡ length before →
     length row ≡ length old → Systems w v run turns m is sums after row
@@ -254,3 +153,127 @@ carry-in w v run turns m found sums coefs was is s e =
     let c = s .width in
     let d = s .row-long in
     omega arith
+
+module _ {A : Type 0} {f : Field A} (W : Working f) where
+  open Field f using (ops)
+  open Coding (f .coding) using (elem, size)
+  open FieldLaws (W .field) using (laws)
+
+  -- ---- a row of columns
+  pub columns-none : (found : List ℕ) (to v run : ℕ) (sums : List ℕ) (from : ℕ) (coefs : List ℕ) (at : ℕ) → Run (weighted f found to v run sums from coefs at) found found to (0 * run)
+  columns-none found to v run sums from coefs at = rw (zero-mul run) (run-none (weighted f found to v run sums from coefs at) found to)
+
+  pub columns-more : (was is new : List ℕ) (to v run : ℕ) (sums : List ℕ) (from : ℕ) (coefs : List ℕ) (at c x : ℕ) →
+      Run (weighted f was to v run sums from coefs at) was is to (c * run) → x ≡ getD coefs (at + c % v) 0 → Run (addedMultiple f is (to + c * run) sums (from + c * run) x) is new (to + c * run) run →
+      Run (weighted f was to v run sums from coefs at) was new to ((c + 1) * run)
+  unfolding addedMultiple weighted
+  columns-more was is new to v run sums from coefs at c x r e n =
+      rw (row-end c run)
+      (run-append (weighted f was to v run sums from coefs at) (addedMultiple f is (to + c * run) sums (from + c * run) (getD coefs (at + c % v) 0)) was is new to (c * run) run r
+      (subst (λ y. Run (addedMultiple f is (to + c * run) sums (from + c * run) y) is new (to + c * run) run) e n) same)
+    where
+      same : (i : ℕ) → i < run → addedMultiple f is (to + c * run) sums (from + c * run) (getD coefs (at + c % v) 0) i ≡ weighted f was to v run sums from coefs at (c * run + i)
+      same i h =
+          ap₂ (λ (x y : ℕ). plus f x (times f y (getD coefs (at + c % v) 0)))
+          (r .high (to + c * run + i) (omega arith) ∙ ap (λ k. getD was k 0) (add-assoc to (c * run) i))
+          (ap (λ k. getD sums k 0) (add-assoc from (c * run) i))
+          ∙ ap (λ (k : ℕ). plus f (getD was (to + (c * run + i)) 0) (times f (getD sums (from + (c * run + i)) 0) (getD coefs (at + k % v) 0))) (sym (digits-div c h))
+
+  pub columns-end : (found is : List ℕ) (to v run turns : ℕ) (sums : List ℕ) (from : ℕ) (coefs : List ℕ) (at c : ℕ) → Run (weighted f found to v run sums from coefs at) found is to (c * run) →
+      c ≤ v * turns → v * turns ≤ c → Run (weighted f found to v run sums from coefs at) found is to (v * turns * run)
+  columns-end found is to v run turns sums from coefs at c r h l =
+      let e : c ≡ v * turns = omega arith in subst (λ n. Run (weighted f found to v run sums from coefs at) found is to (n * run)) e r
+
+  pub row-wide : (found is : List ℕ) (to v run turns : ℕ) (sums : List ℕ) (from : ℕ) (coefs : List ℕ) (at : ℕ) (old mid row : List ℕ) → 0 < run → 0 < v →
+      Run (stretched coefs at run) old mid 0 (v * run) → Run (repeated mid (v * run)) mid row 0 (turns * (v * run)) →
+      Run (addedProduct f found to sums from row 0) found is to (v * turns * run) → Run (weighted f found to v run sums from coefs at) found is to (v * turns * run)
+  unfolding stretched repeated addedProduct weighted
+  row-wide found is to v run turns sums from coefs at old mid row p q r n g = record { long = g .long; done = λ j h. g .done j h ∙ same j h; low = g .low; high = g .high }
+    where
+      value : (j : ℕ) → j < v * turns * run → getD row (0 + j) 0 ≡ getD coefs (at + j / run % v) 0
+      value j h =
+          n .done j (rw (turned v run turns) h) ∙ ap (λ k. getD mid k 0) (sym (zero-add (j % (v * run))))
+          ∙ r .done (j % (v * run)) (mod-lt j (mul-pos q p))
+          ∙ ap (λ k. getD coefs (at + k) 0) (ap (λ k. k / run) (mod-mul j q p) ∙ digits-div (j / run % v) (mod-lt j p))
+
+      same : (j : ℕ) → j < v * turns * run → addedProduct f found to sums from row 0 j ≡ weighted f found to v run sums from coefs at j
+      same j h = ap (λ (y : ℕ). plus f (getD found (to + j) 0) (times f (getD sums (from + j) 0) y)) (value j h)
+
+  -- ---- a row of what is found
+  pub combined-none : (w v run i : ℕ) (sums coefs was is : List ℕ) → Run (filled 0) was is (i * w) w → Combined f w v run 0 i sums coefs is is
+  unfolding cell filled
+  combined-none w v run i sums coefs was is r = record {
+    long = refl;
+    here = λ j h. ap elem (r .done j h) ∙ elem-zero W ∙ sym (sum-zero ops _);
+    small = λ j h. rw (r .done j h) (zero-below W);
+    others = λ x j h d. refl;
+  }
+
+  weighted-below : (found : List ℕ) (to v run : ℕ) (sums : List ℕ) (from : ℕ) (coefs : List ℕ) (at j : ℕ) → weighted f found to v run sums from coefs at j < size
+  unfolding weighted
+  weighted-below found to v run sums from coefs at j = plus-below W _ _
+
+  weighted-row : (w v run i n : ℕ) (sums coefs is new : List ℕ) → Run (weighted f is (i * w) v run sums (n * w) coefs (n * v)) is new (i * w) w → (j : ℕ) → j < w →
+      cell f w new i j ≡ ops .add (cell f w is i j) (ops .mul (cell f w sums n j) (cell f v coefs n (j / run % v)))
+  unfolding cell weighted
+  weighted-row w v run i n sums coefs is new r j h =
+      ap elem (r .done j h) ∙ elem-plus W (getD is (i * w + j) 0) (times f (getD sums (n * w + j) 0) (getD coefs (n * v + j / run % v) 0))
+      ∙ ap (ops .add (elem (getD is (i * w + j) 0))) (elem-times W (getD sums (n * w + j) 0) (getD coefs (n * v + j / run % v) 0))
+
+  pub combined-more : (w v run turns m n i : ℕ) (sums coefs was is new : List ℕ) → w ≡ v * turns * run → Combined f w v run n i sums coefs was is →
+      Run (weighted f is (i * w) v run sums (n * w) coefs (n * v)) is new (i * w) (v * turns * run) → Combined f w v run (n + 1) i sums coefs was new
+  combined-more w v run turns m n i sums coefs was is new e g r = record {
+    long = r .long ∙ g .long;
+    here = λ j h.
+        term j h ∙ ap (λ x. ops .add x (ops .mul (cell f w sums n j) (cell f v coefs n (j / run % v)))) (g .here j h)
+        ∙ sym (sum-add-one ops n (λ t. ops .mul (cell f w sums t j) (cell f v coefs t (j / run % v))));
+    small = λ j h. rw (whole .done j h) (weighted-below is (i * w) v run sums (n * w) coefs (n * v) j);
+    others = λ x j h d. row-other _ is new i w whole x j h d ∙ g .others x j h d;
+  }
+    where
+      whole : Run (weighted f is (i * w) v run sums (n * w) coefs (n * v)) is new (i * w) w
+      whole = subst (λ k. Run (weighted f is (i * w) v run sums (n * w) coefs (n * v)) is new (i * w) k) (sym e) r
+
+      term : (j : ℕ) → j < w → cell f w new i j ≡ ops .add (cell f w is i j) (ops .mul (cell f w sums n j) (cell f v coefs n (j / run % v)))
+      term j h = weighted-row w v run i n sums coefs is new whole j h
+
+  pub combined-end : (w v run m n i : ℕ) (sums coefs was mid is : List ℕ) → Run (filled 0) was mid (i * w) w → Combined f w v run n i sums coefs mid is → n ≤ m → m ≤ n →
+      Combined f w v run m i sums coefs was is
+  combined-end w v run m n i sums coefs was mid is r g h l =
+      let e : n ≡ m = omega arith in
+      record {
+        long = g .long ∙ r .long;
+        here = λ j k. g .here j k ∙ ap (λ b. sum ops b (λ t. ops .mul (cell f w sums t j) (cell f v coefs t (j / run % v)))) e;
+        small = g .small;
+        others = λ x j k d. g .others x j k d ∙ row-other _ was mid i w r x j k d;
+      }
+
+  -- ---- all unknowns
+  pub solved-none : (w v run m : ℕ) (sums points found : List ℕ) → Solved f w v run m sums points found 0
+  solved-none w v run m sums points found = record { at = λ i j h k. absurd (not-suc-le-zero h); small = λ i j h k. absurd (not-suc-le-zero h) }
+
+  neg-swap : (a b : A) → ops .mul a (ops .neg b) ≡ ops .mul (ops .neg a) b
+  neg-swap a b = mul-neg ops laws a b ∙ sym (neg-mul ops laws a b)
+
+  pub solved-more : (w v run m i : ℕ) (sums points coefs was is : List ℕ) → 0 < v → Solved f w v run m sums points was i →
+      Coefficients f v m points i coefs → Combined f w v run m i sums coefs was is → Solved f w v run m sums points is (i + 1)
+  unfolding solve cell
+  solved-more w v run m i sums points coefs was is y s f′ g = record { at = λ k j h l. go k j h l (ℕ-discrete k i); small = λ k j h l. low k j h l (ℕ-discrete k i) }
+    where
+      inside : (j : ℕ) → j / run % v < v
+      inside j = mod-lt (j / run) y
+
+      go : (k j : ℕ) → k < i + 1 → j < w → Dec (k ≡ i) → cell f w is k j ≡ solve ops (column f v points (j / run % v)) m (λ t. ops .neg (cell f w sums t j)) k
+      go k j h l (no d) = ap elem (g .others k j l d) ∙ s .at k j (omega arith) l
+      go k j h l (yes q) =
+          ap (λ n. cell f w is n j) q ∙ g .here j l
+          ∙ sum-congr ops m _ (λ t. ops .mul (ops .neg (cell f w sums t j)) (coeff ops (basis ops (column f v points (j / run % v)) i m) t))
+          (λ t b. ap (ops .mul (cell f w sums t j)) (f′ .at t (j / run % v) b (inside j)) ∙ neg-swap (cell f w sums t j) (coeff ops (basis ops (column f v points (j / run % v)) i m) t))
+          ∙ ap (solve ops (column f v points (j / run % v)) m (λ t. ops .neg (cell f w sums t j))) (sym q)
+
+      low : (k j : ℕ) → k < i + 1 → j < w → Dec (k ≡ i) → getD is (k * w + j) 0 < size
+      low k j h l (no d) = rw (g .others k j l d) (s .small k j (omega arith) l)
+      low k j h l (yes q) = rw q (g .small j l)
+
+  pub solved-end : (w v run m n i : ℕ) (sums points found : List ℕ) → Solved f w v run m sums points found i → i ≤ n → n ≤ i → Solved f w v run m sums points found n
+  solved-end w v run m n i sums points found s h l = let e : i ≡ n = omega arith in subst (λ k. Solved f w v run m sums points found k) e s

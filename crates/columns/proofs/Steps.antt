@@ -9,194 +9,195 @@ use native.Mathlib.Decide.{ℕ-discrete, decLt}
 use native.Mathlib.Omega.{arith}
 use mir.Val.{Fits}
 use mir.Syntax.{w64}
-use lib.Dec.{lit<}
 use lib.ListN.{length, getD}
 use Rattle.algebra.specs.Field.{Ops}
 use Rattle.algebra.specs.Poly.{coeff, linear}
-use Rattle.algebra.proofs.Ring.{add-zero, zero-add as add-zero-left, mul-zero, mul-comm}
+use Rattle.algebra.proofs.Ring.{add-zero, zero-add as add-zero-left, mul-zero, mul-comm, neg-mul, neg-zero}
 use Rattle.algebra.proofs.Poly.{coeff-head, coeff-tail, coeff-nil, coeff-linear-zero, coeff-linear-suc}
-use Rattle.symbol.specs.Elem.{Elem, elem, ops}
-use Rattle.symbol.specs.Arithmetic.{_⊕_, _⊗_}
-use Rattle.symbol.proofs.Laws.{⊗-lt}
-use Rattle.symbol.proofs.Elem.{laws, neg-is, elem-zero, elem-one, elem-⊕, elem-⊗}
+use Rattle.algebra.specs.Coding.{Coding}
+use Rattle.algebra.specs.Shape.{Field, FieldLaws}
+use Rattle.algebra.specs.Plain.{minus, times, reduced, Working}
+use Rattle.algebra.proofs.Plain.{elem-zero, elem-minus, elem-times, elem-reduced, reduced-below}
 use Rattle.kernel.specs.Runs.{cell, Run, Inverses, filled, copied, parted, lookedUp, shifted}
 use Rattle.kernel.proofs.Rows.{row-end, row-before, row-in, row-zero, zero-cell, cell-is, cell-other}
 use Rattle.columns.specs.Columns.{column, differences, grown, Columns, Differences, Grown, Coefficients, Timed, carried, Timing}
-use Rattle.columns.proofs.Products.{differences-none as no-differences, grown-none, differences-same, differences-other, grown-same, grown-other, grown-length, grown-basis, coeff-past}
+use Rattle.columns.proofs.Products.{differences-none as no-differences, grown-none, differences-same, differences-other, grown-same, grown-other, grown-length, grown-neg, coeff-past}
 
-shifted-row : (v : ℕ) (points : List ℕ) (t q : ℕ) (carry is new : List ℕ) → Run (shifted is (t * v) carry points (q * v)) is new (t * v) v → (c : ℕ) → c < v →
-    cell v new t c ≡ ops .add (elem (getD carry c 0)) (ops .mul (cell v is t c) (cell v points q c))
-unfolding cell shifted
-shifted-row v points t q carry is new r c k =
-    ap elem (r .done c k) ∙ elem-⊕ (getD carry c 0) (getD is (t * v + c) 0 ⊗ getD points (q * v + c) 0)
-    ∙ ap (ops .add (elem (getD carry c 0))) (elem-⊗ (getD is (t * v + c) 0) (getD points (q * v + c) 0))
+module _ {A : Type 0} {f : Field A} (W : Working f) where
+  open Field f using (ops)
+  open Coding (f .coding) using (elem)
+  open FieldLaws (W .field) using (laws)
 
-carried-row : (v t : ℕ) (is was now : List ℕ) → Run (copied is (t * v)) was now 0 v → (c : ℕ) → c < v → elem (getD now c 0) ≡ cell v is t c
-unfolding cell copied
-carried-row v t is was now r c k = ap (λ (i : ℕ). elem (getD now i 0)) (sym (zero-add c)) ∙ ap elem (r .done c k)
+  shifted-row : (v : ℕ) (points : List ℕ) (t q : ℕ) (carry is new : List ℕ) → Run (shifted f is (t * v) carry points (q * v)) is new (t * v) v → (c : ℕ) → c < v →
+      cell f v new t c ≡ ops .add (elem (getD carry c 0)) (ops .neg (ops .mul (cell f v is t c) (cell f v points q c)))
+  unfolding cell shifted
+  shifted-row v points t q carry is new r c k =
+      ap elem (r .done c k) ∙ elem-minus W (getD carry c 0) (times f (getD is (t * v + c) 0) (getD points (q * v + c) 0))
+      ∙ ap (λ x. ops .add (elem (getD carry c 0)) (ops .neg x)) (elem-times W (getD is (t * v + c) 0) (getD points (q * v + c) 0))
 
-carried-none : (v : ℕ) (was : List ℕ) (c : ℕ) → carried v was 0 c ≡ ops .zero
-unfolding carried
-carried-none v was c = refl
+  carried-row : (v t : ℕ) (is was now : List ℕ) → Run (copied is (t * v)) was now 0 v → (c : ℕ) → c < v → elem (getD now c 0) ≡ cell f v is t c
+  unfolding cell copied
+  carried-row v t is was now r c k = ap (λ (i : ℕ). elem (getD now i 0)) (sym (zero-add c)) ∙ ap elem (r .done c k)
 
-carried-more : (v : ℕ) (was : List ℕ) (t c : ℕ) → carried v was (suc t) c ≡ cell v was t c
-unfolding carried
-carried-more v was t c = refl
+  carried-none : (v : ℕ) (was : List ℕ) (c : ℕ) → carried f v was 0 c ≡ ops .zero
+  unfolding carried
+  carried-none v was c = refl
 
-parted-row : (v : ℕ) (points : List ℕ) (i q : ℕ) (was is : List ℕ) → Run (parted was 0 points (i * v) (q * v)) was is 0 v → (c : ℕ) → c < v →
-    cell v is 0 c ≡ ops .mul (cell v was 0 c) (ops .add (column v points c i) (column v points c q))
-unfolding parted column
-parted-row v points i q was is r c h =
-    row-zero _ was is v r c h ∙ elem-⊗ (getD was (0 + c) 0) (getD points (i * v + c) 0 ⊕ getD points (q * v + c) 0)
-    ∙ ap₂ (ops .mul) (sym (zero-cell v was c)) (elem-⊕ (getD points (i * v + c) 0) (getD points (q * v + c) 0) ∙ ap₂ (ops .add) (cell-is v points i c) (cell-is v points q c))
+  carried-more : (v : ℕ) (was : List ℕ) (t c : ℕ) → carried f v was (suc t) c ≡ cell f v was t c
+  unfolding carried
+  carried-more v was t c = refl
 
--- ---- the differences
-pub differences-none : (v : ℕ) (points : List ℕ) (i : ℕ) (was is : List ℕ) → Run (filled 1) was is 0 v → Differences v points i 0 is
-unfolding filled
-differences-none v points i was is r = record {
-  at = λ c h. row-zero (filled 1) was is v r c h ∙ elem-one ∙ sym (no-differences (column v points c) i);
-  small = λ c h. rw (r .done c h) (lit< tt);
-}
+  parted-row : (v : ℕ) (points : List ℕ) (i q : ℕ) (was is : List ℕ) → Run (parted f was 0 points (i * v) (q * v)) was is 0 v → (c : ℕ) → c < v →
+      cell f v is 0 c ≡ ops .mul (cell f v was 0 c) (ops .add (column f v points c i) (ops .neg (column f v points c q)))
+  unfolding parted column
+  parted-row v points i q was is r c h =
+      row-zero f _ was is v r c h ∙ elem-times W (getD was (0 + c) 0) (minus f (getD points (i * v + c) 0) (getD points (q * v + c) 0))
+      ∙ ap₂ (ops .mul) (sym (zero-cell f v was c)) (elem-minus W (getD points (i * v + c) 0) (getD points (q * v + c) 0) ∙ ap₂ (λ x y. ops .add x (ops .neg y)) (cell-is f v points i c) (cell-is f v points q c))
 
-pub differences-skip : (v : ℕ) (points : List ℕ) (i q : ℕ) (out : List ℕ) → q ≡ i → Differences v points i q out → Differences v points i (q + 1) out
-differences-skip v points i q out e d = record { at = λ c h. d .at c h ∙ sym (differences-same (column v points c) i q e); small = d .small }
+  -- ---- the differences
+  pub differences-none : (v : ℕ) (points : List ℕ) (i : ℕ) (was is : List ℕ) (one : ℕ) → elem one ≡ ops .neg (ops .one) → Run (filled one) was is 0 v → Differences f v points i 0 is
+  unfolding filled
+  differences-none v points i was is one e r = record {
+    at = λ c h. row-zero f (filled one) was is v r c h ∙ e ∙ ap (ops .neg) (sym (no-differences W (column f v points c) i));
+  }
 
-pub differences-more : (v : ℕ) (points : List ℕ) (i q : ℕ) (was is : List ℕ) → ¬ (q ≡ i) → Run (parted was 0 points (i * v) (q * v)) was is 0 v →
-    Differences v points i q was → Differences v points i (q + 1) is
-unfolding parted
-differences-more v points i q was is n r d = record {
-  at = λ c h.
-      parted-row v points i q was is r c h ∙ ap (λ x. ops .mul x (ops .add (column v points c i) (column v points c q))) (d .at c h)
-      ∙ sym (differences-other (column v points c) i q n);
-  small = λ c h. rw (r .done c h) (⊗-lt _ _);
-}
+  pub differences-skip : (v : ℕ) (points : List ℕ) (i q : ℕ) (out : List ℕ) → q ≡ i → Differences f v points i q out → Differences f v points i (q + 1) out
+  differences-skip v points i q out e d = record { at = λ c h. d .at c h ∙ ap (ops .neg) (sym (differences-same W (column f v points c) i q e)) }
 
-pub differences-end : (v : ℕ) (points : List ℕ) (i q m : ℕ) (out : List ℕ) → Differences v points i q out → q ≤ m → m ≤ q → Differences v points i m out
-differences-end v points i q m out d h l = let e : q ≡ m = omega arith in subst (λ n. Differences v points i n out) e d
+  pub differences-more : (v : ℕ) (points : List ℕ) (i q : ℕ) (was is : List ℕ) → ¬ (q ≡ i) → Run (parted f was 0 points (i * v) (q * v)) was is 0 v →
+      Differences f v points i q was → Differences f v points i (q + 1) is
+  differences-more v points i q was is n r d = record {
+    at = λ c h.
+        parted-row v points i q was is r c h ∙ ap (λ x. ops .mul x (ops .add (column f v points c i) (ops .neg (column f v points c q)))) (d .at c h)
+        ∙ neg-mul ops laws (differences f (column f v points c) i q) _ ∙ ap (ops .neg) (sym (differences-other W (column f v points c) i q n));
+  }
 
--- ---- the polynomial of no factor
-pub grown-start : (v m : ℕ) (points table : List ℕ) (i : ℕ) (mid new is : List ℕ) → i < m → Inverses table → Differences v points i m mid → Run (lookedUp mid 0 table) mid new 0 v →
-    Run (filled 0) new is v (m * v - v) → Grown v m points i 0 is
-unfolding lookedUp filled
-grown-start v m points table i mid new is hi inv d r f = record { at = at }
-  where
-    first : (c : ℕ) → c < v → elem (getD new c 0) ≡ ops .inv (differences (column v points c) i m)
-    first c h =
-        ap (λ (k : ℕ). elem (getD new k 0)) (sym (zero-add c)) ∙ ap elem (r .done c h)
-        ∙ inv .at (getD mid (0 + c) 0) (d .small c h)
-        ∙ ap (ops .inv) (sym (zero-cell v mid c) ∙ d .at c h)
+  pub differences-end : (v : ℕ) (points : List ℕ) (i q m : ℕ) (out : List ℕ) → Differences f v points i q out → q ≤ m → m ≤ q → Differences f v points i m out
+  differences-end v points i q m out d h l = let e : q ≡ m = omega arith in subst (λ n. Differences f v points i n out) e d
 
-    at : (t c : ℕ) → t < m → c < v → cell v is t c ≡ coeff ops (grown (ops .inv (differences (column v points c) i m)) (column v points c) i 0) t
-    at zero c ht hc =
-        zero-cell v is c ∙ ap elem (f .low (0 + c) (omega arith)) ∙ ap (λ (k : ℕ). elem (getD new k 0)) (zero-add c) ∙ first c hc
-        ∙ sym (ap (λ l. coeff ops l 0) (grown-none (column v points c) i (ops .inv (differences (column v points c) i m))) ∙ coeff-head ops (ops .inv (differences (column v points c) i m)) [])
-    at (suc t) c ht hc =
-        sym (cell-is v is (suc t) c) ∙ ap (λ (k : ℕ). elem (getD is k 0)) place ∙ ap elem (f .done (t * v + c) inside) ∙ elem-zero
-        ∙ sym (ap (λ l. coeff ops l (suc t)) (grown-none (column v points c) i (ops .inv (differences (column v points c) i m)))
-        ∙ coeff-tail ops (ops .inv (differences (column v points c) i m)) [] t ∙ coeff-nil ops t)
-      where
-        place : suc t * v + c ≡ v + (t * v + c)
-        place = let e : suc t * v ≡ t * v + v = ap (λ (k : ℕ). k * v) (sym (add-one t)) ∙ row-end t v in omega arith
+  -- ---- the polynomial of no factor
+  pub grown-start : (v m : ℕ) (points table : List ℕ) (i : ℕ) (mid new is : List ℕ) → i < m → Inverses f table → Differences f v points i m mid → Run (lookedUp f mid 0 table) mid new 0 v →
+      Run (filled 0) new is v (m * v - v) → Grown f v m points i 0 is
+  unfolding lookedUp filled
+  grown-start v m points table i mid new is hi inv d r z = record { at = at }
+    where
+      first : (c : ℕ) → c < v → elem (getD new c 0) ≡ ops .inv (ops .neg (differences f (column f v points c) i m))
+      first c h =
+          ap (λ (k : ℕ). elem (getD new k 0)) (sym (zero-add c)) ∙ ap elem (r .done c h)
+          ∙ inv .at (reduced f (getD mid (0 + c) 0)) (reduced-below W (getD mid (0 + c) 0))
+          ∙ ap (ops .inv) (elem-reduced W (getD mid (0 + c) 0) ∙ sym (zero-cell f v mid c) ∙ d .at c h)
 
-        inside : t * v + c < m * v - v
-        inside = let e = row-before (t + 1) m v (omega arith) in let k = row-end t v in omega arith
+      at : (t c : ℕ) → t < m → c < v → cell f v is t c ≡ coeff ops (grown f (ops .inv (ops .neg (differences f (column f v points c) i m))) (column f v points c) i 0) t
+      at zero c ht hc =
+          zero-cell f v is c ∙ ap elem (z .low (0 + c) (omega arith)) ∙ ap (λ (k : ℕ). elem (getD new k 0)) (zero-add c) ∙ first c hc
+          ∙ sym (ap (λ l. coeff ops l 0) (grown-none W (column f v points c) i (ops .inv (ops .neg (differences f (column f v points c) i m)))) ∙ coeff-head ops (ops .inv (ops .neg (differences f (column f v points c) i m))) [])
+      at (suc t) c ht hc =
+          sym (cell-is f v is (suc t) c) ∙ ap (λ (k : ℕ). elem (getD is k 0)) place ∙ ap elem (z .done (t * v + c) inside) ∙ elem-zero W
+          ∙ sym (ap (λ l. coeff ops l (suc t)) (grown-none W (column f v points c) i (ops .inv (ops .neg (differences f (column f v points c) i m))))
+          ∙ coeff-tail ops (ops .inv (ops .neg (differences f (column f v points c) i m))) [] t ∙ coeff-nil ops t)
+        where
+          place : suc t * v + c ≡ v + (t * v + c)
+          place = let e : suc t * v ≡ t * v + v = ap (λ (k : ℕ). k * v) (sym (add-one t)) ∙ row-end t v in omega arith
 
--- ---- a factor
-pub grown-skip : (v m : ℕ) (points : List ℕ) (i q : ℕ) (out : List ℕ) → q ≡ i → Grown v m points i q out → Grown v m points i (q + 1) out
-grown-skip v m points i q out e g = record {
-  at = λ t c ht hc. g .at t c ht hc ∙ ap (λ l. coeff ops l t) (sym (grown-same (column v points c) i (ops .inv (differences (column v points c) i m)) q e));
-}
+          inside : t * v + c < m * v - v
+          inside = let e = row-before (t + 1) m v (omega arith) in let k = row-end t v in omega arith
 
-pub timing-none : (v q : ℕ) (points was before carry : List ℕ) → Run (filled 0) before carry 0 v → Timing v q points was was carry 0
-unfolding filled
-timing-none v q points was before carry r = record {
-  done = λ s c h k. absurd (not-suc-le-zero h);
-  rest = λ s c h k. refl;
-  carries = λ c k. ap (λ (i : ℕ). elem (getD carry i 0)) (sym (zero-add c)) ∙ ap elem (r .done c k) ∙ elem-zero ∙ sym (carried-none v was c);
-}
+  -- ---- a factor
+  pub grown-skip : (v m : ℕ) (points : List ℕ) (i q : ℕ) (out : List ℕ) → q ≡ i → Grown f v m points i q out → Grown f v m points i (q + 1) out
+  grown-skip v m points i q out e g = record {
+    at = λ t c ht hc. g .at t c ht hc ∙ ap (λ l. coeff ops l t) (sym (grown-same W (column f v points c) i (ops .inv (ops .neg (differences f (column f v points c) i m))) q e));
+  }
 
-pub timing-more : (v q : ℕ) (points was is new carry next : List ℕ) (t : ℕ) → Timing v q points was is carry t → Run (shifted is (t * v) carry points (q * v)) is new (t * v) v →
-    Run (copied is (t * v)) carry next 0 v → Timing v q points was new next (t + 1)
-timing-more v q points was is new carry next t g r n = record {
-  done = λ s c h k. go s c h k (ℕ-discrete s t);
-  rest = λ s c h k. other s c k (λ e. omega arith) ∙ g .rest s c (omega arith) k;
-  carries = λ c k. carried-row v t is carry next n c k ∙ g .rest t c (omega arith) k ∙ sym (carried-more v was t c) ∙ ap (λ (i : ℕ). carried v was i c) (sym (add-one t));
-}
-  where
-    other : (s c : ℕ) → c < v → ¬ (s ≡ t) → cell v new s c ≡ cell v is s c
-    other s c k d = cell-other _ is new t v r s c k d
+  pub timing-none : (v q : ℕ) (points was before carry : List ℕ) → Run (filled 0) before carry 0 v → Timing f v q points was was carry 0
+  unfolding filled
+  timing-none v q points was before carry r = record {
+    done = λ s c h k. absurd (not-suc-le-zero h);
+    rest = λ s c h k. refl;
+    carries = λ c k. ap (λ (i : ℕ). elem (getD carry i 0)) (sym (zero-add c)) ∙ ap elem (r .done c k) ∙ elem-zero W ∙ sym (carried-none v was c);
+  }
 
-    here : (c : ℕ) → c < v → cell v new t c ≡ ops .add (carried v was t c) (ops .mul (cell v was t c) (cell v points q c))
-    here c k =
-        shifted-row v points t q carry is new r c k
-        ∙ ap₂ (λ x y. ops .add x (ops .mul y (cell v points q c))) (g .carries c k) (g .rest t c (omega arith) k)
+  pub timing-more : (v q : ℕ) (points was is new carry next : List ℕ) (t : ℕ) → Timing f v q points was is carry t → Run (shifted f is (t * v) carry points (q * v)) is new (t * v) v →
+      Run (copied is (t * v)) carry next 0 v → Timing f v q points was new next (t + 1)
+  timing-more v q points was is new carry next t g r n = record {
+    done = λ s c h k. go s c h k (ℕ-discrete s t);
+    rest = λ s c h k. other s c k (λ e. omega arith) ∙ g .rest s c (omega arith) k;
+    carries = λ c k. carried-row v t is carry next n c k ∙ g .rest t c (omega arith) k ∙ sym (carried-more v was t c) ∙ ap (λ (i : ℕ). carried f v was i c) (sym (add-one t));
+  }
+    where
+      other : (s c : ℕ) → c < v → ¬ (s ≡ t) → cell f v new s c ≡ cell f v is s c
+      other s c k d = cell-other f _ is new t v r s c k d
 
-    go : (s c : ℕ) → s < t + 1 → c < v → Dec (s ≡ t) → cell v new s c ≡ ops .add (carried v was s c) (ops .mul (cell v was s c) (cell v points q c))
-    go s c h k (yes e) = subst (λ i. cell v new i c ≡ ops .add (carried v was i c) (ops .mul (cell v was i c) (cell v points q c))) (sym e) (here c k)
-    go s c h k (no d) = other s c k d ∙ g .done s c (omega arith) k
+      here : (c : ℕ) → c < v → cell f v new t c ≡ ops .add (carried f v was t c) (ops .neg (ops .mul (cell f v was t c) (cell f v points q c)))
+      here c k =
+          shifted-row v points t q carry is new r c k
+          ∙ ap₂ (λ x y. ops .add x (ops .neg (ops .mul y (cell f v points q c)))) (g .carries c k) (g .rest t c (omega arith) k)
 
-pub timed-of : (v q top : ℕ) (points was is carry : List ℕ) (t : ℕ) → t ≤ top + 1 → top < t → Timing v q points was is carry t → Timed v q top points was is
-timed-of v q top points was is carry t h l g = record {
-  first = λ c k.
-      g .done 0 c (omega arith) k ∙ ap (λ x. ops .add x (ops .mul (cell v was 0 c) (cell v points q c))) (carried-none v was c)
-      ∙ add-zero-left ops laws (ops .mul (cell v was 0 c) (cell v points q c));
-  next = λ s c b k. g .done (suc s) c (omega arith) k ∙ ap (λ x. ops .add x (ops .mul (cell v was (suc s) c) (cell v points q c))) (carried-more v was s c);
-  above = λ s c b k. g .rest s c (omega arith) k;
-}
+      go : (s c : ℕ) → s < t + 1 → c < v → Dec (s ≡ t) → cell f v new s c ≡ ops .add (carried f v was s c) (ops .neg (ops .mul (cell f v was s c) (cell f v points q c)))
+      go s c h k (yes e) = subst (λ i. cell f v new i c ≡ ops .add (carried f v was i c) (ops .neg (ops .mul (cell f v was i c) (cell f v points q c)))) (sym e) (here c k)
+      go s c h k (no d) = other s c k d ∙ g .done s c (omega arith) k
 
-pub grown-more : (v m : ℕ) (points : List ℕ) (i q top : ℕ) (was is : List ℕ) → ¬ (q ≡ i) → q < m → top ≡ min (q + 1) (m - 1) → Grown v m points i q was →
-    Timed v q top points was is → Grown v m points i (q + 1) is
-unfolding column
-grown-more v m points i q top was is n hq ht g w = record { at = at }
-  where
-    N : ℕ → List Elem
-    N c = grown (ops .inv (differences (column v points c) i m)) (column v points c) i q
+  pub timed-of : (v q top : ℕ) (points was is carry : List ℕ) (t : ℕ) → t ≤ top + 1 → top < t → Timing f v q points was is carry t → Timed f v q top points was is
+  timed-of v q top points was is carry t h l g = record {
+    first = λ c k.
+        g .done 0 c (omega arith) k ∙ ap (λ x. ops .add x (ops .neg (ops .mul (cell f v was 0 c) (cell f v points q c)))) (carried-none v was c)
+        ∙ add-zero-left ops laws (ops .neg (ops .mul (cell f v was 0 c) (cell f v points q c)));
+    next = λ s c b k. g .done (suc s) c (omega arith) k ∙ ap (λ x. ops .add x (ops .neg (ops .mul (cell f v was (suc s) c) (cell f v points q c)))) (carried-more v was s c);
+    above = λ s c b k. g .rest s c (omega arith) k;
+  }
 
-    Q : ℕ → Elem
-    Q c = column v points c q
+  pub grown-more : (v m : ℕ) (points : List ℕ) (i q top : ℕ) (was is : List ℕ) → ¬ (q ≡ i) → q < m → top ≡ min (q + 1) (m - 1) → Grown f v m points i q was →
+      Timed f v q top points was is → Grown f v m points i (q + 1) is
+  unfolding column
+  grown-more v m points i q top was is n hq ht g w = record { at = at }
+    where
+      N : ℕ → List A
+      N c = grown f (ops .inv (ops .neg (differences f (column f v points c) i m))) (column f v points c) i q
 
-    point : (c : ℕ) → cell v points q c ≡ Q c
-    point c = refl
+      Q : ℕ → A
+      Q c = column f v points c q
 
-    next-is : (c : ℕ) → grown (ops .inv (differences (column v points c) i m)) (column v points c) i (q + 1) ≡ linear ops (Q c) (N c)
-    next-is c = grown-other (column v points c) i (ops .inv (differences (column v points c) i m)) q n
+      point : (c : ℕ) → cell f v points q c ≡ Q c
+      point c = refl
 
-    old : (t c : ℕ) → t < m → c < v → cell v was t c ≡ coeff ops (N c) t
-    old t c h k = g .at t c h k
+      next-is : (c : ℕ) → grown f (ops .inv (ops .neg (differences f (column f v points c) i m))) (column f v points c) i (q + 1) ≡ linear ops (Q c) (N c)
+      next-is c = grown-other W (column f v points c) i (ops .inv (ops .neg (differences f (column f v points c) i m))) q n
 
-    short : (c : ℕ) → length (N c) ≤ q + 1
-    short c = grown-length (column v points c) i (ops .inv (differences (column v points c) i m)) q
+      old : (t c : ℕ) → t < m → c < v → cell f v was t c ≡ coeff ops (N c) t
+      old t c h k = g .at t c h k
 
-    step : (t c : ℕ) → t < m → c < v → cell v is t c ≡ coeff ops (linear ops (Q c) (N c)) t
-    step zero c h k =
-        w .first c k ∙ ap₂ (ops .mul) (old 0 c h k) (point c) ∙ mul-comm ops laws _ _ ∙ sym (coeff-linear-zero ops laws (Q c) (N c) ∙ neg-is _)
-    step (suc t) c h k = go (decLt t top)
-      where
-        go : Dec (t < top) → cell v is (suc t) c ≡ coeff ops (linear ops (Q c) (N c)) (suc t)
-        go (yes l) =
-            w .next t c l k ∙ ap₂ (ops .add) (old t c (omega arith) k) (ap₂ (ops .mul) (old (suc t) c h k) (point c) ∙ mul-comm ops laws _ _ ∙ sym (neg-is _))
-            ∙ sym (coeff-linear-suc ops laws (Q c) (N c) t)
-        go (no l) =
-            w .above (suc t) c (omega arith) k ∙ old (suc t) c h k ∙ zero-at
-            ∙ sym (coeff-linear-suc ops laws (Q c) (N c) t
-            ∙ ap₂ (λ x y. ops .add x (ops .neg (ops .mul (Q c) y))) (coeff-past (N c) t (let e = short c in omega arith)) zero-at
-            ∙ ap (ops .add (ops .zero)) (neg-is _ ∙ mul-zero ops laws (Q c)) ∙ add-zero ops laws (ops .zero))
-          where
-            zero-at : coeff ops (N c) (suc t) ≡ ops .zero
-            zero-at = coeff-past (N c) (suc t) (let e = short c in omega arith)
+      short : (c : ℕ) → length (N c) ≤ q + 1
+      short c = grown-length W (column f v points c) i (ops .inv (ops .neg (differences f (column f v points c) i m))) q
 
-    at : (t c : ℕ) → t < m → c < v → cell v is t c ≡ coeff ops (grown (ops .inv (differences (column v points c) i m)) (column v points c) i (q + 1)) t
-    at t c h k = step t c h k ∙ ap (λ l. coeff ops l t) (sym (next-is c))
+      step : (t c : ℕ) → t < m → c < v → cell f v is t c ≡ coeff ops (linear ops (Q c) (N c)) t
+      step zero c h k =
+          w .first c k ∙ ap (ops .neg) (ap₂ (ops .mul) (old 0 c h k) (point c) ∙ mul-comm ops laws _ _) ∙ sym (coeff-linear-zero ops laws (Q c) (N c))
+      step (suc t) c h k = go (decLt t top)
+        where
+          go : Dec (t < top) → cell f v is (suc t) c ≡ coeff ops (linear ops (Q c) (N c)) (suc t)
+          go (yes l) =
+              w .next t c l k ∙ ap₂ (ops .add) (old t c (omega arith) k) (ap (ops .neg) (ap₂ (ops .mul) (old (suc t) c h k) (point c) ∙ mul-comm ops laws _ _))
+              ∙ sym (coeff-linear-suc ops laws (Q c) (N c) t)
+          go (no l) =
+              w .above (suc t) c (omega arith) k ∙ old (suc t) c h k ∙ zero-at
+              ∙ sym (coeff-linear-suc ops laws (Q c) (N c) t
+              ∙ ap₂ (λ x y. ops .add x (ops .neg (ops .mul (Q c) y))) (coeff-past W (N c) t (let e = short c in omega arith)) zero-at
+              ∙ ap (ops .add (ops .zero)) (ap (ops .neg) (mul-zero ops laws (Q c)) ∙ neg-zero ops laws) ∙ add-zero ops laws (ops .zero))
+            where
+              zero-at : coeff ops (N c) (suc t) ≡ ops .zero
+              zero-at = coeff-past W (N c) (suc t) (let e = short c in omega arith)
 
-pub coefficients-of : (v m : ℕ) (points : List ℕ) (i q : ℕ) (out : List ℕ) → Grown v m points i q out → q ≤ m → m ≤ q → Coefficients v m points i out
-coefficients-of v m points i q out g h l = record {
-  at = λ t c ht hc.
-      g .at t c ht hc ∙ ap (λ n. coeff ops (grown (ops .inv (differences (column v points c) i m)) (column v points c) i n) t) same
-      ∙ ap (λ l. coeff ops l t) (grown-basis (column v points c) i m);
-}
-  where
-    same : q ≡ m
-    same = omega arith
+      at : (t c : ℕ) → t < m → c < v → cell f v is t c ≡ coeff ops (grown f (ops .inv (ops .neg (differences f (column f v points c) i m))) (column f v points c) i (q + 1)) t
+      at t c h k = step t c h k ∙ ap (λ l. coeff ops l t) (sym (next-is c))
+
+  pub coefficients-of : (v m : ℕ) (points : List ℕ) (i q : ℕ) (out : List ℕ) → Grown f v m points i q out → q ≤ m → m ≤ q → Coefficients f v m points i out
+  coefficients-of v m points i q out g h l = record {
+    at = λ t c ht hc.
+        g .at t c ht hc ∙ ap (λ n. coeff ops (grown f (ops .inv (ops .neg (differences f (column f v points c) i m))) (column f v points c) i n) t) same
+        ∙ grown-neg W (column f v points c) i m t;
+  }
+    where
+      same : q ≡ m
+      same = omega arith
 
 -- ---- places
 pub columns-next : (v m : ℕ) (points was is : List ℕ) → Columns v m points was → length is ≡ length was → Columns v m points is

@@ -2,9 +2,11 @@
 // for each system; right sides and solutions have a row for each check and unknown, `run` places for each column, whose points are alike there, and the columns
 // come `turns` times over.
 // Promises the algebra's solution (`solve` in algebra/specs/Lagrange.antt) at every place, for any points and right sides.
+use symbol::plain::MINUS_ONE;
 ghost use mathlib.Core.Path.{_≡_};
 ghost use Prim.Native.Nat.{_+_, _-_, _*_, _<_, _≤_, min};
 ghost use lib.ListN.{length};
+ghost use Rattle.symbol.specs.Elem.{gf256};
 ghost use Rattle.kernel.specs.Runs.{Run, Inverses};
 ghost use Rattle.columns.specs.Columns.{Columns, Differences, Grown, Timed, Coefficients, weighted, stretched, Places, Systems, Combined, Solved};
 
@@ -13,8 +15,8 @@ const RUN: usize = 16;
 
 // The product of differences, the next point's unless it is point i itself.
 fn part_other(out: &mut [u8], v: usize, m: usize, i: usize, q: usize, points: &[u8])
-    requires { ⌜ Columns v m (now points) (now out) × (i < m) × (q < m) × Differences v (now points) i q (now out) ⌝ }
-    ensures { λ _. ⌜ Differences v (now (points .entry)) i (q + 1) (now (out .exit)) ⌝ }
+    requires { ⌜ Columns v m (now points) (now out) × (i < m) × (q < m) × Differences gf256 v (now points) i q (now out) ⌝ }
+    ensures { λ _. ⌜ Differences gf256 v (now (points .entry)) i (q + 1) (now (out .exit)) ⌝ }
 {
     if q == i {
         return;
@@ -22,12 +24,12 @@ fn part_other(out: &mut [u8], v: usize, m: usize, i: usize, q: usize, points: &[
     kernel::part(out, 0, v, points, i * v, q * v);
 }
 
-// The product, over the other points q, of (point i - q), in row 0.
+// Less the product, over the other points q, of (point i - q), in row 0.
 fn differences(out: &mut [u8], v: usize, m: usize, i: usize, points: &[u8])
     requires { ⌜ Columns v m (now points) (now out) × (i < m) ⌝ }
-    ensures { λ _. ⌜ Differences v (now (points .entry)) i m (now (out .exit)) ⌝ }
+    ensures { λ _. ⌜ Differences gf256 v (now (points .entry)) i m (now (out .exit)) ⌝ }
 {
-    kernel::fill(out, 0, v, 1);
+    kernel::fill(out, 0, v, MINUS_ONE);
     let mut q = 0usize;
     while q < m {
         part_other(out, v, m, i, q, points);
@@ -37,8 +39,8 @@ fn differences(out: &mut [u8], v: usize, m: usize, i: usize, points: &[u8])
 
 // The constant that the coefficients begin with: the inverse of that product.
 fn begin(out: &mut [u8], v: usize, m: usize, i: usize, points: &[u8], table: &[u8])
-    requires { ⌜ Columns v m (now points) (now out) × (i < m) × Inverses (now table) ⌝ }
-    ensures { λ _. ⌜ Grown v m (now (points .entry)) i 0 (now (out .exit)) ⌝ }
+    requires { ⌜ Columns v m (now points) (now out) × (i < m) × Inverses gf256 (now table) ⌝ }
+    ensures { λ _. ⌜ Grown gf256 v m (now (points .entry)) i 0 (now (out .exit)) ⌝ }
 {
     differences(out, v, m, i, points);
     kernel::look_up(out, 0, v, table);
@@ -48,7 +50,7 @@ fn begin(out: &mut [u8], v: usize, m: usize, i: usize, points: &[u8], table: &[u
 // (X - q) times the polynomials of rows 0 .. top, those above being zero. `carry` is room for a row.
 fn times(out: &mut [u8], carry: &mut [u8], v: usize, m: usize, top: usize, q: usize, points: &[u8])
     requires { ⌜ Columns v m (now points) (now out) × (v ≤ length (now carry)) × (top < m) × (q < m) ⌝ }
-    ensures { λ _. ⌜ Timed v q top (now (points .entry)) (now (out .entry)) (now (out .exit)) ⌝ }
+    ensures { λ _. ⌜ Timed gf256 v q top (now (points .entry)) (now (out .entry)) (now (out .exit)) ⌝ }
 {
     kernel::fill(carry, 0, v, 0);
     let mut t = 0usize;
@@ -68,8 +70,8 @@ fn top_row(m: usize, q: usize) -> usize
 
 // The next factor, unless it is that of point i itself.
 fn step(out: &mut [u8], carry: &mut [u8], v: usize, m: usize, i: usize, q: usize, points: &[u8])
-    requires { ⌜ Columns v m (now points) (now out) × (v ≤ length (now carry)) × (q < m) × Grown v m (now points) i q (now out) ⌝ }
-    ensures { λ _. ⌜ Grown v m (now (points .entry)) i (q + 1) (now (out .exit)) ⌝ }
+    requires { ⌜ Columns v m (now points) (now out) × (v ≤ length (now carry)) × (q < m) × Grown gf256 v m (now points) i q (now out) ⌝ }
+    ensures { λ _. ⌜ Grown gf256 v m (now (points .entry)) i (q + 1) (now (out .exit)) ⌝ }
 {
     if q == i {
         return;
@@ -78,7 +80,7 @@ fn step(out: &mut [u8], carry: &mut [u8], v: usize, m: usize, i: usize, q: usize
     times(out, carry, v, m, top, q, points);
 }
 
-// The coefficients of the product, over the other points q, of (X - q) / (point i - q), a row for each power of X.
+// Less the coefficients of the product, over the other points q, of (X - q) / (point i - q), a row for each power of X.
 fn coefficients(
     out: &mut [u8],
     carry: &mut [u8],
@@ -88,8 +90,8 @@ fn coefficients(
     points: &[u8],
     table: &[u8],
 )
-    requires { ⌜ Columns v m (now points) (now out) × (v ≤ length (now carry)) × (i < m) × Inverses (now table) ⌝ }
-    ensures { λ _. ⌜ Coefficients v m (now (points .entry)) i (now (out .exit)) ⌝ }
+    requires { ⌜ Columns v m (now points) (now out) × (v ≤ length (now carry)) × (i < m) × Inverses gf256 (now table) ⌝ }
+    ensures { λ _. ⌜ Coefficients gf256 v m (now (points .entry)) i (now (out .exit)) ⌝ }
 {
     begin(out, v, m, i, points, table);
     let mut q = 0usize;
@@ -112,7 +114,7 @@ fn add_columns(
     at: usize,
 )
     requires { ⌜ Places to v run turns (now found) (now sums) from (now coefs) at ⌝ }
-    ensures { λ _. ⌜ Run (weighted (now (found .entry)) to v run (now (sums .entry)) from (now (coefs .entry)) at) (now (found .entry)) (now (found .exit)) to (v * turns * run) ⌝ }
+    ensures { λ _. ⌜ Run (weighted gf256 (now (found .entry)) to v run (now (sums .entry)) from (now (coefs .entry)) at) (now (found .entry)) (now (found .exit)) to (v * turns * run) ⌝ }
 {
     let count = v * turns;
     let mut c = 0usize;
@@ -123,7 +125,7 @@ fn add_columns(
             run,
             sums,
             from + c * run,
-            coefs[at + c % v],
+            kernel::at(coefs, at + c % v),
         );
         c += 1;
     }
@@ -136,7 +138,7 @@ fn spread(row: &mut [u8], v: usize, run: usize, coefs: &[u8], at: usize)
 {
     let mut c = 0usize;
     while c < v {
-        kernel::fill(row, c * run, run, coefs[at + c]);
+        kernel::fill(row, c * run, run, kernel::at(coefs, at + c));
         c += 1;
     }
 }
@@ -155,7 +157,7 @@ fn add_row(
     row: &mut [u8],
 )
     requires { ⌜ Places to v run turns (now found) (now sums) from (now coefs) at × (v * turns * run ≤ length (now row)) ⌝ }
-    ensures { λ _. ⌜ Run (weighted (now (found .entry)) to v run (now (sums .entry)) from (now (coefs .entry)) at) (now (found .entry)) (now (found .exit)) to (v * turns * run) ⌝ }
+    ensures { λ _. ⌜ Run (weighted gf256 (now (found .entry)) to v run (now (sums .entry)) from (now (coefs .entry)) at) (now (found .entry)) (now (found .exit)) to (v * turns * run) ⌝ }
 {
     if RUN <= run {
         add_columns(found, to, v, run, turns, sums, from, coefs, at);
@@ -180,7 +182,7 @@ fn combine(
     row: &mut [u8],
 )
     requires { ⌜ Systems w v run turns m (now found) (now sums) (now coefs) (now row) × (i < m) ⌝ }
-    ensures { λ _. ⌜ Combined w v run m i (now (sums .entry)) (now (coefs .entry)) (now (found .entry)) (now (found .exit)) ⌝ }
+    ensures { λ _. ⌜ Combined gf256 w v run m i (now (sums .entry)) (now (coefs .entry)) (now (found .entry)) (now (found .exit)) ⌝ }
 {
     kernel::fill(found, i * w, w, 0);
     let mut t = 0usize;
@@ -190,7 +192,7 @@ fn combine(
     }
 }
 
-// The first n unknowns of every system, a row for each. `coefs` is room for a row of columns for each point, `row` for a row of places, and `table` has the
+// The first n unknowns of every system, a row for each: those whose checks make up for the sums, so that the right sides are less these. `coefs` is room for a row of columns for each point, `row` for a row of places, and `table` has the
 // inverses of all symbols.
 pub fn solve_first(
     found: &mut [u8],
@@ -206,8 +208,8 @@ pub fn solve_first(
     row: &mut [u8],
     table: &[u8],
 )
-    requires { ⌜ Systems w v run turns m (now found) (now sums) (now coefs) (now row) × (m * v ≤ length (now points)) × Inverses (now table) × (n ≤ m) ⌝ }
-    ensures { λ _. ⌜ Solved w v run m (now (sums .entry)) (now (points .entry)) (now (found .exit)) n ⌝ }
+    requires { ⌜ Systems w v run turns m (now found) (now sums) (now coefs) (now row) × (m * v ≤ length (now points)) × Inverses gf256 (now table) × (n ≤ m) ⌝ }
+    ensures { λ _. ⌜ Solved gf256 w v run m (now (sums .entry)) (now (points .entry)) (now (found .exit)) n ⌝ }
 {
     let mut i = 0usize;
     while i < n {
@@ -231,8 +233,8 @@ pub fn solve(
     row: &mut [u8],
     table: &[u8],
 )
-    requires { ⌜ Systems w v run turns m (now found) (now sums) (now coefs) (now row) × (m * v ≤ length (now points)) × Inverses (now table) ⌝ }
-    ensures { λ _. ⌜ Solved w v run m (now (sums .entry)) (now (points .entry)) (now (found .exit)) m ⌝ }
+    requires { ⌜ Systems w v run turns m (now found) (now sums) (now coefs) (now row) × (m * v ≤ length (now points)) × Inverses gf256 (now table) ⌝ }
+    ensures { λ _. ⌜ Solved gf256 w v run m (now (sums .entry)) (now (points .entry)) (now (found .exit)) m ⌝ }
 {
     solve_first(
         found,

@@ -15,8 +15,8 @@ use Rattle.layout.specs.declared.Layout.{Layout}
 use Rattle.layout.specs.Layout.{digits, layers, layerLimit}
 use Rattle.layout.proofs.Facts.{bounds}
 use Rattle.layout.proofs.Numbers.{digits-small, layer-below}
-use Rattle.syndrome.specs.Syndrome.{Block}
-use Rattle.syndrome.proofs.Digits.{run-pos}
+use Rattle.blocks.specs.Blocks.{Block}
+use Rattle.blocks.proofs.Digits.{run-pos}
 use Rattle.sums.specs.Inner.{Groups}
 use Rattle.sums.proofs.Sides.{width-pos}
 use Rattle.group.specs.Inner.{spot, Lying}

@@ -7,8 +7,6 @@ use native.Mathlib.Nat.{mod-one, mul-one, one-mul, not-suc-le-zero}
 use native.Mathlib.Decide.{ℕ-discrete}
 use native.Mathlib.Omega.{arith}
 use lib.ListN.{length, getD}
-use Rattle.lists.proofs.Numbers.{cell-in}
-use Rattle.algebra.specs.Coding.{InRange}
 use Rattle.algebra.specs.Lagrange.{solve}
 use Rattle.algebra.specs.Erasure.{rest, erased}
 use Rattle.algebra.specs.Points.{place}
@@ -16,8 +14,11 @@ use Rattle.algebra.specs.Layers.{digit, layerOf}
 use Rattle.algebra.proofs.Lagrange.{solve-congr}
 use Rattle.algebra.proofs.Erasure.{erased-congr}
 use Rattle.algebra.proofs.Layers.{digit-below, layer-digit, layer-group, layer-back}
-use Rattle.symbol.specs.Elem.{Elem, elem, ops, coding, gf256}
-use Rattle.symbol.proofs.Elem.{val-elem}
+use Rattle.algebra.specs.Field.{Ops}
+use Rattle.algebra.specs.Coding.{Coding}
+use Rattle.algebra.specs.Shape.{Field, FieldLaws}
+use Rattle.algebra.specs.Plain.{Working}
+use Rattle.algebra.proofs.Ring.{neg-neg}
 use Rattle.kernel.specs.Runs.{cell}
 use Rattle.kernel.proofs.Rows.{cell-is}
 use Rattle.columns.specs.Columns.{column, Systems, Solved}
@@ -27,7 +28,7 @@ use Rattle.layout.proofs.Facts.{bounds}
 use Rattle.layout.proofs.Numbers.{layer-below}
 use Rattle.codeword.specs.Codeword.{shapeOf}
 use Rattle.codeword.proofs.Usable.{usable}
-use Rattle.syndrome.specs.Syndrome.{Block}
+use Rattle.blocks.specs.Blocks.{Block}
 use Rattle.rule.specs.Rule.{groupAt, rackSymbol}
 use Rattle.rule.specs.Lost.{firstLost, lostPlace, Losses, Piece}
 use Rattle.rule.specs.Inner.{layerSum, lostSymbol}
@@ -66,101 +67,115 @@ found-in e w rests found places coefs row cur found′ g a = rw a (g .found-long
 pub points-in : (e w : ℕ) (rests found places coefs row cur : List ℕ) → Workspace e w rests found places coefs row cur → e * 1 ≤ length places
 points-in e w rests found places coefs row cur g = rw (mul-one e) (g .places-long)
 
-module _ (l : Layout) (h : ℕ) (lost host : List ℕ) (w first : ℕ) (sums : List ℕ) where
-  -- ---- a digit
-  module _ (a start run count stride : ℕ) (places rests found : List ℕ) (t : Lying l h w first a start run count stride) (p : LostPlaces l lost places)
-      (r : Rests l lost host w a start run stride sums rests) (s : Solved w 1 w (length lost) rests places found (length lost)) where
-    -- what the solver gives is the lost symbol
-    found-is : (i j : ℕ) → i < length lost → j < w → cell w found i j ≡ foundAt l lost host h w first sums a j i
-    unfolding foundAt erased column cell
-    found-is i j hi hj =
-        s .at i j hi hj
-        ∙ solve-congr ops (column 1 places (j / w % 1)) (λ k. place (shapeOf gf256 l) (lostPlace l lost k)) i (length lost) hi
-        (λ k hk. ap (λ n. elem (getD places n 0)) (number k (j / w % 1) (mod-one (j / w))) ∙ p .at k hk) _ _ (λ m hm. r .at m j hm hj)
-        ∙ ap (λ y. solve ops (λ k. place (shapeOf gf256 l) (lostPlace l lost k)) (length lost)
-        (rest ops (place (shapeOf gf256 l)) (l .size) (lostPlace l lost) (length lost) (λ m. cell w sums (m * digits l + a) j) (λ g. rackSymbol gf256 l host g y)) i) (t .at j hj)
-      where
-        number : (k c : ℕ) → c ≡ 0 → k * 1 + c ≡ k
-        number k c e = omega arith
+module _ {A : Type 0} {f : Field A} (W : Working f) where
+  open Field f using (ops)
+  open Coding (f .coding) using (elem, val, size)
+  open FieldLaws (W .field) using (laws)
 
-    pub digit-mended : (old new : List ℕ) → PutRows (layers l) w start run stride found old new (length lost) → DigitMended l h lost host w first sums a old new
-    digit-mended old new g = record {
-      long = g .long;
-      done = λ i j hi hj.
-          ap (λ y. elem (getD new (i * layers l + y) 0)) (sym (t .at j hj)) ∙ ap elem (g .done i j hi hj) ∙ cell-is w found i j ∙ found-is i j hi hj;
-      kept = λ i y hy f. g .kept i y hy (λ j hj e. f j hj (e ∙ t .at j hj));
+  module _ (l : Layout) (h : ℕ) (lost host : List ℕ) (w first : ℕ) (sums : List ℕ) where
+    -- ---- a digit
+    module _ (a start run count stride : ℕ) (places rests found : List ℕ) (t : Lying l h w first a start run count stride) (p : (LostPlaces f) l lost places)
+        (r : (Rests f) l lost host w a start run stride sums rests) (s : (Solved f) w 1 w (length lost) rests places found (length lost)) where
+      -- what the solver gives is the lost symbol
+      found-is : (i j : ℕ) → i < length lost → j < w → cell f w found i j ≡ foundAt f l lost host h w first sums a j i
+      unfolding foundAt erased column cell
+      found-is i j hi hj =
+          s .at i j hi hj
+          ∙ solve-congr ops (column f 1 places (j / w % 1)) (λ k. place (shapeOf f l) (lostPlace l lost k)) i (length lost) hi
+          (λ k hk. ap (λ n. elem (getD places n 0)) (number k (j / w % 1) (mod-one (j / w))) ∙ p .at k hk) _ _ (λ m hm. ap (ops .neg) (r .at m j hm hj) ∙ neg-neg ops laws _)
+          ∙ ap (λ y. solve ops (λ k. place (shapeOf f l) (lostPlace l lost k)) (length lost)
+          (rest ops (place (shapeOf f l)) (l .size) (lostPlace l lost) (length lost) (λ m. ops .neg (cell f w sums (m * digits l + a) j)) (λ g. rackSymbol f l host g y)) i) (t .at j hj)
+        where
+          number : (k c : ℕ) → c ≡ 0 → k * 1 + c ≡ k
+          number k c e = omega arith
+
+      pub digit-mended : (old new : List ℕ) → PutRows (layers l) w start run stride found old new (length lost) → DigitMended f l h lost host w first sums a old new
+      digit-mended old new g = record {
+        long = g .long;
+        done = λ i j hi hj.
+            ap (λ y. elem (getD new (i * layers l + y) 0)) (sym (t .at j hj)) ∙ ap elem (g .done i j hi hj) ∙ cell-is f w found i j ∙ found-is i j hi hj;
+        small = λ i j hi hj. subst (λ y. getD new (i * layers l + y) 0 < size) (t .at j hj) (rw (g .done i j hi hj) (s .small i j hi hj));
+        kept = λ i y hy out. g .kept i y hy (λ j hj e. out j hj (e ∙ t .at j hj));
+      }
+
+    -- ---- digit after digit
+    pub mended-none : (old : List ℕ) → BlockMended f l h lost host w first sums 0 old old
+    mended-none old = record { long = refl; done = λ i b j hi hb. absurd (not-suc-le-zero hb); small = λ i b j hi hb. absurd (not-suc-le-zero hb); kept = λ i y hy out. refl }
+
+    pub mended-more : (table : List ℕ) (a : ℕ) (old mid new : List ℕ) → Mending f l h lost host w first sums table → a < digits l → BlockMended f l h lost host w first sums a old mid →
+        DigitMended f l h lost host w first sums a mid new → BlockMended f l h lost host w first sums (a + 1) old new
+    mended-more table a old mid new q ha g d = record {
+      long = d .long ∙ g .long;
+      done = λ i b j hi hb hj. go i b j hi hb hj (ℕ-discrete b a);
+      small = λ i b j hi hb hj. low i b j hi hb hj (ℕ-discrete b a);
+      kept = λ i y hy out. d .kept i y hy (λ j hj. out a j ha hj) ∙ g .kept i y hy out;
     }
+      where
+        pos : 0 < digits l
+        pos = bounds l (q .losing .adm) .digits-low
 
-  -- ---- digit after digit
-  pub mended-none : (old : List ℕ) → BlockMended l h lost host w first sums 0 old old
-  mended-none old = record { long = refl; done = λ i b j hi hb. absurd (not-suc-le-zero hb); kept = λ i y hy f. refl }
+        stays : (i b j : ℕ) → b < a + 1 → j < w → ¬ (b ≡ a) →
+            getD new (i * layers l + layerOf (digits l) h (first + j) b) 0 ≡ getD mid (i * layers l + layerOf (digits l) h (first + j) b) 0
+        stays i b j hb hj n =
+            d .kept i (layerOf (digits l) h (first + j) b)
+            (layer-below l (q .losing .adm) h (first + j) b (q .losing .host-in) (let i = q .block .inside in omega arith) (omega arith))
+            (λ k hk e. n (sym (layer-digit (digits l) pos h (first + j) b (omega arith)) ∙ ap (λ y. digit (digits l) y h) e ∙ layer-digit (digits l) pos h (first + k) a ha))
 
-  pub mended-more : (table : List ℕ) (a : ℕ) (old mid new : List ℕ) → Mending l h lost host w first sums table → a < digits l → BlockMended l h lost host w first sums a old mid →
-      DigitMended l h lost host w first sums a mid new → BlockMended l h lost host w first sums (a + 1) old new
-  mended-more table a old mid new q ha g d = record {
-    long = d .long ∙ g .long;
-    done = λ i b j hi hb hj. go i b j hi hb hj (ℕ-discrete b a);
-    kept = λ i y hy f. d .kept i y hy (λ j hj. f a j ha hj) ∙ g .kept i y hy f;
-  }
-    where
-      pos : 0 < digits l
-      pos = bounds l (q .losing .adm) .digits-low
+        go : (i b j : ℕ) → i < length lost → b < a + 1 → j < w → Dec (b ≡ a) → elem (getD new (i * layers l + layerOf (digits l) h (first + j) b) 0) ≡ foundAt f l lost host h w first sums b j i
+        go i b j hi hb hj (yes e) =
+            subst (λ b. elem (getD new (i * layers l + layerOf (digits l) h (first + j) b) 0) ≡ foundAt f l lost host h w first sums b j i) (sym e) (d .done i j hi hj)
+        go i b j hi hb hj (no n) = ap elem (stays i b j hb hj n) ∙ g .done i b j hi (omega arith) hj
 
-      go : (i b j : ℕ) → i < length lost → b < a + 1 → j < w → Dec (b ≡ a) → elem (getD new (i * layers l + layerOf (digits l) h (first + j) b) 0) ≡ foundAt l lost host h w first sums b j i
-      go i b j hi hb hj (yes e) =
-          subst (λ b. elem (getD new (i * layers l + layerOf (digits l) h (first + j) b) 0) ≡ foundAt l lost host h w first sums b j i) (sym e) (d .done i j hi hj)
-      go i b j hi hb hj (no n) =
-          ap elem (d .kept i (layerOf (digits l) h (first + j) b)
-          (layer-below l (q .losing .adm) h (first + j) b (q .losing .host-in) (let i = q .block .inside in omega arith) (omega arith))
-          (λ k hk e. n (sym (layer-digit (digits l) pos h (first + j) b (omega arith)) ∙ ap (λ y. digit (digits l) y h) e ∙ layer-digit (digits l) pos h (first + k) a ha)))
-          ∙ g .done i b j hi (omega arith) hj
+        low : (i b j : ℕ) → i < length lost → b < a + 1 → j < w → Dec (b ≡ a) → getD new (i * layers l + layerOf (digits l) h (first + j) b) 0 < size
+        low i b j hi hb hj (yes e) = subst (λ b. getD new (i * layers l + layerOf (digits l) h (first + j) b) 0 < size) (sym e) (d .small i j hi hj)
+        low i b j hi hb hj (no n) = rw (stays i b j hb hj n) (g .small i b j hi (omega arith) hj)
 
-  pub mended-end : (a s : ℕ) (old new : List ℕ) → s ≡ digits l → BlockMended l h lost host w first sums a old new → a ≤ s → s ≤ a → BlockMended l h lost host w first sums (digits l) old new
-  mended-end a s old new es g p q = let e : a ≡ digits l = omega arith in subst (λ n. BlockMended l h lost host w first sums n old new) e g
+    pub mended-end : (a s : ℕ) (old new : List ℕ) → s ≡ digits l → BlockMended f l h lost host w first sums a old new → a ≤ s → s ≤ a → BlockMended f l h lost host w first sums (digits l) old new
+    mended-end a s old new es g p q = let e : a ≡ digits l = omega arith in subst (λ n. BlockMended f l h lost host w first sums n old new) e g
 
--- a block written whole, by the host's own sums, is as the rule fixes it
-module _ (l : Layout) (lost helpers shares host : List ℕ) (w first : ℕ) (sums : List ℕ) (adm : Admissible l) (given : Losses l lost helpers) (block : Block l w first)
-    (inside : first + w ≤ groups l) (S : SumsTo l (firstLost l lost / l .size) w first helpers shares (length lost) (length lost) sums) where
-  abbrev h : ℕ
-  h = firstLost l lost / l .size
+  -- a block written whole, by the host's own sums, is as the rule fixes it
+  module _ (l : Layout) (lost helpers shares host : List ℕ) (w first : ℕ) (sums : List ℕ) (adm : Admissible (f .order) l) (given : Losses l lost helpers) (block : Block l w first)
+      (inside : first + w ≤ groups l) (S : (SumsTo f) l (firstLost l lost / l .size) w first helpers shares (length lost) (length lost) sums) where
+    abbrev h : ℕ
+    h = firstLost l lost / l .size
 
-  pos : 0 < digits l
-  pos = bounds l adm .digits-low
+    pos : 0 < digits l
+    pos = bounds l (adm .cabinet) .digits-low
 
-  group-is : (y b j : ℕ) → b < digits l → y ≡ layerOf (digits l) h (first + j) b → groupAt l (firstLost l lost) y ≡ first + j
-  group-is y b j hb e = ap (groupAt l (firstLost l lost)) e ∙ layer-group (digits l) pos h (first + j) b hb
+    group-is : (y b j : ℕ) → b < digits l → y ≡ layerOf (digits l) h (first + j) b → groupAt l (firstLost l lost) y ≡ first + j
+    group-is y b j hb e = ap (groupAt l (firstLost l lost)) e ∙ layer-group (digits l) pos h (first + j) b hb
 
-  -- a layer of the block, by its group and digit
-  module _ (y j : ℕ) (hj : j < w) (eg : groupAt l (firstLost l lost) y ≡ first + j) where
-    layer-is : layerOf (digits l) h (first + j) (digit (digits l) y h) ≡ y
-    layer-is = ap (λ p. layerOf (digits l) h p (digit (digits l) y h)) (sym eg) ∙ layer-back (digits l) pos h y
+    -- a layer of the block, by its group and digit
+    module _ (y j : ℕ) (hj : j < w) (eg : groupAt l (firstLost l lost) y ≡ first + j) where
+      layer-is : layerOf (digits l) h (first + j) (digit (digits l) y h) ≡ y
+      layer-is = ap (λ p. layerOf (digits l) h p (digit (digits l) y h)) (sym eg) ∙ layer-back (digits l) pos h y
 
-    sum-is : (m : ℕ) → m < length lost → cell w sums (m * digits l + digit (digits l) y h) j ≡ layerSum gf256 l lost helpers shares y m
-    unfolding layerSum sumAt
-    sum-is m hm =
-        S .at m (digit (digits l) y h) j hm (digit-below (digits l) pos y h) hj
-        ∙ ap (λ r. sumAt l h r helpers shares (length lost) m (digit (digits l) y h)) (sym eg)
+      sum-is : (m : ℕ) → m < length lost → ops .neg (cell f w sums (m * digits l + digit (digits l) y h) j) ≡ layerSum f l lost helpers shares y m
+      unfolding layerSum sumAt
+      sum-is m hm =
+          ap (ops .neg) (S .at m (digit (digits l) y h) j hm (digit-below (digits l) pos y h) hj) ∙ neg-neg ops laws _
+          ∙ ap (λ r. sumAt f l h r helpers shares (length lost) m (digit (digits l) y h)) (sym eg)
 
-    symbol-is : (i : ℕ) → foundAt l lost host h w first sums (digit (digits l) y h) j i .val ≡ lostSymbol gf256 l lost helpers shares host i y
-    unfolding foundAt lostSymbol
-    symbol-is i =
-        ap (λ (v : Elem). v .val) (erased-congr ops (place (shapeOf gf256 l)) (l .size) (lostPlace l lost) (length lost) (lost-places gf256 l (usable l adm) lost helpers given) _ _ _ _
-        sum-is (record { at = λ g hg out. ap (rackSymbol gf256 l host g) layer-is }) i)
+      symbol-is : (i : ℕ) → val (foundAt f l lost host h w first sums (digit (digits l) y h) j i) ≡ lostSymbol f l lost helpers shares host i y
+      unfolding foundAt lostSymbol
+      symbol-is i =
+          ap val (erased-congr ops (place (shapeOf f l)) (l .size) (lostPlace l lost) (length lost) (lost-places f l (usable W l adm) lost helpers given) _ _ _ _
+          sum-is (record { at = λ g hg out. ap (rackSymbol f l host g) layer-is }) i)
 
-    written : (old new : List ℕ) → InRange coding new → length new ≡ length lost * layers l → BlockMended l h lost host w first sums (digits l) old new →
-        (i : ℕ) → i < length lost → y < layers l → getD new (i * layers l + y) 0 ≡ lostSymbol gf256 l lost helpers shares host i y
-    written old new range long q i k hy =
-        sym (val-elem _ (range .at (i * layers l + y) (rw long (cell-in (length lost) (layers l) i y k hy))))
-        ∙ ap (λ (v : Elem). v .val) (ap (λ x. elem (getD new (i * layers l + x) 0)) (sym layer-is) ∙ q .done i (digit (digits l) y h) j k (digit-below (digits l) pos y h) hj)
-        ∙ symbol-is i
+      written : (old new : List ℕ) → BlockMended f l h lost host w first sums (digits l) old new →
+          (i : ℕ) → i < length lost → y < layers l → getD new (i * layers l + y) 0 ≡ lostSymbol f l lost helpers shares host i y
+      written old new q i k hy =
+          sym (W .field .coded .val-elem _ (subst (λ x. getD new (i * layers l + x) 0 < size) layer-is (q .small i (digit (digits l) y h) j k (digit-below (digits l) pos y h) hj)))
+          ∙ ap val (ap (λ x. elem (getD new (i * layers l + x) 0)) (sym layer-is) ∙ q .done i (digit (digits l) y h) j k (digit-below (digits l) pos y h) hj)
+          ∙ symbol-is i
 
-  pub mended-piece : (old new : List ℕ) → InRange coding new → length new ≡ length lost * layers l → BlockMended l (firstLost l lost / l .size) lost host w first sums (digits l) old new →
-      Piece gf256 l lost helpers shares host first w old new
-  mended-piece old new range long q = record {
-    long = q .long;
-    done = λ p low high. is-ruled gf256 l (usable l adm) lost helpers given shares host p (omega arith) new (λ i k y hy e.
-        let b : p - first < w = omega arith in
-        let f : p ≡ first + (p - first) = omega arith in
-        written y (p - first) b (e ∙ f) old new range long q i k hy);
-    kept = λ i k y hy out. q .kept i y hy (λ b j hb hj e. out (let g : groupAt l (firstLost l lost) y ≡ first + j = group-is y b j hb e in (omega arith, omega arith)));
-  }
+    pub mended-piece : (old new : List ℕ) → BlockMended f l (firstLost l lost / l .size) lost host w first sums (digits l) old new →
+        Piece f l lost helpers shares host first w old new
+    mended-piece old new q = record {
+      long = q .long;
+      done = λ p low high. is-ruled f l (usable W l adm) lost helpers given shares host p (omega arith) new (λ i k y hy e.
+          let b : p - first < w = omega arith in
+          let c : p ≡ first + (p - first) = omega arith in
+          written y (p - first) b (e ∙ c) old new q i k hy);
+      kept = λ i k y hy out. q .kept i y hy (λ b j hb hj e. out (let g : groupAt l (firstLost l lost) y ≡ first + j = group-is y b j hb e in (omega arith, omega arith)));
+    }

@@ -7,7 +7,7 @@ ghost use Prim.Native.Nat.{_+_, _*_, _<_, _≤_};
 ghost use lib.ListN.{length};
 ghost use Rattle.symbol.specs.Elem.{gf256};
 ghost use Rattle.kernel.specs.Runs.{Run};
-ghost use Rattle.layout.specs.Layout.{digits, layers, Admissible};
+ghost use Rattle.layout.specs.Layout.{digits, layers, Cabinet};
 ghost use Rattle.syndrome.specs.Syndrome.{Room};
 ghost use Rattle.rule.specs.Rule.{rackSymbol};
 ghost use Rattle.sums.specs.Inner.{Groups};
@@ -27,7 +27,7 @@ fn runs_of(l: Layout, h: u32, w: usize, first: u32, a: u32) -> Runs
     ensures { λ r. ⌜ Lying l h w first a (r .start) (r .run) (r .count) (r .stride) ⌝ }
 {
     let s = layout::digit_count(l) as usize;
-    let q = syndrome::block_width(l, h);
+    let q = blocks::block_width(l, h);
     let run = lists::smaller(w as u64, q as u64) as usize;
     let start = layout::layer_of(l, h, first, a) as usize;
     Runs {
@@ -72,13 +72,13 @@ fn scatter(
 
 // Writes the factors of the lost places.
 fn fill_places(l: Layout, lost: &[u32], places: &mut [u8])
-    requires { ⌜ Admissible l × (length (now lost) ≤ length (now places)) ⌝ }
-    ensures { λ _. ⌜ LostPlaces l (now (lost .entry)) (now (places .exit)) ⌝ }
+    requires { ⌜ Cabinet l × (length (now lost) ≤ length (now places)) ⌝ }
+    ensures { λ _. ⌜ LostPlaces gf256 l (now (lost .entry)) (now (places .exit)) ⌝ }
 {
     let u = l.size;
     let mut i = 0usize;
     while i < lost.len() {
-        places[i] = codeword::place_power(l, lost[i] % u, 1).0;
+        kernel::fill(places, i, 1, points::place_power(l, lost[i] % u, 1));
         i += 1;
     }
 }
@@ -95,14 +95,14 @@ fn place_terms(
     cur: &mut [u8],
     row: &mut [u8],
 )
-    requires { ⌜ Admissible l × InTray l w (r .start) (r .run) (r .count) (r .stride) × Room w e (now rests) (now cur) (now row) × (length (now host) ≡ l .size * layers l) × (g < l .size) ⌝ }
-    ensures { λ _. ⌜ PlaceTerms l w e (λ j. rackSymbol gf256 l (now (host .entry)) g (spot (r .start) (r .run) (r .stride) j)) g (now (rests .entry)) (now (rests .exit)) ⌝ }
+    requires { ⌜ Cabinet l × InTray l w (r .start) (r .run) (r .count) (r .stride) × Room w e (now rests) (now cur) (now row) × (length (now host) ≡ l .size * layers l) × (g < l .size) ⌝ }
+    ensures { λ _. ⌜ PlaceTerms gf256 l w e (λ j. rackSymbol gf256 l (now (host .entry)) g (spot (r .start) (r .run) (r .stride) j)) g (now (rests .entry)) (now (rests .exit)) ⌝ }
 {
     let total = layout::layer_count(l) as usize;
     let start = g as usize * total + r.start;
     gather(cur, host, start, r.run, r.count, r.stride);
-    let p = codeword::place_power(l, g, 1);
-    kernel::fill(row, 0, w, p.0);
+    let p = points::place_power(l, g, 1);
+    kernel::fill(row, 0, w, p);
     syndrome::add_terms(rests, w, e, cur, row);
 }
 
@@ -120,7 +120,7 @@ fn sound_terms(
     row: &mut [u8],
 )
     requires { ⌜ Losing l h (now lost) (now host) × InTray l w (r .start) (r .run) (r .count) (r .stride) × Room w (length (now lost)) (now rests) (now cur) (now row) × (g < l .size) ⌝ }
-    ensures { λ _. ⌜ PlaceTerms l w (length (now (lost .entry))) (λ j. soundSymbol l (now (lost .entry)) (now (host .entry)) (spot (r .start) (r .run) (r .stride) j) g) g (now (rests .entry)) (now (rests .exit)) ⌝ }
+    ensures { λ _. ⌜ PlaceTerms gf256 l w (length (now (lost .entry))) (λ j. soundSymbol gf256 l (now (lost .entry)) (now (host .entry)) (spot (r .start) (r .run) (r .stride) j) g) g (now (rests .entry)) (now (rests .exit)) ⌝ }
 {
     let u = l.size;
     if !lists::is_absent(lost, h * u + g) {
@@ -132,7 +132,7 @@ fn sound_terms(
 // Every s-th row of the sums, from row a on.
 fn begin_rests(rests: &mut [u8], w: usize, e: usize, s: usize, a: usize, sums: &[u8])
     requires { ⌜ (e * w ≤ length (now rests)) × (e * s * w ≤ length (now sums)) × (a < s) × (0 < w) ⌝ }
-    ensures { λ _. ⌜ Begun w e s a (now (sums .entry)) (now (rests .exit)) ⌝ }
+    ensures { λ _. ⌜ Begun gf256 w e s a (now (sums .entry)) (now (rests .exit)) ⌝ }
 {
     let mut m = 0usize;
     while m < e {
@@ -141,7 +141,7 @@ fn begin_rests(rests: &mut [u8], w: usize, e: usize, s: usize, a: usize, sums: &
     }
 }
 
-// What the lost symbols of the layers with digit a must sum up to: the host's sums less the terms of its sound trays.
+// Less what the lost symbols of the layers with digit a must sum up to: the terms of the host's sound trays, less its sums.
 fn fill_rests(
     rests: &mut [u8],
     l: Layout,
@@ -156,7 +156,7 @@ fn fill_rests(
     row: &mut [u8],
 )
     requires { ⌜ Losing l h (now lost) (now host) × InTray l w (r .start) (r .run) (r .count) (r .stride) × Room w (length (now lost)) (now rests) (now cur) (now row) × (a < digits l) × (length (now lost) * digits l * w ≤ length (now sums)) ⌝ }
-    ensures { λ _. ⌜ Rests l (now (lost .entry)) (now (host .entry)) w a (r .start) (r .run) (r .stride) (now (sums .entry)) (now (rests .exit)) ⌝ }
+    ensures { λ _. ⌜ Rests gf256 l (now (lost .entry)) (now (host .entry)) w a (r .start) (r .run) (r .stride) (now (sums .entry)) (now (rests .exit)) ⌝ }
 {
     let u = l.size;
     let s = layout::digit_count(l) as usize;
@@ -170,7 +170,7 @@ fn fill_rests(
 
 // Writes e rows of what was found, each into the runs of its tray.
 fn put_rows(spare: &mut [u8], l: Layout, w: usize, e: usize, r: Runs, found: &[u8])
-    requires { ⌜ Admissible l × InTray l w (r .start) (r .run) (r .count) (r .stride) × (length (now spare) ≡ e * layers l) × (e * w ≤ length (now found)) ⌝ }
+    requires { ⌜ Cabinet l × InTray l w (r .start) (r .run) (r .count) (r .stride) × (length (now spare) ≡ e * layers l) × (e * w ≤ length (now found)) ⌝ }
     ensures { λ _. ⌜ PutRows (layers l) w (r .start) (r .run) (r .stride) (now (found .entry)) (now (spare .entry)) (now (spare .exit)) e ⌝ }
 {
     let total = layout::layer_count(l) as usize;
@@ -204,8 +204,8 @@ fn mend_digit(
     table: &[u8],
     spare: &mut [u8],
 )
-    requires { ⌜ Mending l h (now lost) (now host) w first (now sums) (now table) × (a < digits l) × Workspace (length (now lost)) w (now rests) (now found) (now places) (now coefs) (now row) (now cur) × LostPlaces l (now lost) (now places) × (length (now spare) ≡ length (now lost) * layers l) ⌝ }
-    ensures { λ _. ⌜ DigitMended l h (now (lost .entry)) (now (host .entry)) w first (now (sums .entry)) a (now (spare .entry)) (now (spare .exit)) ⌝ }
+    requires { ⌜ Mending gf256 l h (now lost) (now host) w first (now sums) (now table) × (a < digits l) × Workspace (length (now lost)) w (now rests) (now found) (now places) (now coefs) (now row) (now cur) × LostPlaces gf256 l (now lost) (now places) × (length (now spare) ≡ length (now lost) * layers l) ⌝ }
+    ensures { λ _. ⌜ DigitMended gf256 l h (now (lost .entry)) (now (host .entry)) w first (now (sums .entry)) a (now (spare .entry)) (now (spare .exit)) ⌝ }
 {
     let e = lost.len();
     let r = runs_of(l, h, w, first, a);
@@ -233,8 +233,8 @@ pub fn mend_block(
     table: &[u8],
     spare: &mut [u8],
 )
-    requires { ⌜ Mending l h (now lost) (now host) w first (now sums) (now table) × Workspace (length (now lost)) w (now rests) (now found) (now places) (now coefs) (now row) (now cur) × (length (now spare) ≡ length (now lost) * layers l) ⌝ }
-    ensures { λ _. ⌜ BlockMended l h (now (lost .entry)) (now (host .entry)) w first (now (sums .entry)) (digits l) (now (spare .entry)) (now (spare .exit)) ⌝ }
+    requires { ⌜ Mending gf256 l h (now lost) (now host) w first (now sums) (now table) × Workspace (length (now lost)) w (now rests) (now found) (now places) (now coefs) (now row) (now cur) × (length (now spare) ≡ length (now lost) * layers l) ⌝ }
+    ensures { λ _. ⌜ BlockMended gf256 l h (now (lost .entry)) (now (host .entry)) w first (now (sums .entry)) (digits l) (now (spare .entry)) (now (spare .exit)) ⌝ }
 {
     let s = layout::digit_count(l);
     fill_places(l, lost, places);

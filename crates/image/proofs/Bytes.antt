@@ -10,20 +10,21 @@ use borrow.Author.Tests.{eqb-true, eq-eqb}
 use Rattle.lists.proofs.Bools.{all-holds, all-true, all-false}
 use Rattle.layout.specs.declared.Layout.{Layout}
 use Rattle.layout.specs.Layout.{layers}
-use Rattle.image.specs.Image.{headerLength, edition, little, header, begins}
+use Rattle.image.specs.declared.Edition.{Edition}
+use Rattle.image.specs.Image.{headerLength, little, header, begins}
 
-module _ (l : Layout) (tray state volume : ℕ) where
+module _ (ed : Edition) (l : Layout) (tray state volume : ℕ) where
   -- the header byte for byte
   pub header-is : (total x : ℕ) → total ≡ layers l → x ≡ tray →
       _≡_ {A = List ℕ}
-      (headerLength ∷ 0 ∷ edition ∷ state % 256 ∷ l .racks % 256 ∷ l .size % 256 ∷ l .dimension % 256 ∷ l .helpers % 256 ∷ x % 256 ∷ 0 ∷ 0 ∷ 0
+      (headerLength ∷ 0 ∷ ed .number % 256 ∷ state % 256 ∷ l .racks % 256 ∷ l .size % 256 ∷ l .dimension % 256 ∷ l .helpers % 256 ∷ x % 256 ∷ 0 ∷ 0 ∷ 0
       ∷ volume % 256 ∷ volume / 256 % 256 ∷ volume / 256 / 256 % 256 ∷ volume / 256 / 256 / 256 % 256 ∷ headerLength ∷ 0 ∷ 0 ∷ 0
       ∷ total % 256 ∷ total / 256 % 256 ∷ total / 256 / 256 % 256 ∷ total / 256 / 256 / 256 % 256 ∷ [])
-      (header l tray state volume)
+      (header ed l tray state volume)
   unfolding header little
   header-is total x e f = rw (e, f) refl
 
-  pub header-length : length (header l tray state volume) ≡ headerLength
+  pub header-length : length (header ed l tray state volume) ≡ headerLength
   unfolding header little
   header-length = refl
 

@@ -4,7 +4,6 @@
 use mathlib.Core.Path.{_≡_, refl, sym, ap, subst, _∙_}
 use mathlib.Core.Bool.{true}
 use mathlib.Core.List.{List, [], _∷_, _++_}
-use mathlib.Core.Logic.{_↔_}
 use Prim.Native.Nat.{ℕ, zero, suc, _+_, _*_, _/_, _%_, _^_, _<_}
 use native.Mathlib.Omega.{arith}
 use lib.Dec.{eqb, lit<}
@@ -14,41 +13,29 @@ use Rattle.lists.specs.Lists.{all}
 use Rattle.layout.specs.declared.Layout.{Layout}
 use Rattle.layout.specs.Layout.{layers, layerLimit}
 use Rattle.layout.proofs.Facts.{admissible-facts, facts-admissible}
-use Rattle.image.specs.Image.{headerLength, edition, little, numberAt, header, ownLayout, ownState, ownTray, ownVolume, ownHeader, begins, wellFormed}
+use Rattle.image.specs.declared.Edition.{Edition}
+use Rattle.image.specs.Image.{headerLength, little, numberAt, header, ownLayout, ownState, ownTray, ownVolume, ownHeader, begins, wellFormed}
 use Rattle.image.specs.Rules.{Rules}
+use Rattle.image.specs.Claims.{FormedExactly}
+use Rattle.image.specs.Inner.{Proper}
+use Rattle.image.proofs.Numbers.{window, bytes-of}
 use Rattle.image.proofs.Bytes.{header-length, begins-split}
 use Rattle.image.proofs.Forms.{formed-facts, facts-formed}
-use Rattle.image.proofs.Written.{four-bytes}
+use Rattle.image.proofs.Written.{one-byte, four-bytes}
 
--- so many bytes of a list from a place on
-abbrev window : ℕ → ℕ → List ℕ → List ℕ
-window at zero s = []
-window at (suc n) s = getD s at 0 ∷ window (suc at) n s
-
-module _ (s : List ℕ) (byte : (i : ℕ) → getD s i 0 < 256) where
-  -- the number that bytes hold has these bytes
-  bytes-of : (n at : ℕ) → little n (numberAt at n s) ≡ window at n s
-  unfolding little
-  bytes-of zero at = refl
-  bytes-of (suc n) at =
-      let m = numberAt (suc at) n s in
-      let b = byte at in
-      let p : (getD s at 0 + 256 * m) % 256 ≡ getD s at 0 = omega arith in
-      let q : (getD s at 0 + 256 * m) / 256 ≡ m = omega arith in
-      rw (p, q) (ap (λ (t : List ℕ). getD s at 0 ∷ t) (bytes-of n (suc at)))
-
+module _ (ed : Edition) (g : Proper ed) (s : List ℕ) (byte : (i : ℕ) → getD s i 0 < 256) where
   -- an entry of the table, where the list holds its number
   entry : (n at x : ℕ) → x ≡ numberAt at n s → little n x ≡ window at n s
-  entry n at x e = ap (little n) e ∙ bytes-of n at
+  entry n at x e = ap (little n) e ∙ bytes-of n at s (λ j h. byte (at + j))
 
   one : (at : ℕ) → getD s at 0 ≡ numberAt at 1 s
   one at = omega arith
 
-  own-header : Rules s → ownHeader s ≡ window 0 headerLength s
+  own-header : Rules ed s → ownHeader ed s ≡ window 0 headerLength s
   unfolding header ownLayout
   own-header r = λ i.
       entry 2 0 headerLength (sym (r .length-is)) i
-      ++ entry 1 2 edition (sym (r .edition-is)) i
+      ++ entry 1 2 (ed .number) (sym (r .edition-is)) i
       ++ entry 1 3 (ownState s) (one 3) i
       ++ entry 1 4 (getD s 4 0) (one 4) i
       ++ entry 1 5 (getD s 5 0) (one 5) i
@@ -67,36 +54,40 @@ module _ (s : List ℕ) (byte : (i : ℕ) → getD s i 0 < 256) where
   unfolding begins all
   begins-window = simp same
 
-  rules-formed : Rules s → wellFormed s ≡ true
+  rules-formed : Rules ed s → wellFormed ed s ≡ true
   rules-formed r =
-      facts-formed s (record {
-        long = r .long;
-        adm = admissible-facts (ownLayout s) (r .layout-ok);
-        whole = r .whole;
-        range = record { tray-in = r .tray-in; state-ok = r .state-ok; volume-ok = r .volume-ok };
-        front = ap (begins s) (own-header r) ∙ begins-window;
+      facts-formed ed s g (record {
+        head = record {
+          long = r .long;
+          adm = admissible-facts (ed .order) (ownLayout s) (r .layout-ok);
+          whole = r .whole;
+          range = record { tray-in = r .tray-in; state-ok = r .state-ok; volume-ok = r .volume-ok };
+          front = ap (begins s) (own-header r) ∙ begins-window;
+        };
+        held = r .symbols-in;
       })
 
 -- the entries that the table fixes, in a list that begins with a header
-record Fixed (s : List ℕ) (total : ℕ) : Type 0 where
+record Fixed (ed : Edition) (s : List ℕ) (total : ℕ) : Type 0 where
   length-is : numberAt 0 2 s ≡ headerLength
-  edition-is : numberAt 2 1 s ≡ edition
+  edition-is : numberAt 2 1 s ≡ ed .number
   zero-is : numberAt 9 3 s ≡ 0
   offset-is : numberAt 16 4 s ≡ headerLength
   count-is : numberAt 20 4 s ≡ total
 
-fixed : (l : Layout) (tray state volume : ℕ) (rest : List ℕ) → layers l < 2 ^ 32 → Fixed (header l tray state volume ++ rest) (layers l)
+fixed : (ed : Edition) → Proper ed → (l : Layout) (tray state volume : ℕ) (rest : List ℕ) → layers l < 2 ^ 32 → Fixed ed (header ed l tray state volume ++ rest) (layers l)
 unfolding header little
-fixed l tray state volume rest h = record { length-is = refl; edition-is = refl; zero-is = refl; offset-is = refl; count-is = four-bytes (layers l) h }
+fixed ed g l tray state volume rest h = record { length-is = refl; edition-is = one-byte (ed .number) (g .number-in); zero-is = refl; offset-is = refl; count-is = four-bytes (layers l) h }
 
-formed-rules : (s : List ℕ) → wellFormed s ≡ true → Rules s
-formed-rules s h =
-    let w = formed-facts s h in
-    let a = w .adm in
-    let n = header-length (ownLayout s) (ownTray s) (ownState s) (ownVolume s) in
+pub formed-rules : (ed : Edition) → Proper ed → (s : List ℕ) → wellFormed ed s ≡ true → Rules ed s
+formed-rules ed g s h =
+    let t = formed-facts ed s g h in
+    let w = t .head in
+    let a = w .adm .cabinet in
+    let n = header-length ed (ownLayout s) (ownTray s) (ownState s) (ownVolume s) in
     let q : layerLimit < 2 ^ 32 = lit< tt in
-    let f = subst (λ t. Fixed t (layers (ownLayout s))) (sym (begins-split s (ownHeader s) (omega (arith, n, w .long)) (w .front)))
-    (fixed (ownLayout s) (ownTray s) (ownState s) (ownVolume s) (drop (length (ownHeader s)) s) (omega arith)) in
+    let f = subst (λ t. Fixed ed t (layers (ownLayout s))) (sym (begins-split s (ownHeader ed s) (omega (arith, n, w .long)) (w .front)))
+    (fixed ed g (ownLayout s) (ownTray s) (ownState s) (ownVolume s) (drop (length (ownHeader ed s)) s) (omega arith)) in
     record {
       long = w .long;
       length-is = f .length-is;
@@ -106,10 +97,11 @@ formed-rules s h =
       volume-ok = w .range .volume-ok;
       offset-is = f .offset-is;
       count-is = f .count-is;
-      layout-ok = sym (facts-admissible (ownLayout s) a);
+      layout-ok = sym (facts-admissible (ed .order) (ownLayout s) (w .adm));
       tray-in = w .range .tray-in;
       whole = w .whole;
+      symbols-in = t .held;
     }
 
-pub formed-exactly : (s : List ℕ) → ((i : ℕ) → getD s i 0 < 256) → (wellFormed s ≡ true) ↔ Rules s
-formed-exactly s byte = (formed-rules s, rules-formed s byte)
+pub formed-exactly : (ed : Edition) → Proper ed → FormedExactly ed
+formed-exactly ed g s byte = (formed-rules ed g s, rules-formed ed g s byte)

@@ -1,3 +1,5 @@
+pub mod Editions
+pub mod Numbers
 pub mod Bytes
 pub mod Ranges
 pub mod WriteGrounds
@@ -10,4 +12,7 @@ pub mod RoundTrip
 pub mod AcceptedExactly
 pub mod LiveOnly
 pub mod HeaderRules
+pub mod OtherEdition
+pub mod Both
+pub mod First
 pub mod WorkedExample

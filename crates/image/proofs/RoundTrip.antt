@@ -1,4 +1,4 @@
--- What was written live is read back: no refusal, that tray and those symbols, whatever the lent bytes held.
+-- What was written live is read back: no refusal, that tray and those symbols, whatever the lent bytes and the lent places held.
 -- Assumes nothing.
 use mathlib.Core.Path.{_≡_, refl, sym, ap, _∙_}
 use mathlib.Core.Bool.{true}
@@ -6,36 +6,46 @@ use mathlib.Core.List.{List, _++_}
 use Prim.Native.Nat.{ℕ, _^_, _<_}
 use lib.ListN.{length}
 use Rattle.layout.specs.declared.Layout.{Layout}
+use Rattle.layout.specs.Layout.{layers}
 use Rattle.layout.proofs.Facts.{facts-admissible}
-use Rattle.image.specs.Image.{live, header, writeRefusal, writeBuffer, ownLayout, readRefusal, readTray, readPart}
+use Rattle.image.specs.declared.Edition.{Edition}
+use Rattle.image.specs.Image.{live, header, symbolBytes, writeRefusal, writeBuffer, ownLayout, readRefusal, readTray, readSymbols}
+use Rattle.image.specs.Claims.{Gives, RoundTrip}
+use Rattle.image.specs.Inner.{Proper}
 use Rattle.image.proofs.WriteGrounds.{Writable, writable, written}
 use Rattle.image.proofs.Forms.{facts-formed}
 use Rattle.image.proofs.SameLayout.{same-self}
-use Rattle.image.proofs.ReadGrounds.{read-0, given-symbols, given-tray}
+use Rattle.image.proofs.ReadGrounds.{formed-0, read-formed, given-symbols, given-tray}
 use Rattle.image.proofs.Written.{its-layout, its-state, its-tray, its-volume, its-symbols, well-formed}
 
-module _ (l : Layout) (tray volume : ℕ) (symbols old : List ℕ) (v : volume < 2 ^ 32)
-    (done : writeRefusal l tray live volume (length symbols) (length old) ≡ 0) where
-  w : Writable l tray live volume (length symbols) (length old)
-  w = writable l tray live volume (length symbols) (length old) done
+module _ (ed : Edition) (g : Proper ed) (l : Layout) (tray volume : ℕ) (symbols old refused : List ℕ) (v : volume < 2 ^ 32)
+    (done : writeRefusal ed l tray live volume symbols (length old) ≡ 0) where
+  w : Writable ed l tray live volume symbols (length old)
+  w = writable ed l tray live volume symbols (length old) g done
 
   abbrev image : List ℕ
-  image = header l tray live volume ++ symbols
+  image = header ed l tray live volume ++ symbolBytes (ed .width) symbols
 
-  accepted : 0 ≡ readRefusal l volume image
+  same : l ≡ ownLayout image
+  same = sym (its-layout ed g l tray live volume symbols (length old) w v)
+
+  accepted : 0 ≡ readRefusal ed l volume (layers l) image
   accepted =
-      read-0 l volume image true (facts-admissible l (w .adm)) refl true (sym (facts-formed image (well-formed l tray live volume symbols (length old) w v))) refl
-      live (sym (its-state l tray live volume symbols (length old) w v)) refl
-      (ownLayout image) true refl (sym (same-self l (ownLayout image) (sym (its-layout l tray live volume symbols (length old) w v)))) refl
-      volume (sym (its-volume l tray live volume symbols (length old) w v)) refl
+      read-formed ed l volume (layers l) image true (facts-admissible (ed .order) l (w .adm)) refl
+      (layers l) refl refl true (sym (facts-formed ed image g (well-formed ed g l tray live volume symbols (length old) w v))) refl
+      0 (formed-0 l volume image live (sym (its-state ed g l tray live volume symbols (length old) w v)) refl
+      (ownLayout image) true refl (sym (same-self l (ownLayout image) same)) refl
+      volume (sym (its-volume ed g l tray live volume symbols (length old) w v)) refl)
 
-  pub round-trip :
-      (readRefusal l volume (writeBuffer l tray live volume symbols old) ≡ 0)
-      × (readTray l volume (writeBuffer l tray live volume symbols old) ≡ tray)
-      × (readPart l volume (writeBuffer l tray live volume symbols old) ≡ symbols)
-  round-trip =
-      let is = sym (written l tray live volume symbols old done) in (
-        ap (readRefusal l volume) is ∙ sym accepted,
-        ap (readTray l volume) is ∙ sym (given-tray l volume image 0 accepted refl tray tray (sym (its-tray l tray live volume symbols (length old) w v)) refl),
-        ap (readPart l volume) is ∙ sym (given-symbols l volume image 0 accepted refl) ∙ its-symbols l tray live volume symbols (length old) w v,
+  gives : Gives ed l volume (layers l) refused (writeBuffer ed l tray live volume symbols old) tray symbols
+  gives =
+      let is = sym (written ed l tray live volume symbols old done) in
+      let x = sym (its-tray ed g l tray live volume symbols (length old) w v) in
+      let xs = its-symbols ed g l tray live volume symbols (length old) w v in (
+        ap (readRefusal ed l volume (layers l)) is ∙ sym accepted,
+        ap (readTray ed l volume (layers l)) is ∙ sym (given-tray ed l volume (layers l) image 0 accepted refl tray tray x refl),
+        ap (readSymbols ed l volume (layers l) refused) is ∙ sym (given-symbols ed l volume (layers l) image 0 accepted refl refused) ∙ xs,
       )
+
+pub round-trip : (ed : Edition) → Proper ed → RoundTrip ed
+round-trip = gives

@@ -1,20 +1,30 @@
--- Tray images: a header of 24 bytes by document 01's table, then the symbols; and what writing and reading give.
+-- Tray images: a header of 24 bytes by document 01's table, then the symbols; and what writing and reading give. An edition says what the images of a field
+-- have of their own: its number, the order of the field's root, how many symbols the field has, and the bytes that a symbol takes.
 -- Assumes nothing.
 use mathlib.Core.Bool.{Bool, cond, _&&_, _||_, not}
 use mathlib.Core.List.{List, [], _∷_, _++_}
 use Prim.Native.Nat.{ℕ, zero, suc, _+_, _*_, _/_, _%_}
 use lib.Dec.{leb, ltb, eqb}
-use lib.ListN.{length, getD, drop}
-use Rattle.lists.specs.Lists.{unless, all}
+use lib.ListN.{length, getD}
+use Rattle.lists.specs.Lists.{table, unless, all, allBelow}
 use Rattle.layout.specs.declared.Layout.{Layout}
 use Rattle.layout.specs.Layout.{trays, layers, admissible}
+use Rattle.image.specs.declared.Edition.{Edition}
 
--- the length of the header, where the symbols start, and the edition
+-- images over the field of 256, and over the whole numbers modulo 257 (document 02, W10)
+abbrev pub edition1 : Edition
+edition1 = record { number = 1; order = 255; size = 256; width = 1 }
+
+abbrev pub edition2 : Edition
+edition2 = record { number = 2; order = 256; size = 257; width = 2 }
+
+-- the length of the header, where the symbols start
 abbrev pub headerLength : ℕ
 headerLength = 24
 
-abbrev pub edition : ℕ
-edition = 1
+-- the length of an image: 24 + L, and 24 + 2·L
+abbrev pub imageLength : Edition → Layout → ℕ
+imageLength e l = headerLength + e .width * layers l
 
 -- the states of an image
 abbrev pub live : ℕ
@@ -34,10 +44,10 @@ numberAt at zero s = 0
 numberAt at (suc n) s = getD s at 0 + 256 * numberAt (suc at) n s
 
 -- the header: document 01's table from the top down, each entry with the bytes it takes
-unfoldable pub header : Layout → ℕ → ℕ → ℕ → List ℕ
-header l tray state volume =
+unfoldable pub header : Edition → Layout → ℕ → ℕ → ℕ → List ℕ
+header e l tray state volume =
     little 2 headerLength
-    ++ little 1 edition
+    ++ little 1 (e .number)
     ++ little 1 state
     ++ little 1 (l .racks)
     ++ little 1 (l .size)
@@ -48,6 +58,11 @@ header l tray state volume =
     ++ little 4 volume
     ++ little 4 headerLength
     ++ little 4 (layers l)
+
+-- symbols, each in so many bytes
+unfoldable pub symbolBytes : ℕ → List ℕ → List ℕ
+symbolBytes w [] = []
+symbolBytes w (x ∷ xs) = little w x ++ symbolBytes w xs
 
 -- which states an image may have, and which volume numbers: not 0, which is what a reset tray comes up with
 unfoldable pub stateAllowed : ℕ → Bool
@@ -62,18 +77,22 @@ inRange l tray state volume = ltb tray (trays l) && stateAllowed state && volume
 
 -- WRITING
 
--- the refusal, 0 for none; the symbols lent are count, the bytes for the image room
-unfoldable pub writeRefusal : Layout → ℕ → ℕ → ℕ → ℕ → ℕ → ℕ
-writeRefusal l tray state volume count room =
-    unless (admissible l) 1
-    (unless (eqb count (layers l) && eqb room (headerLength + layers l)) 2
-    (unless (inRange l tray state volume) 3 0))
+-- the grounds; the numbers lent for symbols are count, ok says whether they are symbols, and the bytes for the image are room
+unfoldable pub writeGrounds : Edition → Layout → ℕ → ℕ → ℕ → ℕ → Bool → ℕ → ℕ
+writeGrounds e l tray state volume count ok room =
+    unless (admissible (e .order) l) 1
+    (unless (eqb count (layers l) && eqb room (imageLength e l)) 2
+    (unless (inRange l tray state volume && ok) 3 0))
+
+-- the refusal, 0 for none
+abbrev pub writeRefusal : Edition → Layout → ℕ → ℕ → ℕ → List ℕ → ℕ → ℕ
+writeRefusal e l tray state volume symbols room = writeGrounds e l tray state volume (length symbols) (allBelow symbols (e .size)) room
 
 -- the lent bytes of the image afterwards
-unfoldable pub writeBuffer : Layout → ℕ → ℕ → ℕ → List ℕ → List ℕ → List ℕ
-writeBuffer l tray state volume symbols image =
-    cond (eqb (writeRefusal l tray state volume (length symbols) (length image)) 0)
-    (header l tray state volume ++ symbols)
+unfoldable pub writeBuffer : Edition → Layout → ℕ → ℕ → ℕ → List ℕ → List ℕ → List ℕ
+writeBuffer e l tray state volume symbols image =
+    cond (eqb (writeRefusal e l tray state volume symbols (length image)) 0)
+    (header e l tray state volume ++ symbolBytes (e .width) symbols)
     image
 
 -- READING
@@ -92,22 +111,37 @@ abbrev pub ownVolume : List ℕ → ℕ
 ownVolume s = numberAt 12 4 s
 
 -- the header of all this
-abbrev pub ownHeader : List ℕ → List ℕ
-ownHeader s = header (ownLayout s) (ownTray s) (ownState s) (ownVolume s)
+abbrev pub ownHeader : Edition → List ℕ → List ℕ
+ownHeader e s = header e (ownLayout s) (ownTray s) (ownState s) (ownVolume s)
+
+-- its symbols
+abbrev pub symbolAt : Edition → List ℕ → ℕ → ℕ
+symbolAt e s j = numberAt (headerLength + e .width * j) (e .width) s
+
+unfoldable pub ownSymbols : Edition → List ℕ → List ℕ
+ownSymbols e s = table (symbolAt e s) (layers (ownLayout s))
+
+-- whether the first so many are symbols of the field
+unfoldable pub symbolsHeld : Edition → List ℕ → ℕ → Bool
+symbolsHeld e s n = all (λ j. ltb (symbolAt e s j) (e .size)) n
 
 -- whether a list begins with another
 unfoldable pub begins : List ℕ → List ℕ → Bool
 begins s front = all (λ i. eqb (getD s i 0) (getD front i 0)) (length front)
 
--- an image that is not malformed, all by what it says of itself: a whole header, an admissible layout, the length 24 + L, a tray below n, a state and
--- volume allowed, and no other header than the one of what it says
-unfoldable pub wellFormed : List ℕ → Bool
-wellFormed s =
+-- an image whose header and length are not malformed, all by what it says of itself: a whole header, an admissible layout, the length, a tray below n, a state
+-- and volume allowed, and no other header than the one of what it says
+unfoldable pub headerFormed : Edition → List ℕ → Bool
+headerFormed e s =
     leb headerLength (length s)
-    && admissible (ownLayout s)
-    && eqb (length s) (headerLength + layers (ownLayout s))
+    && admissible (e .order) (ownLayout s)
+    && eqb (length s) (imageLength e (ownLayout s))
     && inRange (ownLayout s) (ownTray s) (ownState s) (ownVolume s)
-    && begins s (ownHeader s)
+    && begins s (ownHeader e s)
+
+-- an image that is not malformed
+unfoldable pub wellFormed : Edition → List ℕ → Bool
+wellFormed e s = headerFormed e s && symbolsHeld e s (layers (ownLayout s))
 
 -- the same four numbers
 unfoldable pub sameLayout : Layout → Layout → Bool
@@ -118,16 +152,22 @@ sameLayout l m =
 abbrev pub expected : Layout → ℕ → List ℕ → Bool
 expected l volume s = sameLayout l (ownLayout s) && eqb volume (ownVolume s)
 
--- the refusal, 0 for none
-unfoldable pub readRefusal : Layout → ℕ → List ℕ → ℕ
-readRefusal l volume s =
-    unless (admissible l) 1
-    (unless (wellFormed s) 9
-    (unless (eqb (ownState s) live) 10 (unless (expected l volume s) 11 0)))
+-- the grounds of a well-formed image
+unfoldable pub formedRefusal : Layout → ℕ → List ℕ → ℕ
+formedRefusal l volume s = unless (eqb (ownState s) live) 10 (unless (expected l volume s) 11 0)
 
--- the tray number and the symbols that are given; 0 and none with a refusal
-unfoldable pub readTray : Layout → ℕ → List ℕ → ℕ
-readTray l volume s = cond (eqb (readRefusal l volume s) 0) (ownTray s) 0
+-- the refusal, 0 for none, where the symbols go to so many places: edition 2 copies them to lent ones; edition 1 hands out the part of the image that holds
+-- them, which has the places L that it must have
+unfoldable pub readRefusal : Edition → Layout → ℕ → ℕ → List ℕ → ℕ
+readRefusal e l volume places s =
+    unless (admissible (e .order) l) 1
+    (unless (eqb places (layers l)) 2
+    (unless (wellFormed e s) 9 (formedRefusal l volume s)))
 
-unfoldable pub readPart : Layout → ℕ → List ℕ → List ℕ
-readPart l volume s = cond (eqb (readRefusal l volume s) 0) (drop headerLength s) []
+-- the tray number that is given; 0 with a refusal
+unfoldable pub readTray : Edition → Layout → ℕ → ℕ → List ℕ → ℕ
+readTray e l volume places s = cond (eqb (readRefusal e l volume places s) 0) (ownTray s) 0
+
+-- the symbols that are given, and what there is with a refusal: in edition 1 an empty part, in edition 2 the lent places as they were
+unfoldable pub readSymbols : Edition → Layout → ℕ → ℕ → List ℕ → List ℕ → List ℕ
+readSymbols e l volume places refused s = cond (eqb (readRefusal e l volume places s) 0) (ownSymbols e s) refused

@@ -1,3 +1,4 @@
 pub mod Image
 pub mod Rules
+pub mod Claims
 pub mod Inner

@@ -1,26 +1,30 @@
--- Ground 9 in document 01's own words, with document 02's rule for volume 0 (W5). That it says the same as `wellFormed` is a theorem (proofs/HeaderRules.antt).
+-- Ground 9 in document 01's own words, with document 02's rules for volume 0 (W5) and for the symbols (W10), for the images of an edition. That it says the
+-- same as `wellFormed` is a theorem (proofs/HeaderRules.antt).
 -- Assumes nothing.
 use mathlib.Core.Path.{_≡_}
 use mathlib.Core.Bool.{true}
 use mathlib.Core.List.{List}
-use Prim.Native.Nat.{ℕ, _+_, _≤_, _<_}
+use Prim.Native.Nat.{ℕ, _≤_, _<_}
 use lib.ListN.{length}
 use Rattle.layout.specs.Layout.{trays, layers, admissible}
-use Rattle.image.specs.Image.{headerLength, edition, numberAt, stateAllowed, volumeAllowed, ownLayout, ownState, ownTray, ownVolume}
+use Rattle.image.specs.declared.Edition.{Edition}
+use Rattle.image.specs.Image.{headerLength, imageLength, numberAt, stateAllowed, volumeAllowed, ownLayout, ownState, ownTray, ownVolume, symbolAt}
 
 -- the rules of an image
-pub record Rules (s : List ℕ) : Type 0 where
+pub record Rules (e : Edition) (s : List ℕ) : Type 0 where
   -- not under 24 bytes
   pub long : headerLength ≤ length s
   -- the header's rules
   pub length-is : numberAt 0 2 s ≡ headerLength
-  pub edition-is : numberAt 2 1 s ≡ edition
+  pub edition-is : numberAt 2 1 s ≡ e .number
   pub state-ok : stateAllowed (ownState s) ≡ true
   pub zero-is : numberAt 9 3 s ≡ 0
   pub volume-ok : volumeAllowed (ownVolume s) ≡ true
   pub offset-is : numberAt 16 4 s ≡ headerLength
   pub count-is : numberAt 20 4 s ≡ layers (ownLayout s)
-  -- its own layout, its tray, and its length 24 + L
-  pub layout-ok : admissible (ownLayout s) ≡ true
+  -- its own layout, its tray, and its length
+  pub layout-ok : admissible (e .order) (ownLayout s) ≡ true
   pub tray-in : ownTray s < trays (ownLayout s)
-  pub whole : length s ≡ headerLength + layers (ownLayout s)
+  pub whole : length s ≡ imageLength e (ownLayout s)
+  -- its symbols are of the field
+  pub symbols-in : (j : ℕ) → j < layers (ownLayout s) → symbolAt e s j < e .size

@@ -1,25 +1,26 @@
 // The header of an image: its bytes, and what an image says of itself by them.
-use crate::EDITION;
+use crate::Edition;
 use crate::HEADER;
 use layout::Layout;
 use layout::Tray;
 ghost use mathlib.Core.Path.{_≡_};
 ghost use Prim.Native.Nat.{_+_, _*_, _<_, _≤_};
 ghost use lib.ListN.{length, getD};
-ghost use Rattle.layout.specs.Layout.{Admissible};
+ghost use Rattle.layout.specs.Layout.{Cabinet};
 ghost use Rattle.image.specs.Image.{headerLength, header, ownLayout, ownVolume, begins};
 
 // The header of an image: document 01's table from the top down.
-pub fn head(l: Layout, tray: Tray, state: u32, volume: u32) -> [u8; HEADER]
-    requires { ⌜ Admissible l ⌝ }
-    ensures { λ r. ⌜ r ≡ header l (tray .0) state volume ⌝ }
+pub fn head(e: Edition, l: Layout, tray: Tray, state: u32, volume: u32) -> [u8; HEADER]
+    requires { ⌜ Cabinet l ⌝ }
+    ensures { λ r. ⌜ r ≡ header e l (tray .0) state volume ⌝ }
 {
     let total = layout::layer_count(l);
+    let number = e.number;
     let x = tray.number();
     [
         HEADER as u8,
         0,
-        EDITION,
+        (number % 256) as u8,
         (state % 256) as u8,
         (l.racks % 256) as u8,
         (l.size % 256) as u8,

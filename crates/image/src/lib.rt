@@ -1,155 +1,119 @@
 // Tray images: document 01's header of 24 bytes, then the symbols. A write makes the whole image, or refuses and writes nothing. A read takes bytes of
 // any length and content and hands out the tray and the symbols of a live, well-formed image of the layout and volume expected, and of no other: no
-// demonstration image passes for a live one (proofs/LiveOnly.antt).
-mod header;
+// demonstration image passes for a live one (proofs/LiveOnly.antt). Here are what the images of every field share, and the calls for the field of 256.
+pub mod grounds;
+pub mod header;
 
-use header::begins_with;
+use grounds::formed_refusal;
+use grounds::header_formed;
+use grounds::write_refusal;
 use header::byte_at;
 use header::head;
 use header::own_layout;
-use header::own_volume;
 use layout::Layout;
 use layout::Tray;
 ghost use mathlib.Core.Path.{_≡_};
+ghost use mathlib.Core.Bool.{true};
+ghost use mathlib.Core.List.{[]};
+ghost use Prim.Native.Nat.{_*_};
 ghost use lib.ListN.{length};
-ghost use Rattle.layout.specs.Layout.{Admissible};
-ghost use Rattle.image.specs.Image.{stateAllowed, volumeAllowed, inRange, writeRefusal, writeBuffer, wellFormed, sameLayout, readRefusal, readTray, readPart};
-ghost use Rattle.image.specs.Inner.{Headed};
+ghost use Rattle.lists.specs.Lists.{allBelow};
+ghost use Rattle.layout.specs.Layout.{layers};
+ghost use Rattle.image.specs.Image.{edition1, symbolBytes, writeRefusal, writeBuffer, wellFormed, readRefusal, readTray, readSymbols};
 
-// The length of the header, which is where the symbols start, and the edition.
+// What the images of a field have of their own: the number of their edition, the order of the field's root, how many symbols it has, and the bytes that one takes.
+pub struct Edition {
+    pub number: u32,
+    pub order: u32,
+    pub size: u32,
+    pub width: u32,
+}
+
+// Images over the field of 256, and over the whole numbers modulo 257.
+pub const FIRST: Edition = Edition {
+    number: 1,
+    order: 255,
+    size: 256,
+    width: 1,
+};
+
+pub const SECOND: Edition = Edition {
+    number: 2,
+    order: 256,
+    size: 257,
+    width: 2,
+};
+
+// The length of the header, which is where the symbols start.
 pub const HEADER: usize = 24;
-
-pub const EDITION: u8 = 1;
 
 // The states of an image.
 pub const LIVE: u32 = 1;
 
 pub const DEMONSTRATION: u32 = 2;
 
-// Whether an image may have this state.
-fn state_allowed(state: u32) -> bool
-    ensures { λ r. ⌜ r ≡ stateAllowed state ⌝ }
+// Whether numbers are symbols.
+fn all_symbols(xs: &[u8]) -> bool
+    ensures { λ r. ⌜ r ≡ allBelow (now (xs .entry)) (edition1 .size) ⌝ }
 {
-    state == LIVE || state == DEMONSTRATION
+    range::are_symbols(xs, 0, xs.len())
 }
 
-// Whether an image may have this volume number.
-fn volume_allowed(volume: u32) -> bool
-    ensures { λ r. ⌜ r ≡ volumeAllowed volume ⌝ }
+// Writes the bytes of symbols.
+fn write_symbols(symbols: &[u8], out: &mut [u8])
+    requires { ⌜ (length (now out) ≡ edition1 .width * length (now symbols)) × (allBelow (now symbols) (edition1 .size) ≡ true) ⌝ }
+    ensures { λ _. ⌜ now (out .exit) ≡ symbolBytes (edition1 .width) (now (symbols .entry)) ⌝ }
 {
-    volume != 0
-}
-
-// Whether this is a tray of the layout, and a state and a volume that an image may have.
-fn in_range(l: Layout, tray: Tray, state: u32, volume: u32) -> bool
-    requires { ⌜ Admissible l ⌝ }
-    ensures { λ r. ⌜ r ≡ inRange l (tray .0) state volume ⌝ }
-{
-    if layout::tray_count(l) <= tray.number() {
-        return false;
-    }
-    if !state_allowed(state) {
-        return false;
-    }
-    volume_allowed(volume)
-}
-
-// The refusal of a write, 0 for none.
-fn write_refusal(l: Layout, tray: Tray, state: u32, volume: u32, count: usize, room: usize) -> u8
-    ensures { λ r. ⌜ r ≡ writeRefusal l (tray .0) state volume count room ⌝ }
-{
-    if !layout::admitted(l) {
-        return 1;
-    }
-    let total = layout::layer_count(l) as usize;
-    if count != total {
-        return 2;
-    }
-    if room != HEADER + total {
-        return 2;
-    }
-    if !in_range(l, tray, state, volume) {
-        return 3;
-    }
-    0
+    bytes::copy(symbols, out);
 }
 
 // Writes the image of a tray.
 pub fn write(l: Layout, tray: Tray, state: u32, volume: u32, symbols: &[u8], image: &mut [u8]) -> u8
-    ensures answer { λ r. ⌜ r ≡ writeRefusal l (tray .0) state volume (length (now (symbols .entry))) (length (now (image .entry))) ⌝ }
-    ensures buffer { λ _. ⌜ now (image .exit) ≡ writeBuffer l (tray .0) state volume (now (symbols .entry)) (now (image .entry)) ⌝ }
+    ensures answer { λ r. ⌜ r ≡ writeRefusal edition1 l (tray .0) state volume (now (symbols .entry)) (length (now (image .entry))) ⌝ }
+    ensures buffer { λ _. ⌜ now (image .exit) ≡ writeBuffer edition1 l (tray .0) state volume (now (symbols .entry)) (now (image .entry)) ⌝ }
 {
-    let refusal = write_refusal(l, tray, state, volume, symbols.len(), image.len());
+    let ok = all_symbols(symbols);
+    let refusal = write_refusal(
+        FIRST,
+        l,
+        tray,
+        state,
+        volume,
+        symbols.len(),
+        ok,
+        image.len(),
+    );
     if refusal != 0 {
         return refusal;
     }
-    let h = head(l, tray, state, volume);
+    let h = head(FIRST, l, tray, state, volume);
     bytes::copy(&h, image);
-    bytes::copy(symbols, &mut image[HEADER..]);
+    write_symbols(symbols, &mut image[HEADER..]);
     0
 }
 
-// Whether an image is well formed, past the tests of its length and layout.
-fn well_formed(own: Layout, image: &[u8]) -> bool
-    requires { ⌜ Headed own (now image) ⌝ }
-    ensures { λ r. ⌜ r ≡ wellFormed (now (image .entry)) ⌝ }
+// Whether an image is well formed.
+fn well_formed(image: &[u8]) -> bool
+    ensures { λ r. ⌜ r ≡ wellFormed edition1 (now (image .entry)) ⌝ }
 {
-    if image.len() != HEADER + layout::layer_count(own) as usize {
+    if !header_formed(FIRST, image) {
         return false;
     }
-    let state = byte_at(image, 3);
-    let tray = Tray::of(byte_at(image, 8));
-    let volume = own_volume(image);
-    if !in_range(own, tray, state, volume) {
-        return false;
-    }
-    let h = head(own, tray, state, volume);
-    begins_with(image, &h)
-}
-
-// Whether two layouts are the same.
-fn same_layout(l: Layout, m: Layout) -> bool
-    ensures { λ r. ⌜ r ≡ sameLayout l m ⌝ }
-{
-    if l.racks != m.racks {
-        return false;
-    }
-    if l.size != m.size {
-        return false;
-    }
-    if l.dimension != m.dimension {
-        return false;
-    }
-    l.helpers == m.helpers
+    let total = layout::layer_count(own_layout(image)) as usize;
+    range::are_symbols(image, HEADER, total)
 }
 
 // The refusal of a read, 0 for none.
 fn read_refusal(l: Layout, volume: u32, image: &[u8]) -> u8
-    ensures { λ r. ⌜ r ≡ readRefusal l volume (now (image .entry)) ⌝ }
+    ensures { λ r. ⌜ r ≡ readRefusal edition1 l volume (layers l) (now (image .entry)) ⌝ }
 {
-    if !layout::admitted(l) {
+    if !layout::admitted(FIRST.order, l) {
         return 1;
     }
-    if image.len() < HEADER {
+    if !well_formed(image) {
         return 9;
     }
-    let own = own_layout(image);
-    if !layout::admitted(own) {
-        return 9;
-    }
-    if !well_formed(own, image) {
-        return 9;
-    }
-    if byte_at(image, 3) != LIVE {
-        return 10;
-    }
-    if !same_layout(l, own) {
-        return 11;
-    }
-    if volume != own_volume(image) {
-        return 11;
-    }
-    0
+    formed_refusal(l, volume, image)
 }
 
 // Reads a live image of the layout and volume expected: gives its symbols, and writes the refusal's number and the tray's.
@@ -160,9 +124,9 @@ pub fn read<'a>(
     number: &mut u32,
     tray: &mut u32,
 ) -> &'a [u8]
-    ensures part { λ r. ⌜ now r ≡ readPart l volume (now (image .entry)) ⌝ }
-    ensures number { λ _. ⌜ now (number .exit) ≡ readRefusal l volume (now (image .entry)) ⌝ }
-    ensures tray { λ _. ⌜ now (tray .exit) ≡ readTray l volume (now (image .entry)) ⌝ }
+    ensures part { λ r. ⌜ now r ≡ readSymbols edition1 l volume (layers l) [] (now (image .entry)) ⌝ }
+    ensures number { λ _. ⌜ now (number .exit) ≡ readRefusal edition1 l volume (layers l) (now (image .entry)) ⌝ }
+    ensures tray { λ _. ⌜ now (tray .exit) ≡ readTray edition1 l volume (layers l) (now (image .entry)) ⌝ }
 {
     let refusal = read_refusal(l, volume, image);
     *number = refusal as u32;

@@ -1,75 +1,98 @@
 -- The table of inverses, power after power of the root.
 -- Assumes nothing.
-use mathlib.Core.Path.{_≡_, sym, ap, _∙_, subst}
+use mathlib.Core.Path.{_≡_, sym, ap, ap₂, _∙_, subst}
 use mathlib.Core.List.{List}
 use Prim.Native.Nat.{ℕ, _+_, _-_, _%_, _<_, _≤_}
-use native.Mathlib.Nat.{mod-lt, not-suc-le-zero}
+use native.Mathlib.Nat.{mod-lt, mod-eq-of-lt, not-suc-le-zero, eq-zero-or-pos}
 use native.Mathlib.Decide.{ℕ-discrete}
 use native.Mathlib.Omega.{arith}
-use lib.Dec.{lit<}
 use lib.ListN.{length, getD, set, length-set}
 use lib.Seq.{getD-set-same, getD-set-other}
-use Rattle.algebra.specs.Field.{Ops}
-use Rattle.symbol.specs.Arithmetic.{_⊗_, zpow}
-use Rattle.symbol.specs.Elem.{elem, ops}
-use Rattle.symbol.proofs.Power.{zpow-lt}
-use Rattle.symbol.proofs.Tables.{log, log-lt, zpow-log, zpow-pos, zpow-mod, by-log}
-use Rattle.symbol.proofs.Elem.{elem-inverse, inverse-zero}
+use Rattle.algebra.specs.Field.{Ops, Laws}
+use Rattle.algebra.specs.Coding.{Coding}
+use Rattle.algebra.specs.Sum.{pow}
+use Rattle.algebra.specs.Shape.{Field, FieldLaws}
+use Rattle.algebra.specs.Plain.{reduced, rootPower, Working}
+use Rattle.algebra.proofs.Ring.{mul-zero, mul-one, mul-comm, mul-cancel}
+use Rattle.algebra.proofs.Pow.{pow-add}
+use Rattle.algebra.proofs.Plain.{elem-zero, elem-rootPower, rootPower-below, rootPower-mod, zero-below, reduced-own}
 use Rattle.kernel.specs.Runs.{Inverses, Inverted}
 
-pub power-small : (powers : List ℕ) (i : ℕ) → ((m : ℕ) → m < 255 → getD powers m 0 ≡ zpow m) → i < 255 → getD powers i 0 < 256
-power-small powers i at h = rw (at i h) (zpow-lt i)
+module _ {A : Type 0} {f : Field A} (W : Working f) where
+  open Field f using (ops, root, order)
+  open Coding (f .coding) using (elem, size)
+  open FieldLaws (W .field) using (laws)
 
-pub inverted-none : (table : List ℕ) → length table ≡ 256 → Inverted (set table 0 0) 0
-inverted-none table e = record {
-  long = length-set table 0 0 ∙ e;
-  none = getD-set-same table 0 0 0 (omega arith);
-  at = λ m h. absurd (not-suc-le-zero h);
-  small = λ m h. absurd (not-suc-le-zero h);
-}
+  -- the place of a power in the table
+  place-is : (powers : List ℕ) (i p : ℕ) → ((m : ℕ) → m < order → getD powers m 0 ≡ rootPower f m) → i < order → p ≡ reduced f (getD powers i 0) → p ≡ rootPower f i
+  place-is powers i p at h e = e ∙ ap (reduced f) (at i h) ∙ reduced-own W (rootPower f i) (rootPower-below W i)
 
-pub inverted-more : (table : List ℕ) (i p q : ℕ) → p ≡ zpow i → p ⊗ q ≡ 1 → q < 256 → Inverted table i → Inverted (set table p q) (i + 1)
-inverted-more table i p q e u b t = record {
-  long = length-set table p q ∙ t .long;
-  none = getD-set-other table p 0 q 0 (λ z. let s : 0 < p = rw e (zpow-pos i) in omega arith) ∙ t .none;
-  at = λ m h. go m h (ℕ-discrete (zpow m) p);
-  small = λ m h. low m h (ℕ-discrete (zpow m) p);
-}
-  where
-    inside : p < length table
-    inside = let b : p < 256 = rw e (zpow-lt i) in omega (arith, t .long)
+  pub inverted-none : (table : List ℕ) → length table ≡ size → Inverted f (set table 0 0) 0
+  inverted-none table e = record {
+    long = length-set table 0 0 ∙ e;
+    none = getD-set-same table 0 0 0 (let z = zero-below W in omega arith);
+    at = λ m h. absurd (not-suc-le-zero h);
+  }
 
-    earlier : (m : ℕ) → m < i + 1 → ¬ (zpow m ≡ p) → m < i
-    earlier m h s = let d : ¬ (m ≡ i) = λ k. s (ap zpow k ∙ sym e) in omega arith
+  -- a power that has an inverse is not zero
+  some : (p q i : ℕ) → p ≡ rootPower f i → ops .mul (elem q) (pow ops root i) ≡ ops .one → ¬ (p ≡ 0)
+  some p q i e u z = laws .one-not-zero (
+      sym u ∙ ap (ops .mul (elem q)) (sym (elem-rootPower W i) ∙ ap elem (sym e ∙ z) ∙ elem-zero W) ∙ mul-zero ops laws (elem q))
 
-    low : (m : ℕ) → m < i + 1 → Dec (zpow m ≡ p) → getD (set table p q) (zpow m) 0 < 256
-    low m h (yes s) = rw (s, getD-set-same table p q 0 inside) b
-    low m h (no s) = rw (getD-set-other table p (zpow m) q 0 s) (t .small m (earlier m h s))
+  inverted-more : (table : List ℕ) (i p q : ℕ) → p ≡ rootPower f i → ops .mul (elem q) (pow ops root i) ≡ ops .one → Inverted f table i → Inverted f (set table p q) (i + 1)
+  inverted-more table i p q e u t = record {
+    long = length-set table p q ∙ t .long;
+    none = getD-set-other table p 0 q 0 (λ z. some p q i e u (sym z)) ∙ t .none;
+    at = λ m h. go m h (ℕ-discrete (rootPower f m) p);
+  }
+    where
+      inside : p < length table
+      inside = let b : p < size = rw e (rootPower-below W i) in omega (arith, t .long)
 
-    go : (m : ℕ) → m < i + 1 → Dec (zpow m ≡ p) → zpow m ⊗ getD (set table p q) (zpow m) 0 ≡ 1
-    go m h (yes s) = rw s (ap (λ (x : ℕ). p ⊗ x) (getD-set-same table p q 0 inside) ∙ u)
-    go m h (no s) =
-        ap (λ (x : ℕ). zpow m ⊗ x) (getD-set-other table p (zpow m) q 0 s) ∙ t .at m (earlier m h s)
+      go : (m : ℕ) → m < i + 1 → Dec (rootPower f m ≡ p) → ops .mul (elem (getD (set table p q) (rootPower f m) 0)) (pow ops root m) ≡ ops .one
+      go m h (yes s) =
+          ap₂ (λ x y. ops .mul x y) (ap (λ (k : ℕ). elem (getD (set table p q) k 0)) s ∙ ap elem (getD-set-same table p q 0 inside))
+          (sym (elem-rootPower W m) ∙ ap elem (s ∙ e) ∙ elem-rootPower W i) ∙ u
+      go m h (no s) =
+          ap (λ (x : ℕ). ops .mul (elem x) (pow ops root m)) (getD-set-other table p (rootPower f m) q 0 s)
+          ∙ t .at m (let d : ¬ (m ≡ i) = λ k. s (ap (rootPower f) k ∙ sym e) in omega arith)
 
--- the inverse of a power is the power that is left of the order
-pub inverted-next : (powers table : List ℕ) (i : ℕ) → ((m : ℕ) → m < 255 → getD powers m 0 ≡ zpow m) → i < 255 → Inverted table i →
-    Inverted (set table (getD powers i 0) (getD powers ((255 - i) % 255) 0)) (i + 1)
-inverted-next powers table i at h t =
-    inverted-more table i _ _ (at i h) (by-log i (sym (at i h)) h left) (rw left (zpow-lt (255 - i))) t
-  where
-    left : getD powers ((255 - i) % 255) 0 ≡ zpow (255 - i)
-    left = at ((255 - i) % 255) (mod-lt (255 - i) (lit< tt)) ∙ zpow-mod (255 - i)
+  -- the inverse of a power is the power that is left of the order
+  pub inverted-next : (powers table : List ℕ) (i p : ℕ) → ((m : ℕ) → m < order → getD powers m 0 ≡ rootPower f m) → i < order → p ≡ reduced f (getD powers i 0) → Inverted f table i →
+      Inverted f (set table p (getD powers ((order - i) % order) 0)) (i + 1)
+  inverted-next powers table i p at h e t = inverted-more table i p _ (place-is powers i p at h e) one t
+    where
+      left : getD powers ((order - i) % order) 0 ≡ rootPower f (order - i)
+      left = at ((order - i) % order) (mod-lt (order - i) (omega arith)) ∙ rootPower-mod W (order - i)
 
-pub inverted-end : (table : List ℕ) (i : ℕ) → Inverted table i → i ≤ 255 → 255 ≤ i → Inverses table
-inverted-end table i t h l = record { long = t .long; at = λ x b. go x b (ℕ-discrete x 0) }
-  where
-    same : i ≡ 255
-    same = omega arith
+      whole : order - i + i ≡ order
+      whole = omega arith
 
-    go : (x : ℕ) → x < 256 → Dec (x ≡ 0) → elem (getD table x 0) ≡ ops .inv (elem x)
-    go x b (yes e) = ap (λ (y : ℕ). elem (getD table y 0)) e ∙ ap elem (t .none) ∙ ap elem (sym e) ∙ inverse-zero x e
-    go x b (no d) =
-        let p : 0 < x = omega arith in
-        let k : log x < i = (let q = log-lt p b in omega arith) in
-        elem-inverse x (getD table x 0) p b (subst (λ (y : ℕ). getD table y 0 < 256) (zpow-log p b) (t .small (log x) k))
-        (subst (λ (y : ℕ). y ⊗ getD table y 0 ≡ 1) (zpow-log p b) (t .at (log x) k))
+      one : ops .mul (elem (getD powers ((order - i) % order) 0)) (pow ops root i) ≡ ops .one
+      one =
+          ap (λ x. ops .mul x (pow ops root i)) (ap elem left ∙ elem-rootPower W (order - i))
+          ∙ sym (pow-add ops laws root (order - i) i) ∙ ap (pow ops root) whole ∙ W .field .root .full
+
+  pub inverted-end : (table : List ℕ) (i : ℕ) → Inverted f table i → i ≤ order → order ≤ i → Inverses f table
+  inverted-end table i t h l = record { long = t .long; at = λ x b. go x b (ℕ-discrete x 0) }
+    where
+      go : (x : ℕ) → x < size → Dec (x ≡ 0) → elem (getD table x 0) ≡ ops .inv (elem x)
+      go x b (yes e) =
+          ap (λ (y : ℕ). elem (getD table y 0)) e ∙ ap elem (t .none) ∙ elem-zero W ∙ sym (W .inv-zero) ∙ ap (ops .inv) (sym (elem-zero W) ∙ ap elem (sym e))
+      go x b (no d) = mul-cancel ops laws (elem x) _ _ nil (mul-comm ops laws _ _ ∙ one ∙ sym (mul-comm ops laws _ _ ∙ laws .inv-mul (elem x) nil))
+        where
+          p : 0 < x
+          p = omega arith
+
+          k : W .log x < i
+          k = let q = W .log-below x p b in omega arith
+
+          is : rootPower f (W .log x) ≡ x
+          is = W .power-log x p b
+
+          one : ops .mul (elem (getD table x 0)) (elem x) ≡ ops .one
+          one = subst (λ (y : ℕ). ops .mul (elem (getD table y 0)) (elem x) ≡ ops .one) is
+              (ap (ops .mul (elem (getD table (rootPower f (W .log x)) 0))) (ap elem (sym is) ∙ elem-rootPower W (W .log x)) ∙ t .at (W .log x) k)
+
+          nil : ¬ (elem x ≡ ops .zero)
+          nil z = laws .one-not-zero (sym one ∙ ap (ops .mul (elem (getD table x 0))) z ∙ mul-zero ops laws _)

@@ -7,7 +7,8 @@ use native.Mathlib.Nat.{mul-le-mul-right, add-mul, one-mul, le-trans}
 use native.Mathlib.Decide.{decLt}
 use native.Mathlib.Omega.{arith}
 use lib.ListN.{length, getD}
-use Rattle.symbol.specs.Elem.{Elem, elem}
+use Rattle.algebra.specs.Coding.{Coding}
+use Rattle.algebra.specs.Shape.{Field}
 use Rattle.kernel.specs.Runs.{Run, cell}
 
 -- a row ends where the next one begins
@@ -30,25 +31,28 @@ row-other f was is a w r x j h d = go (decLt x a)
     go (no l) = r .high (x * w + j) (let e = row-before a x w (omega arith) in omega arith)
 
 -- the same by cells
-pub cell-is : (v : ℕ) (xs : List ℕ) (k c : ℕ) → elem (getD xs (k * v + c) 0) ≡ cell v xs k c
-unfolding cell
-cell-is v xs k c = refl
+module _ {A : Type 0} (f : Field A) where
+  open Coding (f .coding) using (elem)
 
-pub cell-other : (f : ℕ → ℕ) (was is : List ℕ) (a v : ℕ) → Run f was is (a * v) v → (x c : ℕ) → c < v → ¬ (x ≡ a) → cell v is x c ≡ cell v was x c
-unfolding cell
-cell-other f was is a v r x c h d = ap elem (row-other f was is a v r x c h d)
+  pub cell-is : (v : ℕ) (xs : List ℕ) (k c : ℕ) → elem (getD xs (k * v + c) 0) ≡ cell f v xs k c
+  unfolding cell
+  cell-is v xs k c = refl
 
--- row 0
-pub row-zero : (f : ℕ → ℕ) (was is : List ℕ) (v : ℕ) → Run f was is 0 v → (c : ℕ) → c < v → cell v is 0 c ≡ elem (f c)
-unfolding cell
-row-zero f was is v r c h = ap (λ (i : ℕ). elem (getD is i 0)) (place v c) ∙ ap elem (r .done c h)
-  where
-    place : (v c : ℕ) → 0 * v + c ≡ 0 + c
-    place v c = omega arith
+  pub cell-other : (g : ℕ → ℕ) (was is : List ℕ) (a v : ℕ) → Run g was is (a * v) v → (x c : ℕ) → c < v → ¬ (x ≡ a) → cell f v is x c ≡ cell f v was x c
+  unfolding cell
+  cell-other g was is a v r x c h d = ap elem (row-other g was is a v r x c h d)
 
-pub zero-cell : (v : ℕ) (xs : List ℕ) (c : ℕ) → cell v xs 0 c ≡ elem (getD xs (0 + c) 0)
-unfolding cell
-zero-cell v xs c = ap (λ (i : ℕ). elem (getD xs i 0)) (place v c)
-  where
-    place : (v c : ℕ) → 0 * v + c ≡ 0 + c
-    place v c = omega arith
+  -- row 0
+  pub row-zero : (g : ℕ → ℕ) (was is : List ℕ) (v : ℕ) → Run g was is 0 v → (c : ℕ) → c < v → cell f v is 0 c ≡ elem (g c)
+  unfolding cell
+  row-zero g was is v r c h = ap (λ (i : ℕ). elem (getD is i 0)) (place v c) ∙ ap elem (r .done c h)
+    where
+      place : (v c : ℕ) → 0 * v + c ≡ 0 + c
+      place v c = omega arith
+
+  pub zero-cell : (v : ℕ) (xs : List ℕ) (c : ℕ) → cell f v xs 0 c ≡ elem (getD xs (0 + c) 0)
+  unfolding cell
+  zero-cell v xs c = ap (λ (i : ℕ). elem (getD xs i 0)) (place v c)
+    where
+      place : (v c : ℕ) → 0 * v + c ≡ 0 + c
+      place v c = omega arith

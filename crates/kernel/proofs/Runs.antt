@@ -11,9 +11,12 @@ use borrow.Author.Tests.{eqb-true, eq-eqb}
 use lib.Dec.{eqb}
 use lib.ListN.{length, getD, set, length-set}
 use lib.Seq.{getD-set-same, getD-set-other}
-use lib.Bits.{bitXor}
 use Rattle.lists.proofs.Bools.{all-holds, all-true, all-false}
-use Rattle.symbol.specs.Arithmetic.{_⊕_, _⊗_}
+use Rattle.algebra.specs.Shape.{Field}
+use Rattle.algebra.specs.Field.{Ops}
+use Rattle.algebra.specs.Coding.{Coding}
+use Rattle.algebra.specs.Plain.{plus, minus, times, reduced, Working}
+use Rattle.algebra.proofs.Plain.{elem-reduced, reduced-below, elem-zero, elem-nil}
 use Rattle.kernel.specs.Runs.{Run, filled, copied, sampled, added, addedProduct, addedMultiple, stepped, accrued, shifted, parted, lookedUp, allZero}
 
 pub run-none : (f : ℕ → ℕ) (was : List ℕ) (to : ℕ) → Run f was was to 0
@@ -87,76 +90,85 @@ sample-in src step j len h p l =
     let q : (j + 1) * step ≡ j * step + step = omega arith in
     omega arith
 
-pub add-more : (was is src : List ℕ) (to from j len : ℕ) → Run (added was to src from) was is to j → j < len → to + len ≤ length was →
-    Run (added was to src from) was (set is (to + j) (bitXor (getD is (to + j) 0) (getD src (from + j) 0))) to (j + 1)
-unfolding added _⊕_
-add-more was is src to from j len r h l =
-    run-more (added was to src from) was is to j _ r (omega arith) (ap (λ (x : ℕ). bitXor x (getD src (from + j) 0)) (r .high (to + j) (omega arith)))
+-- those that work in a field; p and q are what the symbol functions give
+module _ {A : Type 0} (f : Field A) where
+  pub add-more : (was is src : List ℕ) (to from j len p : ℕ) → Run (added f was to src from) was is to j → j < len → to + len ≤ length was →
+      p ≡ plus f (getD is (to + j) 0) (getD src (from + j) 0) → Run (added f was to src from) was (set is (to + j) p) to (j + 1)
+  unfolding added
+  add-more was is src to from j len p r h l e =
+      run-more (added f was to src from) was is to j p r (omega arith) (e ∙ ap (λ (x : ℕ). plus f x (getD src (from + j) 0)) (r .high (to + j) (omega arith)))
 
-pub product-more : (was is src by : List ℕ) (to from at j len p : ℕ) → Run (addedProduct was to src from by at) was is to j → j < len → to + len ≤ length was →
-    p ≡ getD src (from + j) 0 ⊗ getD by (at + j) 0 →
-    Run (addedProduct was to src from by at) was (set is (to + j) (bitXor (getD is (to + j) 0) p)) to (j + 1)
-unfolding addedProduct _⊕_
-product-more was is src by to from at j len p r h l e =
-    run-more (addedProduct was to src from by at) was is to j _ r (omega arith) (ap₂ bitXor (r .high (to + j) (omega arith)) e)
+  pub product-more : (was is src by : List ℕ) (to from at j len p q : ℕ) → Run (addedProduct f was to src from by at) was is to j → j < len → to + len ≤ length was →
+      p ≡ times f (getD src (from + j) 0) (getD by (at + j) 0) → q ≡ plus f (getD is (to + j) 0) p →
+      Run (addedProduct f was to src from by at) was (set is (to + j) q) to (j + 1)
+  unfolding addedProduct
+  product-more was is src by to from at j len p q r h l e d =
+      run-more (addedProduct f was to src from by at) was is to j q r (omega arith) (d ∙ ap₂ (plus f) (r .high (to + j) (omega arith)) e)
 
-pub multiple-more : (was is src : List ℕ) (to from j len v p : ℕ) → Run (addedMultiple was to src from v) was is to j → j < len → to + len ≤ length was →
-    p ≡ getD src (from + j) 0 ⊗ v → Run (addedMultiple was to src from v) was (set is (to + j) (bitXor (getD is (to + j) 0) p)) to (j + 1)
-unfolding addedMultiple _⊕_
-multiple-more was is src to from j len v p r h l e =
-    run-more (addedMultiple was to src from v) was is to j _ r (omega arith) (ap₂ bitXor (r .high (to + j) (omega arith)) e)
+  pub multiple-more : (was is src : List ℕ) (to from j len v p q : ℕ) → Run (addedMultiple f was to src from v) was is to j → j < len → to + len ≤ length was →
+      p ≡ times f (getD src (from + j) 0) v → q ≡ plus f (getD is (to + j) 0) p → Run (addedMultiple f was to src from v) was (set is (to + j) q) to (j + 1)
+  unfolding addedMultiple
+  multiple-more was is src to from j len v p q r h l e d =
+      run-more (addedMultiple f was to src from v) was is to j q r (omega arith) (d ∙ ap₂ (plus f) (r .high (to + j) (omega arith)) e)
 
-pub accrue-more : (was is cw ci by : List ℕ) (to j len p : ℕ) → Run (accrued was to cw by) was is to j → Run (stepped cw by) cw ci 0 j → j < len →
-    to + len ≤ length was → p ≡ getD ci j 0 ⊗ getD by j 0 → Run (accrued was to cw by) was (set is (to + j) (bitXor (getD is (to + j) 0) p)) to (j + 1)
-unfolding accrued _⊕_
-accrue-more was is cw ci by to j len p r q h l e =
-    run-more (accrued was to cw by) was is to j _ r (omega arith)
-    (ap₂ bitXor (r .high (to + j) (omega arith)) (e ∙ ap (λ (x : ℕ). x ⊗ getD by j 0) (q .high j (omega arith))))
+  pub accrue-more : (was is cw ci by : List ℕ) (to j len p q : ℕ) → Run (accrued f was to cw by) was is to j → Run (stepped f cw by) cw ci 0 j → j < len →
+      to + len ≤ length was → p ≡ times f (getD ci j 0) (getD by j 0) → q ≡ plus f (getD is (to + j) 0) p →
+      Run (accrued f was to cw by) was (set is (to + j) q) to (j + 1)
+  unfolding accrued
+  accrue-more was is cw ci by to j len p q r s h l e d =
+      run-more (accrued f was to cw by) was is to j q r (omega arith)
+      (d ∙ ap₂ (plus f) (r .high (to + j) (omega arith)) (e ∙ ap (λ (x : ℕ). times f x (getD by j 0)) (s .high j (omega arith))))
 
-pub step-more : (cw ci by : List ℕ) (j len p : ℕ) → Run (stepped cw by) cw ci 0 j → j < len → len ≤ length cw →
-    p ≡ getD ci j 0 ⊗ getD by j 0 → Run (stepped cw by) cw (set ci j p) 0 (j + 1)
-unfolding stepped
-step-more cw ci by j len p q h l e =
-    rw (sym (ap (λ (i : ℕ). set ci i p) (zero-add j)))
-    (run-more (stepped cw by) cw ci 0 j p q (omega arith) (e ∙ ap (λ (x : ℕ). x ⊗ getD by j 0) (q .high j (omega arith))))
+  pub step-more : (cw ci by : List ℕ) (j len p : ℕ) → Run (stepped f cw by) cw ci 0 j → j < len → len ≤ length cw →
+      p ≡ times f (getD ci j 0) (getD by j 0) → Run (stepped f cw by) cw (set ci j p) 0 (j + 1)
+  unfolding stepped
+  step-more cw ci by j len p s h l e =
+      rw (sym (ap (λ (i : ℕ). set ci i p) (zero-add j)))
+      (run-more (stepped f cw by) cw ci 0 j p s (omega arith) (e ∙ ap (λ (x : ℕ). times f x (getD by j 0)) (s .high j (omega arith))))
 
-pub shift-more : (was is cw ci by : List ℕ) (to at j len p : ℕ) → Run (shifted was to cw by at) was is to j → Run (copied was to) cw ci 0 j → j < len → to + len ≤ length was →
-    p ≡ getD is (to + j) 0 ⊗ getD by (at + j) 0 → Run (shifted was to cw by at) was (set is (to + j) (bitXor (getD ci j 0) p)) to (j + 1)
-unfolding shifted _⊕_
-shift-more was is cw ci by to at j len p r q h l e =
-    run-more (shifted was to cw by at) was is to j _ r (omega arith)
-    (ap₂ bitXor (q .high j (omega arith)) (e ∙ ap (λ (x : ℕ). x ⊗ getD by (at + j) 0) (r .high (to + j) (omega arith))))
+  pub shift-more : (was is cw ci by : List ℕ) (to at j len p q : ℕ) → Run (shifted f was to cw by at) was is to j → Run (copied was to) cw ci 0 j → j < len → to + len ≤ length was →
+      p ≡ times f (getD is (to + j) 0) (getD by (at + j) 0) → q ≡ minus f (getD ci j 0) p → Run (shifted f was to cw by at) was (set is (to + j) q) to (j + 1)
+  unfolding shifted
+  shift-more was is cw ci by to at j len p q r s h l e d =
+      run-more (shifted f was to cw by at) was is to j q r (omega arith)
+      (d ∙ ap₂ (minus f) (s .high j (omega arith)) (e ∙ ap (λ (x : ℕ). times f x (getD by (at + j) 0)) (r .high (to + j) (omega arith))))
 
-pub carry-more : (was is cw ci by : List ℕ) (to at j len : ℕ) → Run (shifted was to cw by at) was is to j → Run (copied was to) cw ci 0 j → j < len → len ≤ length cw →
-    Run (copied was to) cw (set ci j (getD is (to + j) 0)) 0 (j + 1)
-unfolding copied
-carry-more was is cw ci by to at j len r q h l =
-    rw (sym (ap (λ (i : ℕ). set ci i (getD is (to + j) 0)) (zero-add j)))
-    (run-more (copied was to) cw ci 0 j _ q (omega arith) (r .high (to + j) (omega arith)))
+  pub carry-more : (was is cw ci by : List ℕ) (to at j len : ℕ) → Run (shifted f was to cw by at) was is to j → Run (copied was to) cw ci 0 j → j < len → len ≤ length cw →
+      Run (copied was to) cw (set ci j (getD is (to + j) 0)) 0 (j + 1)
+  unfolding copied
+  carry-more was is cw ci by to at j len r q h l =
+      rw (sym (ap (λ (i : ℕ). set ci i (getD is (to + j) 0)) (zero-add j)))
+      (run-more (copied was to) cw ci 0 j _ q (omega arith) (r .high (to + j) (omega arith)))
 
-pub part-more : (was is src : List ℕ) (to a b j len p : ℕ) → Run (parted was to src a b) was is to j → j < len → to + len ≤ length was →
-    p ≡ getD is (to + j) 0 ⊗ bitXor (getD src (a + j) 0) (getD src (b + j) 0) → Run (parted was to src a b) was (set is (to + j) p) to (j + 1)
-unfolding parted _⊕_
-part-more was is src to a b j len p r h l e =
-    run-more (parted was to src a b) was is to j p r (omega arith)
-    (e ∙ ap (λ (x : ℕ). x ⊗ bitXor (getD src (a + j) 0) (getD src (b + j) 0)) (r .high (to + j) (omega arith)))
+  pub part-more : (was is src : List ℕ) (to a b j len p q : ℕ) → Run (parted f was to src a b) was is to j → j < len → to + len ≤ length was →
+      p ≡ minus f (getD src (a + j) 0) (getD src (b + j) 0) → q ≡ times f (getD is (to + j) 0) p → Run (parted f was to src a b) was (set is (to + j) q) to (j + 1)
+  unfolding parted
+  part-more was is src to a b j len p q r h l e d =
+      run-more (parted f was to src a b) was is to j q r (omega arith) (d ∙ ap₂ (times f) (r .high (to + j) (omega arith)) e)
 
-pub look-more : (was is table : List ℕ) (to j len : ℕ) → Run (lookedUp was to table) was is to j → j < len → to + len ≤ length was →
-    Run (lookedUp was to table) was (set is (to + j) (getD table (getD is (to + j) 0) 0)) to (j + 1)
-unfolding lookedUp
-look-more was is table to j len r h l =
-    run-more (lookedUp was to table) was is to j _ r (omega arith) (ap (λ (x : ℕ). getD table x 0) (r .high (to + j) (omega arith)))
+  pub look-more : (was is table : List ℕ) (to j len p : ℕ) → Run (lookedUp f was to table) was is to j → j < len → to + len ≤ length was →
+      p ≡ reduced f (getD is (to + j) 0) → Run (lookedUp f was to table) was (set is (to + j) (getD table p 0)) to (j + 1)
+  unfolding lookedUp
+  look-more was is table to j len p r h l e =
+      run-more (lookedUp f was to table) was is to j _ r (omega arith) (ap (λ (x : ℕ). getD table x 0) (e ∙ ap (reduced f) (r .high (to + j) (omega arith))))
 
 -- the test for zeros
-module _ (xs : List ℕ) (len : ℕ) where
-  pub zero-false : (j : ℕ) → j < len → ¬ (getD xs j 0 ≡ 0) → false ≡ allZero xs len
+module _ {A : Type 0} (f : Field A) (xs : List ℕ) (len : ℕ) where
+  pub zero-false : (j p : ℕ) → j < len → p ≡ reduced f (getD xs j 0) → ¬ (p ≡ 0) → false ≡ allZero f xs len
   unfolding allZero
-  zero-false j h d = all-false _ _ j h (λ t. d (eqb-true _ _ t))
+  zero-false j p h e d = all-false _ _ j h (λ t. d (e ∙ eqb-true _ _ t))
 
-  pub zero-true : ((j : ℕ) → j < len → getD xs j 0 ≡ 0) → true ≡ allZero xs len
+  pub zero-true : ((j : ℕ) → j < len → reduced f (getD xs j 0) ≡ 0) → true ≡ allZero f xs len
   unfolding allZero
-  zero-true f = sym (all-true _ _ (λ j h. eq-eqb _ _ (f j h)))
+  zero-true g = sym (all-true _ _ (λ j h. eq-eqb _ _ (g j h)))
 
-  pub zero-all : allZero xs len ≡ true → (j : ℕ) → j < len → getD xs j 0 ≡ 0
+  zero-each : allZero f xs len ≡ true → (j : ℕ) → j < len → reduced f (getD xs j 0) ≡ 0
   unfolding allZero
-  zero-all t j h = eqb-true _ _ (all-holds (λ j. eqb (getD xs j 0) 0) len t j h)
+  zero-each t j h = eqb-true _ _ (all-holds (λ j. eqb (reduced f (getD xs j 0)) 0) len t j h)
+
+  module _ (W : Working f) where
+    pub zero-all : allZero f xs len ≡ true → (j : ℕ) → j < len → f .coding .elem (getD xs j 0) ≡ f .ops .zero
+    zero-all t j h = sym (elem-reduced W (getD xs j 0)) ∙ ap (f .coding .elem) (zero-each t j h) ∙ elem-zero W
+
+    pub zero-from : ((j : ℕ) → j < len → f .coding .elem (getD xs j 0) ≡ f .ops .zero) → true ≡ allZero f xs len
+    zero-from g = zero-true (λ j h. elem-nil W _ (reduced-below W (getD xs j 0)) (elem-reduced W (getD xs j 0) ∙ g j h))

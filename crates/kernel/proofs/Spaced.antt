@@ -8,8 +8,8 @@ use native.Mathlib.Decide.{ℕ-discrete}
 use native.Mathlib.Omega.{arith}
 use lib.ListN.{length, getD, set, length-set}
 use lib.Seq.{getD-set-same, getD-set-other}
-use lib.Bits.{bitXor}
-use Rattle.symbol.specs.Arithmetic.{_⊕_}
+use Rattle.algebra.specs.Shape.{Field}
+use Rattle.algebra.specs.Plain.{plus}
 use Rattle.kernel.specs.Runs.{Spaced, addedSpaced}
 use Rattle.kernel.proofs.Rows.{row-before}
 
@@ -40,13 +40,13 @@ spaced-more f was is to step j v p r h e = record {
     go i l (no d) = getD-set-other is (to + j * step) (to + i * step) v 0 (λ q. places-apart to step i j p (omega arith) q) ∙ r .done i (omega arith)
 
 -- a turn: the place was not written yet
-pub add-spaced-more : (was is src : List ℕ) (to step from stride j len : ℕ) → Spaced (addedSpaced was to step src from stride) was is to step j → j < len → 0 < step →
-    to + len * step < length was + step →
-    Spaced (addedSpaced was to step src from stride) was (set is (to + j * step) (bitXor (getD is (to + j * step) 0) (getD src (from + j * stride) 0))) to step (j + 1)
-unfolding addedSpaced _⊕_
-add-spaced-more was is src to step from stride j len r h p l =
-    spaced-more (addedSpaced was to step src from stride) was is to step j _ p r (place-in was to step j len l h)
-    (ap (λ (x : ℕ). bitXor x (getD src (from + j * stride) 0)) (r .other (to + j * step) (λ k b q. places-apart to step k j p b (sym q))))
+pub add-spaced-more : {A : Type 0} (f : Field A) (was is src : List ℕ) (to step from stride j len p : ℕ) → Spaced (addedSpaced f was to step src from stride) was is to step j → j < len →
+    0 < step → to + len * step < length was + step → p ≡ plus f (getD is (to + j * step) 0) (getD src (from + j * stride) 0) →
+    Spaced (addedSpaced f was to step src from stride) was (set is (to + j * step) p) to step (j + 1)
+unfolding addedSpaced
+add-spaced-more f was is src to step from stride j len p r h q l e =
+    spaced-more (addedSpaced f was to step src from stride) was is to step j p q r (place-in was to step j len l h)
+    (e ∙ ap (λ (x : ℕ). plus f x (getD src (from + j * stride) 0)) (r .other (to + j * step) (λ k b d. places-apart to step k j q b (sym d))))
 
 -- at the end of the loop
 pub spaced-end : (f : ℕ → ℕ) (was is : List ℕ) (to step j len : ℕ) → Spaced f was is to step j → j ≤ len → len ≤ j → Spaced f was is to step len

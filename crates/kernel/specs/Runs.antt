@@ -1,4 +1,4 @@
--- What the kernels do to a run of places of a buffer. Nothing here has to be believed.
+-- What the kernels do to a run of places of a buffer, over any field. Nothing here has to be believed.
 -- Assumes nothing.
 use mathlib.Core.Path.{_≡_}
 use mathlib.Core.Bool.{Bool}
@@ -8,8 +8,10 @@ use lib.Dec.{eqb}
 use lib.ListN.{length, getD}
 use Rattle.lists.specs.Lists.{all}
 use Rattle.algebra.specs.Field.{Ops}
-use Rattle.symbol.specs.Arithmetic.{_⊕_, _⊗_, zpow}
-use Rattle.symbol.specs.Elem.{Elem, elem, ops}
+use Rattle.algebra.specs.Coding.{Coding}
+use Rattle.algebra.specs.Sum.{pow}
+use Rattle.algebra.specs.Shape.{Field}
+use Rattle.algebra.specs.Plain.{plus, minus, times, reduced, rootPower}
 
 -- the buffer is holds f 0 .. f (len - 1) from the place to on, and elsewhere what the buffer was held
 pub record Run (f : ℕ → ℕ) (was is : List ℕ) (to len : ℕ) : Type 0 where
@@ -24,10 +26,6 @@ pub record Spaced (f : ℕ → ℕ) (was is : List ℕ) (to step len : ℕ) : Ty
   pub done : (j : ℕ) → j < len → getD is (to + j * step) 0 ≡ f j
   pub other : (i : ℕ) → ((j : ℕ) → j < len → ¬ (i ≡ to + j * step)) → getD is i 0 ≡ getD was i 0
 
--- number c of row k, in rows of w
-unfoldable pub cell : ℕ → List ℕ → ℕ → ℕ → Elem
-cell w xs k c = elem (getD xs (k * w + c) 0)
-
 unfoldable pub filled : ℕ → ℕ → ℕ
 filled v j = v
 
@@ -41,53 +39,60 @@ repeated row period j = getD row (j % period) 0
 unfoldable pub sampled : List ℕ → ℕ → ℕ → ℕ
 sampled src step j = getD src (j * step) 0
 
-unfoldable pub added : List ℕ → ℕ → List ℕ → ℕ → ℕ → ℕ
-added out to src from j = getD out (to + j) 0 ⊕ getD src (from + j) 0
+module _ {A : Type 0} (f : Field A) where
+  open Field f using (ops, root, order)
+  open Coding (f .coding) using (elem, size)
 
--- the sum of n numbers, so many places apart
-unfoldable pub sumApart : List ℕ → ℕ → ℕ → ℕ → ℕ
-sumApart src at gap zero = 0
-sumApart src at gap (suc n) = sumApart src at gap n ⊕ getD src (at + n * gap) 0
+  -- number c of row k, in rows of w
+  unfoldable pub cell : ℕ → List ℕ → ℕ → ℕ → A
+  cell w xs k c = elem (getD xs (k * w + c) 0)
 
-unfoldable pub addedApart : List ℕ → ℕ → List ℕ → ℕ → ℕ → ℕ → ℕ → ℕ
-addedApart out to src from gap n j = getD out (to + j) 0 ⊕ sumApart src (from + j) gap n
+  unfoldable pub added : List ℕ → ℕ → List ℕ → ℕ → ℕ → ℕ
+  added out to src from j = plus f (getD out (to + j) 0) (getD src (from + j) 0)
 
-unfoldable pub addedSpaced : List ℕ → ℕ → ℕ → List ℕ → ℕ → ℕ → ℕ → ℕ
-addedSpaced out to step src from stride j = getD out (to + j * step) 0 ⊕ getD src (from + j * stride) 0
+  -- the sum of n numbers, so many places apart
+  unfoldable pub sumApart : List ℕ → ℕ → ℕ → ℕ → ℕ
+  sumApart src at gap zero = 0
+  sumApart src at gap (suc n) = plus f (sumApart src at gap n) (getD src (at + n * gap) 0)
 
-unfoldable pub addedProduct : List ℕ → ℕ → List ℕ → ℕ → List ℕ → ℕ → ℕ → ℕ
-addedProduct out to src from by at j = getD out (to + j) 0 ⊕ getD src (from + j) 0 ⊗ getD by (at + j) 0
+  unfoldable pub addedApart : List ℕ → ℕ → List ℕ → ℕ → ℕ → ℕ → ℕ → ℕ
+  addedApart out to src from gap n j = plus f (getD out (to + j) 0) (sumApart src (from + j) gap n)
 
-unfoldable pub addedMultiple : List ℕ → ℕ → List ℕ → ℕ → ℕ → ℕ → ℕ
-addedMultiple out to src from v j = getD out (to + j) 0 ⊕ getD src (from + j) 0 ⊗ v
+  unfoldable pub addedSpaced : List ℕ → ℕ → ℕ → List ℕ → ℕ → ℕ → ℕ → ℕ
+  addedSpaced out to step src from stride j = plus f (getD out (to + j * step) 0) (getD src (from + j * stride) 0)
 
-unfoldable pub stepped : List ℕ → List ℕ → ℕ → ℕ
-stepped cur by j = getD cur j 0 ⊗ getD by j 0
+  unfoldable pub addedProduct : List ℕ → ℕ → List ℕ → ℕ → List ℕ → ℕ → ℕ → ℕ
+  addedProduct out to src from by at j = plus f (getD out (to + j) 0) (times f (getD src (from + j) 0) (getD by (at + j) 0))
 
-unfoldable pub accrued : List ℕ → ℕ → List ℕ → List ℕ → ℕ → ℕ
-accrued out to cur by j = getD out (to + j) 0 ⊕ getD cur j 0 ⊗ getD by j 0
+  unfoldable pub addedMultiple : List ℕ → ℕ → List ℕ → ℕ → ℕ → ℕ → ℕ
+  addedMultiple out to src from v j = plus f (getD out (to + j) 0) (times f (getD src (from + j) 0) v)
 
-unfoldable pub shifted : List ℕ → ℕ → List ℕ → List ℕ → ℕ → ℕ → ℕ
-shifted out to carry by at j = getD carry j 0 ⊕ getD out (to + j) 0 ⊗ getD by (at + j) 0
+  unfoldable pub stepped : List ℕ → List ℕ → ℕ → ℕ
+  stepped cur by j = times f (getD cur j 0) (getD by j 0)
 
-unfoldable pub parted : List ℕ → ℕ → List ℕ → ℕ → ℕ → ℕ → ℕ
-parted out to src a b j = getD out (to + j) 0 ⊗ (getD src (a + j) 0 ⊕ getD src (b + j) 0)
+  unfoldable pub accrued : List ℕ → ℕ → List ℕ → List ℕ → ℕ → ℕ
+  accrued out to cur by j = plus f (getD out (to + j) 0) (times f (getD cur j 0) (getD by j 0))
 
-unfoldable pub lookedUp : List ℕ → ℕ → List ℕ → ℕ → ℕ
-lookedUp out to table j = getD table (getD out (to + j) 0) 0
+  unfoldable pub shifted : List ℕ → ℕ → List ℕ → List ℕ → ℕ → ℕ → ℕ
+  shifted out to carry by at j = minus f (getD carry j 0) (times f (getD out (to + j) 0) (getD by (at + j) 0))
 
--- whether the first n numbers of a list are zero
-unfoldable pub allZero : List ℕ → ℕ → Bool
-allZero xs n = all (λ j. eqb (getD xs j 0) 0) n
+  unfoldable pub parted : List ℕ → ℕ → List ℕ → ℕ → ℕ → ℕ → ℕ
+  parted out to src a b j = times f (getD out (to + j) 0) (minus f (getD src (a + j) 0) (getD src (b + j) 0))
 
--- the inverses of all symbols
-pub record Inverses (table : List ℕ) : Type 0 where
-  pub long : length table ≡ 256
-  pub at : (x : ℕ) → x < 256 → elem (getD table x 0) ≡ ops .inv (elem x)
+  unfoldable pub lookedUp : List ℕ → ℕ → List ℕ → ℕ → ℕ
+  lookedUp out to table j = getD table (reduced f (getD out (to + j) 0)) 0
 
--- those of zero and of the first i powers of the root
-pub record Inverted (table : List ℕ) (i : ℕ) : Type 0 where
-  pub long : length table ≡ 256
-  pub none : getD table 0 0 ≡ 0
-  pub at : (m : ℕ) → m < i → zpow m ⊗ getD table (zpow m) 0 ≡ 1
-  pub small : (m : ℕ) → m < i → getD table (zpow m) 0 < 256
+  -- whether the first n numbers of a list stand for zero
+  unfoldable pub allZero : List ℕ → ℕ → Bool
+  allZero xs n = all (λ j. eqb (reduced f (getD xs j 0)) 0) n
+
+  -- the inverses of all symbols
+  pub record Inverses (table : List ℕ) : Type 0 where
+    pub long : length table ≡ size
+    pub at : (x : ℕ) → x < size → elem (getD table x 0) ≡ ops .inv (elem x)
+
+  -- those of zero and of the first i powers of the root
+  pub record Inverted (table : List ℕ) (i : ℕ) : Type 0 where
+    pub long : length table ≡ size
+    pub none : getD table 0 0 ≡ 0
+    pub at : (m : ℕ) → m < i → ops .mul (elem (getD table (rootPower f m) 0)) (pow ops root m) ≡ ops .one

@@ -1,14 +1,26 @@
 // Kernels: loops over a run of symbols, one loop each with one step a symbol and no branch or table, so that the compiler does many symbols at a time.
 // Each promises what its run holds afterwards and that every other symbol of the buffer is as it was. Beside them the table of inverses with its look-up,
 // and the test for zeros, which stops early.
-use symbol::Symbol;
-use symbol::ladder::product;
-use symbol::powers::all_powers;
+use symbol::plain::ORDER;
+use symbol::plain::all_powers;
+use symbol::plain::difference;
+use symbol::plain::index;
+use symbol::plain::product;
+use symbol::plain::sum;
 ghost use mathlib.Core.Path.{_≡_};
 ghost use Prim.Native.Nat.{_+_, _*_, _<_, _≤_};
-ghost use lib.ListN.{length};
+ghost use lib.ListN.{length, getD};
+ghost use Rattle.symbol.specs.Elem.{gf256};
 ghost use Rattle.kernel.specs.Runs.{Run, filled, copied, repeated, added, addedProduct, addedMultiple, stepped, accrued, shifted, parted, lookedUp, sampled};
 ghost use Rattle.kernel.specs.Runs.{Spaced, addedSpaced, sumApart, addedApart, allZero, Inverses};
+
+// The symbol at a place.
+pub fn at(xs: &[u8], i: usize) -> u8
+    requires { ⌜ i < length (now xs) ⌝ }
+    ensures { λ r. ⌜ r ≡ getD (now (xs .entry)) i 0 ⌝ }
+{
+    xs[i]
+}
 
 // v at len places from the place `to` on.
 pub fn fill(out: &mut [u8], to: usize, len: usize, v: u8)
@@ -82,11 +94,11 @@ pub fn sample(out: &mut [u8], to: usize, len: usize, src: &[u8], step: usize)
 // A run plus another buffer's.
 pub fn add(out: &mut [u8], to: usize, len: usize, src: &[u8], from: usize)
     requires { ⌜ (to + len ≤ length (now out)) × (from + len ≤ length (now src)) ⌝ }
-    ensures { λ _. ⌜ Run (added (now (out .entry)) to (now (src .entry)) from) (now (out .entry)) (now (out .exit)) to len ⌝ }
+    ensures { λ _. ⌜ Run (added gf256 (now (out .entry)) to (now (src .entry)) from) (now (out .entry)) (now (out .exit)) to len ⌝ }
 {
     let mut j = 0usize;
     while j < len {
-        out[to + j] = out[to + j] ^ src[from + j];
+        out[to + j] = sum(out[to + j], src[from + j]);
         j += 1;
     }
 }
@@ -94,12 +106,12 @@ pub fn add(out: &mut [u8], to: usize, len: usize, src: &[u8], from: usize)
 // The sum of n symbols, so many places apart.
 fn sum_apart(src: &[u8], at: usize, gap: usize, n: usize) -> u8
     requires { ⌜ at + n * gap < length (now src) + gap ⌝ }
-    ensures { λ r. ⌜ r ≡ sumApart (now (src .entry)) at gap n ⌝ }
+    ensures { λ r. ⌜ r ≡ sumApart gf256 (now (src .entry)) at gap n ⌝ }
 {
     let mut v = 0u8;
     let mut b = 0usize;
     while b < n {
-        v = v ^ src[at + b * gap];
+        v = sum(v, src[at + b * gap]);
         b += 1;
     }
     v
@@ -116,11 +128,11 @@ pub fn add_apart(
     n: usize,
 )
     requires { ⌜ (to + len ≤ length (now out)) × (from + len ≤ length (now src)) × (from + n * gap + len ≤ length (now src) + gap) ⌝ }
-    ensures { λ _. ⌜ Run (addedApart (now (out .entry)) to (now (src .entry)) from gap n) (now (out .entry)) (now (out .exit)) to len ⌝ }
+    ensures { λ _. ⌜ Run (addedApart gf256 (now (out .entry)) to (now (src .entry)) from gap n) (now (out .entry)) (now (out .exit)) to len ⌝ }
 {
     let mut j = 0usize;
     while j < len {
-        out[to + j] = out[to + j] ^ sum_apart(src, from + j, gap, n);
+        out[to + j] = sum(out[to + j], sum_apart(src, from + j, gap, n));
         j += 1;
     }
 }
@@ -136,11 +148,11 @@ pub fn add_spaced(
     stride: usize,
 )
     requires { ⌜ (to + len * step < length (now out) + step) × (from + len * stride < length (now src) + stride) × (0 < step) ⌝ }
-    ensures { λ _. ⌜ Spaced (addedSpaced (now (out .entry)) to step (now (src .entry)) from stride) (now (out .entry)) (now (out .exit)) to step len ⌝ }
+    ensures { λ _. ⌜ Spaced (addedSpaced gf256 (now (out .entry)) to step (now (src .entry)) from stride) (now (out .entry)) (now (out .exit)) to step len ⌝ }
 {
     let mut j = 0usize;
     while j < len {
-        out[to + j * step] = out[to + j * step] ^ src[from + j * stride];
+        out[to + j * step] = sum(out[to + j * step], src[from + j * stride]);
         j += 1;
     }
 }
@@ -156,11 +168,11 @@ pub fn add_product(
     at: usize,
 )
     requires { ⌜ (to + len ≤ length (now out)) × (from + len ≤ length (now src)) × (at + len ≤ length (now by)) ⌝ }
-    ensures { λ _. ⌜ Run (addedProduct (now (out .entry)) to (now (src .entry)) from (now (by .entry)) at) (now (out .entry)) (now (out .exit)) to len ⌝ }
+    ensures { λ _. ⌜ Run (addedProduct gf256 (now (out .entry)) to (now (src .entry)) from (now (by .entry)) at) (now (out .entry)) (now (out .exit)) to len ⌝ }
 {
     let mut j = 0usize;
     while j < len {
-        out[to + j] = out[to + j] ^ product(src[from + j], by[at + j]);
+        out[to + j] = sum(out[to + j], product(src[from + j], by[at + j]));
         j += 1;
     }
 }
@@ -168,11 +180,11 @@ pub fn add_product(
 // A run plus another buffer's, times one symbol.
 pub fn add_multiple(out: &mut [u8], to: usize, len: usize, src: &[u8], from: usize, v: u8)
     requires { ⌜ (to + len ≤ length (now out)) × (from + len ≤ length (now src)) ⌝ }
-    ensures { λ _. ⌜ Run (addedMultiple (now (out .entry)) to (now (src .entry)) from v) (now (out .entry)) (now (out .exit)) to len ⌝ }
+    ensures { λ _. ⌜ Run (addedMultiple gf256 (now (out .entry)) to (now (src .entry)) from v) (now (out .entry)) (now (out .exit)) to len ⌝ }
 {
     let mut j = 0usize;
     while j < len {
-        out[to + j] = out[to + j] ^ product(src[from + j], v);
+        out[to + j] = sum(out[to + j], product(src[from + j], v));
         j += 1;
     }
 }
@@ -180,28 +192,28 @@ pub fn add_multiple(out: &mut [u8], to: usize, len: usize, src: &[u8], from: usi
 // The current terms times their factors, and the products added to a run.
 pub fn accrue(out: &mut [u8], to: usize, len: usize, cur: &mut [u8], by: &[u8])
     requires { ⌜ (to + len ≤ length (now out)) × (len ≤ length (now cur)) × (len ≤ length (now by)) ⌝ }
-    ensures { λ _. ⌜ Run (accrued (now (out .entry)) to (now (cur .entry)) (now (by .entry))) (now (out .entry)) (now (out .exit)) to len ⌝ }
-    ensures { λ _. ⌜ Run (stepped (now (cur .entry)) (now (by .entry))) (now (cur .entry)) (now (cur .exit)) 0 len ⌝ }
+    ensures { λ _. ⌜ Run (accrued gf256 (now (out .entry)) to (now (cur .entry)) (now (by .entry))) (now (out .entry)) (now (out .exit)) to len ⌝ }
+    ensures { λ _. ⌜ Run (stepped gf256 (now (cur .entry)) (now (by .entry))) (now (cur .entry)) (now (cur .exit)) 0 len ⌝ }
 {
     let mut j = 0usize;
     while j < len {
         let v = product(cur[j], by[j]);
         cur[j] = v;
-        out[to + j] = out[to + j] ^ v;
+        out[to + j] = sum(out[to + j], v);
         j += 1;
     }
 }
 
-// A run times another buffer's, plus what is carried; the run as it was is carried on.
+// What is carried, less a run times another buffer's; the run as it was is carried on.
 pub fn shift(out: &mut [u8], to: usize, len: usize, carry: &mut [u8], by: &[u8], at: usize)
     requires { ⌜ (to + len ≤ length (now out)) × (len ≤ length (now carry)) × (at + len ≤ length (now by)) ⌝ }
-    ensures { λ _. ⌜ Run (shifted (now (out .entry)) to (now (carry .entry)) (now (by .entry)) at) (now (out .entry)) (now (out .exit)) to len ⌝ }
+    ensures { λ _. ⌜ Run (shifted gf256 (now (out .entry)) to (now (carry .entry)) (now (by .entry)) at) (now (out .entry)) (now (out .exit)) to len ⌝ }
     ensures { λ _. ⌜ Run (copied (now (out .entry)) to) (now (carry .entry)) (now (carry .exit)) 0 len ⌝ }
 {
     let mut j = 0usize;
     while j < len {
         let v = out[to + j];
-        out[to + j] = carry[j] ^ product(v, by[at + j]);
+        out[to + j] = difference(carry[j], product(v, by[at + j]));
         carry[j] = v;
         j += 1;
     }
@@ -210,23 +222,23 @@ pub fn shift(out: &mut [u8], to: usize, len: usize, carry: &mut [u8], by: &[u8],
 // A run times the differences of two runs of another buffer.
 pub fn part(out: &mut [u8], to: usize, len: usize, src: &[u8], a: usize, b: usize)
     requires { ⌜ (to + len ≤ length (now out)) × (a + len ≤ length (now src)) × (b + len ≤ length (now src)) ⌝ }
-    ensures { λ _. ⌜ Run (parted (now (out .entry)) to (now (src .entry)) a b) (now (out .entry)) (now (out .exit)) to len ⌝ }
+    ensures { λ _. ⌜ Run (parted gf256 (now (out .entry)) to (now (src .entry)) a b) (now (out .entry)) (now (out .exit)) to len ⌝ }
 {
     let mut j = 0usize;
     while j < len {
-        out[to + j] = product(out[to + j], src[a + j] ^ src[b + j]);
+        out[to + j] = product(out[to + j], difference(src[a + j], src[b + j]));
         j += 1;
     }
 }
 
-// What a table of 256 has for each symbol of a run.
+// What a table of all symbols has for each symbol of a run.
 pub fn look_up(out: &mut [u8], to: usize, len: usize, table: &[u8])
-    requires { ⌜ (to + len ≤ length (now out)) × (length (now table) ≡ 256) ⌝ }
-    ensures { λ _. ⌜ Run (lookedUp (now (out .entry)) to (now (table .entry))) (now (out .entry)) (now (out .exit)) to len ⌝ }
+    requires { ⌜ (to + len ≤ length (now out)) × (length (now table) ≡ gf256 .coding .size) ⌝ }
+    ensures { λ _. ⌜ Run (lookedUp gf256 (now (out .entry)) to (now (table .entry))) (now (out .entry)) (now (out .exit)) to len ⌝ }
 {
     let mut j = 0usize;
     while j < len {
-        out[to + j] = table[out[to + j] as usize];
+        out[to + j] = table[index(out[to + j])];
         j += 1;
     }
 }
@@ -234,11 +246,11 @@ pub fn look_up(out: &mut [u8], to: usize, len: usize, table: &[u8])
 // Whether the first len symbols are zero.
 pub fn all_zero(xs: &[u8], len: usize) -> bool
     requires { ⌜ len ≤ length (now xs) ⌝ }
-    ensures { λ r. ⌜ r ≡ allZero (now (xs .entry)) len ⌝ }
+    ensures { λ r. ⌜ r ≡ allZero gf256 (now (xs .entry)) len ⌝ }
 {
     let mut j = 0usize;
     while j < len {
-        if xs[j] != 0 {
+        if index(xs[j]) != 0 {
             return false;
         }
         j += 1;
@@ -248,14 +260,14 @@ pub fn all_zero(xs: &[u8], len: usize) -> bool
 
 // A table of the inverses of all symbols; of zero, zero.
 pub fn inverses(table: &mut [u8])
-    requires { ⌜ length (now table) ≡ 256 ⌝ }
-    ensures { λ _. ⌜ Inverses (now (table .exit)) ⌝ }
+    requires { ⌜ length (now table) ≡ gf256 .coding .size ⌝ }
+    ensures { λ _. ⌜ Inverses gf256 (now (table .exit)) ⌝ }
 {
     let powers = all_powers();
     table[0] = 0;
     let mut i = 0usize;
-    while i < Symbol::ORDER {
-        table[powers[i] as usize] = powers[(Symbol::ORDER - i) % Symbol::ORDER];
+    while i < ORDER {
+        table[index(powers[i])] = powers[(ORDER - i) % ORDER];
         i += 1;
     }
 }

@@ -1,18 +1,38 @@
 -- What an admissible layout is, as a test and as facts, and what follows for its numbers.
-use mathlib.Core.Path.{_≡_, sym}
-use mathlib.Core.Bool.{Bool, true, false, not}
-use mathlib.Core.Logic.{⊎-elim}
-use Prim.Native.Nat.{ℕ, _+_, _-_, _*_, _/_, _%_, _^_, _≤_, _<_}
-use native.Mathlib.Nat.{le-mul-of-pos-right, one-le-pow, pow-le-pow-right, le-trans, le-of-lt, div-lt-iff-lt-mul, div-le-self}
+use mathlib.Core.Path.{_≡_, sym, ap, _∙_}
+use mathlib.Core.Bool.{Bool, true, false, not, _&&_, false≢true}
+use Prim.Native.Nat.{ℕ, zero, suc, _+_, _-_, _*_, _/_, _%_, _^_, _≤_, _<_}
+use native.Mathlib.Nat.{mul-div-le, mul-le-mul-right, le-mul-of-pos-right, one-le-pow, pow-le-pow-right, le-trans, le-of-lt, div-lt-iff-lt-mul, div-le-self}
 use native.Mathlib.Omega.{arith}
-use lib.Dec.{leb}
-use borrow.Author.Tests.{leb-true, le-leb, eqb-true}
-use Rattle.lists.proofs.Bools.{both, and-true, not-both, either, not-true-false, told-true}
+use mir.Val.{Fits}
+use mir.Syntax.{w32}
+use lib.Dec.{leb, eqb}
+use borrow.Author.Tests.{leb-true, le-leb, lt-leb, eqb-true, eq-eqb}
+use Rattle.lists.proofs.Bools.{both, and-true, not-both, not-true-false, told-true}
 use Rattle.layout.specs.declared.Layout.{Layout}
-use Rattle.layout.specs.Layout.{trays, wholeRacks, digits, layers, groups, trayLimit, layerLimit, sizeAllowed, admissible, lostCountFits, Admissible}
+use Rattle.layout.specs.Layout.{trays, wholeRacks, digits, layers, groups, trayLimit, layerLimit, sizeAllowed, admissible, lostCountFits, Cabinet, Admissible}
 
-module _ (l : Layout) where
-  pub admissible-facts : admissible l ≡ true → Admissible l
+-- the test of a size
+pub size-none : (N u : ℕ) → u ≡ 0 → false ≡ sizeAllowed N u
+unfolding sizeAllowed
+size-none N u e = sym (ap (λ b. b && eqb (u * (N / u)) N) (lt-leb 1 u (omega arith)))
+
+pub size-some : (N u : ℕ) → ¬ (u ≡ 0) → eqb (u * (N / u)) N ≡ sizeAllowed N u
+unfolding sizeAllowed
+size-some N u e = sym (ap (λ b. b && eqb (u * (N / u)) N) (le-leb 1 u (omega arith)))
+
+pub size-facts : (N u : ℕ) → sizeAllowed N u ≡ true → (1 ≤ u) × (u * (N / u) ≡ N)
+unfolding sizeAllowed
+size-facts N u h = let b = both (leb 1 u) (eqb (u * (N / u)) N) h in (leb-true _ _ (b .0), eqb-true _ _ (b .1))
+
+pub size-not : (N u : ℕ) → sizeAllowed N u ≡ false → 1 ≤ u → ¬ (u * (N / u) ≡ N)
+size-not N u h p e = false≢true (sym h ∙ sym (size-some N u (λ z. omega arith)) ∙ eq-eqb _ _ e)
+
+pub quotient-fits : (N u : ℕ) → Fits w32 N → Fits w32 (u * (N / u))
+quotient-fits N u f = let e = mul-div-le N u in omega arith
+
+module _ (N : ℕ) (l : Layout) where
+  pub admissible-facts : admissible N l ≡ true → Admissible N l
   unfolding admissible
   admissible-facts h =
       let h7 = both _ (leb (layers l) layerLimit) h in
@@ -21,24 +41,29 @@ module _ (l : Layout) where
       let h4 = both _ (leb (l .size) (trays l - l .dimension)) (h5 .0) in
       let h3 = both _ (leb (l .size) (l .dimension)) (h4 .0) in
       let h2 = both _ (leb (trays l) trayLimit) (h3 .0) in
-      let h1 = both (leb 2 (l .racks)) (sizeAllowed (l .size)) (h2 .0) in
+      let h1 = both (leb 2 (l .racks)) (sizeAllowed N (l .size)) (h2 .0) in
       record {
-        racks-low = leb-true _ _ (h1 .0);
-        size-ok = h1 .1;
-        trays-high = leb-true _ _ (h2 .1);
-        dimension-low = leb-true _ _ (h3 .1);
-        checks-low = leb-true _ _ (h4 .1);
-        helpers-low = leb-true _ _ (h5 .1);
-        helpers-high = leb-true _ _ (h6 .1);
-        layers-high = leb-true _ _ (h7 .1);
+        cabinet = record {
+          racks-low = leb-true _ _ (h1 .0);
+          size-low = size-facts N (l .size) (h1 .1) .0;
+          trays-high = leb-true _ _ (h2 .1);
+          dimension-low = leb-true _ _ (h3 .1);
+          checks-low = leb-true _ _ (h4 .1);
+          helpers-low = leb-true _ _ (h5 .1);
+          helpers-high = leb-true _ _ (h6 .1);
+          layers-high = leb-true _ _ (h7 .1);
+        };
+        size-ok = size-facts N (l .size) (h1 .1) .1;
       }
 
-  pub facts-admissible : Admissible l → true ≡ admissible l
-  unfolding admissible
-  facts-admissible a =
+  pub facts-admissible : Admissible N l → true ≡ admissible N l
+  unfolding admissible sizeAllowed
+  facts-admissible q =
+      let a = q .cabinet in
       simp (
         le-leb _ _ (a .racks-low),
-        a .size-ok,
+        le-leb _ _ (a .size-low),
+        eq-eqb _ _ (q .size-ok),
         le-leb _ _ (a .trays-high),
         le-leb _ _ (a .dimension-low),
         le-leb _ _ (a .checks-low),
@@ -48,28 +73,16 @@ module _ (l : Layout) where
       )
 
   -- from a test of it, and the branch taken on that
-  pub admitted-so : (a : Bool) → a ≡ admissible l → not a ≡ false → Admissible l
+  pub admitted-so : (a : Bool) → a ≡ admissible N l → not a ≡ false → Admissible N l
   admitted-so a e h = admissible-facts (told-true e h)
 
-  pub inadmissible : (Admissible l → ⊥) → false ≡ admissible l
-  inadmissible h = not-true-false (admissible l) (λ e. h (admissible-facts e))
-
--- the sizes allowed are odd numbers from 1 to 17
-pub size-range : (u : ℕ) → sizeAllowed u ≡ true → (1 ≤ u) × (u ≤ 17)
-unfolding sizeAllowed
-size-range u h =
-    ⊎-elim (λ h.
-    ⊎-elim (λ h.
-    ⊎-elim (λ h.
-    ⊎-elim (λ h. omega (arith, eqb-true u 1 h)) (λ h. omega (arith, eqb-true u 3 h)) (either _ _ h))
-    (λ h. omega (arith, eqb-true u 5 h)) (either _ _ h))
-    (λ h. omega (arith, eqb-true u 15 h)) (either _ _ h))
-    (λ h. omega (arith, eqb-true u 17 h)) (either _ _ h)
+  pub inadmissible : (Admissible N l → ⊥) → false ≡ admissible N l
+  inadmissible h = not-true-false (admissible N l) (λ e. h (admissible-facts e))
 
 -- bounds on the numbers of an admissible layout
 pub record Bounds (l : Layout) : Type 0 where
   pub size-low : 1 ≤ l .size
-  pub size-high : l .size ≤ 17
+  pub size-high : l .size ≤ 30
   pub racks-high : l .racks ≤ trayLimit
   pub dimension-high : l .dimension < trays l
   pub digits-low : 1 ≤ digits l
@@ -77,14 +90,14 @@ pub record Bounds (l : Layout) : Type 0 where
   pub layers-low : 1 ≤ layers l
   pub groups-high : groups l ≤ layerLimit
 
-pub bounds : (l : Layout) → Admissible l → Bounds l
+pub bounds : (l : Layout) → Cabinet l → Bounds l
 bounds l a =
-    let u = size-range (l .size) (a .size-ok) in
+    let n = mul-le-mul-right (l .size) (a .racks-low) in
     let low : 1 ≤ digits l = omega arith in
     record {
-      size-low = u .0;
-      size-high = u .1;
-      racks-high = omega (arith, le-mul-of-pos-right (l .racks) (u .0));
+      size-low = a .size-low;
+      size-high = omega arith;
+      racks-high = omega (arith, le-mul-of-pos-right (l .racks) (a .size-low));
       dimension-high = omega arith;
       digits-low = low;
       digits-high = omega arith;
@@ -92,7 +105,7 @@ bounds l a =
       groups-high = omega (arith, div-le-self (layers l) (digits l), a .layers-high);
     }
 
-module _ (l : Layout) (a : Admissible l) where
+module _ (l : Layout) (a : Cabinet l) where
   -- tray x stands in a rack of the layout
   pub rack-in : (x : ℕ) → x < trays l → x / l .size < l .racks
   rack-in x h = div-lt-iff-lt-mul (bounds l a .size-low) .1 h
@@ -102,10 +115,10 @@ module _ (l : Layout) (a : Admissible l) where
   power-in i h = le-trans (pow-le-pow-right (bounds l a .digits-low) h) (a .layers-high)
 
 -- single bounds in a form that `search` can apply backwards: it finds the layout in the goal and `Admissible` among the fields of c
-pub dimension-in : (l : Layout) → Admissible l → l .dimension ≤ l .racks * l .size
+pub dimension-in : (l : Layout) → Cabinet l → l .dimension ≤ l .racks * l .size
 dimension-in l a = le-of-lt (bounds l a .dimension-high)
 
-pub size-pos : (l : Layout) → Admissible l → 0 < l .size
+pub size-pos : (l : Layout) → Cabinet l → 0 < l .size
 size-pos l a = bounds l a .size-low
 
 -- how many lost trays can be repaired

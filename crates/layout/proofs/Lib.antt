@@ -3,3 +3,4 @@ pub mod Numbers
 pub mod Parts
 pub mod Lists
 pub mod Answer
+pub mod Sizes

@@ -1,36 +1,17 @@
--- What follows for the numbers of an admissible layout: K ≥ 1, R ≥ 1, s ≤ 4, n·s ≤ 255, u·(R − 1) ≤ r − 1, and what the algebra asks of them.
+-- What follows for the numbers of an admissible layout: K ≥ 1, R ≥ 1, s ≤ 4, n·s ≤ 240, u·(R − 1) ≤ r − 1, and what the algebra asks of them.
 -- Assumes nothing.
 use mathlib.Core.Path.{_≡_, refl, ap, _∙_}
-use mathlib.Core.Bool.{Bool, true}
-use mathlib.Core.Logic.{⊎-elim}
 use Prim.Native.Nat.{ℕ, suc, _+_, _-_, _*_, _/_, _%_, _^_, _≤_, _<_}
-use native.Mathlib.Nat.{le-div-iff-mul-le, pow-suc, mul-div-cancel, mod-lt}
+use native.Mathlib.Nat.{mul-le-mul, le-div-iff-mul-le, pow-suc, mul-div-cancel, mod-lt}
 use native.Mathlib.Omega.{arith}
-use borrow.Author.Tests.{eqb-true}
-use Rattle.lists.proofs.Bools.{either}
 use Rattle.algebra.specs.Layers.{groupOf, layerOf}
 use Rattle.algebra.proofs.Layers.{layer-in, group-in}
-use Rattle.algebra.proofs.Numbers.{room-from, base-small, product-small, total-from, enough-from}
+use Rattle.algebra.proofs.Numbers.{room-from, base-small, total-from, enough-from}
 use Rattle.layout.specs.declared.Layout.{Layout}
-use Rattle.layout.specs.Layout.{trays, wholeRacks, parityRacks, groups, checks, digits, layers, sizeAllowed, Admissible}
+use Rattle.layout.specs.Layout.{trays, wholeRacks, parityRacks, groups, checks, digits, layers, Cabinet}
 use Rattle.layout.proofs.Facts.{bounds}
 
--- each size allowed divides 255
-pub size-divides : (u : ℕ) → sizeAllowed u ≡ true → u * (255 / u) ≡ 255
-unfolding sizeAllowed
-size-divides u h =
-    ⊎-elim (λ h.
-    ⊎-elim (λ h.
-    ⊎-elim (λ h.
-    ⊎-elim (λ h. at u 1 refl (eqb-true u 1 h)) (λ h. at u 3 refl (eqb-true u 3 h)) (either _ _ h))
-    (λ h. at u 5 refl (eqb-true u 5 h)) (either _ _ h))
-    (λ h. at u 15 refl (eqb-true u 15 h)) (either _ _ h))
-    (λ h. at u 17 refl (eqb-true u 17 h)) (either _ _ h)
-  where
-    at : (u v : ℕ) → v * (255 / v) ≡ 255 → u ≡ v → u * (255 / u) ≡ 255
-    at u v p e = ap (λ (x : ℕ). x * (255 / x)) e ∙ p
-
-module _ (l : Layout) (a : Admissible l) where
+module _ (l : Layout) (a : Cabinet l) where
   -- K ≥ 1
   pub whole-low : 1 ≤ wholeRacks l
   whole-low = le-div-iff-mul-le (bounds l a .size-low) .1 (omega arith)
@@ -47,13 +28,13 @@ module _ (l : Layout) (a : Admissible l) where
   pub digits-small : digits l ≤ 4
   digits-small = base-small (digits l) (l .racks) digits-below (omega arith)
 
-  -- n·s ≤ 255
-  pub product-high : trays l * digits l ≤ 255
-  product-high = product-small (trays l) (digits l) (l .racks) (omega arith) digits-below (omega arith)
+  -- n·s ≤ 240
+  pub product-high : trays l * digits l ≤ 240
+  product-high = let m : trays l * digits l ≤ 60 * 4 = mul-le-mul (a .trays-high) digits-small in omega arith
 
-  -- B·s ≤ 255/u
-  pub room : l .racks * digits l ≤ 255 / l .size
-  room = room-from 255 (l .racks) (l .size) (digits l) (bounds l a .size-low) (size-divides (l .size) (a .size-ok)) product-high
+  -- B·s ≤ N/u
+  pub room : (N : ℕ) → 240 ≤ N → l .size * (N / l .size) ≡ N → l .racks * digits l ≤ N / l .size
+  room N h e = room-from N (l .racks) (l .size) (digits l) (bounds l a .size-low) e (let p = product-high in omega arith)
 
   -- the checks u·w + m, w below R and m + v below u, are among the r checks
   pub enough : (w m : ℕ) → w < parityRacks l → m + l .dimension % l .size < l .size → l .size * w + m < checks l

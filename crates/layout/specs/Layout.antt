@@ -1,6 +1,6 @@
 -- The numbers of a cabinet and which layouts are admissible, as document 01 says, with the limits of document 02 (W4).
 -- Assumes nothing.
-use mathlib.Core.Bool.{Bool, true, cond, _&&_, _||_}
+use mathlib.Core.Bool.{Bool, cond, _&&_}
 use mathlib.Core.Path.{_≡_}
 use Prim.Native.Nat.{ℕ, _+_, _-_, _*_, _/_, _%_, _^_, _≤_}
 use lib.Dec.{leb, eqb}
@@ -47,15 +47,16 @@ groups l = layers l / digits l
 abbrev pub traffic : Layout → ℕ
 traffic l = l .helpers * groups l
 
--- 1, 3, 5, 15 or 17
-unfoldable pub sizeAllowed : ℕ → Bool
-sizeAllowed u = eqb u 1 || eqb u 3 || eqb u 5 || eqb u 15 || eqb u 17
+-- the rack sizes for which a field whose root has N powers has points: the divisors of N. In two racks or more of at most 60 trays these are 1, 3, 5, 15 and 17 for 255,
+-- the field of 256, and 1, 2, 4, 8 and 16 for 256, the field modulo 257 (sizes-255 and sizes-256 in proofs/Sizes.antt)
+unfoldable pub sizeAllowed : ℕ → ℕ → Bool
+sizeAllowed N u = leb 1 u && eqb (u * (N / u)) N
 
--- which layouts are admissible
-unfoldable pub admissible : Layout → Bool
-admissible l =
+-- which layouts are admissible for such a field
+unfoldable pub admissible : ℕ → Layout → Bool
+admissible N l =
     leb 2 (l .racks)
-    && sizeAllowed (l .size)
+    && sizeAllowed N (l .size)
     && leb (trays l) trayLimit
     && leb (l .size) (l .dimension)
     && leb (l .size) (trays l - l .dimension)
@@ -67,10 +68,10 @@ admissible l =
 unfoldable pub lostCountFits : Layout → ℕ → Bool
 lostCountFits l e = leb 1 e && leb (e + l .dimension % l .size) (l .size)
 
--- the same as facts, for the contracts of functions that want an admissible layout
-pub record Admissible (l : Layout) : Type 0 where
+-- the same as facts, for the contracts of functions that want an admissible layout: what holds for every field
+pub record Cabinet (l : Layout) : Type 0 where
   pub racks-low : 2 ≤ l .racks
-  pub size-ok : sizeAllowed (l .size) ≡ true
+  pub size-low : 1 ≤ l .size
   pub trays-high : trays l ≤ trayLimit
   pub dimension-low : l .size ≤ l .dimension
   pub checks-low : l .size ≤ trays l - l .dimension
@@ -78,9 +79,14 @@ pub record Admissible (l : Layout) : Type 0 where
   pub helpers-high : l .helpers ≤ l .racks - 1
   pub layers-high : layers l ≤ layerLimit
 
+-- and what the field adds
+pub record Admissible (N : ℕ) (l : Layout) : Type 0 where
+  pub cabinet : Cabinet l
+  pub size-ok : l .size * (N / l .size) ≡ N
+
 -- the answer of the layout call
-unfoldable pub measured : Layout → Measured
-measured l = cond (admissible l) (Known (layers l) (checks l) (traffic l)) (Refused 1)
+unfoldable pub measured : ℕ → Layout → Measured
+measured N l = cond (admissible N l) (Known (layers l) (checks l) (traffic l)) (Refused 1)
 
 -- document 01's numbers for each answer: the refusal (0 for none), L, r and the traffic
 pub record Numbers : Type 0 where

@@ -6,7 +6,7 @@ use power::capped_power;
 ghost use mathlib.Core.Path.{_≡_};
 ghost use Prim.Native.Nat.{_+_, _*_, _/_, _%_, _^_, _<_, _≤_};
 ghost use Rattle.algebra.specs.Layers.{digit, groupOf, layerOf};
-ghost use Rattle.layout.specs.Layout.{sizeAllowed, admissible, lostCountFits, trays, checks, digits, layers, groups, layerLimit, Admissible, measured};
+ghost use Rattle.layout.specs.Layout.{sizeAllowed, admissible, lostCountFits, trays, checks, digits, layers, groups, layerLimit, Cabinet, measured};
 ghost use Rattle.layout.specs.Inner.{InGroup, HasLayer};
 
 // The limits on the trays of a cabinet and the layers of a tray (document 02, W4).
@@ -85,18 +85,18 @@ pub enum Measured {
 }
 
 // The rack sizes for which the field has points.
-fn size_allowed(u: u32) -> bool
-    ensures { λ r. ⌜ r ≡ sizeAllowed u ⌝ }
+fn size_allowed(order: u32, u: u32) -> bool
+    ensures { λ r. ⌜ r ≡ sizeAllowed order u ⌝ }
 {
-    match u {
-        1 | 3 | 5 | 15 | 17 => true,
-        _ => false,
+    if u == 0 {
+        return false;
     }
+    u * (order / u) == order
 }
 
-// Whether a layout is admissible.
-pub fn admitted(l: Layout) -> bool
-    ensures { λ r. ⌜ r ≡ admissible l ⌝ }
+// Whether a layout is admissible for a field whose root has so many powers.
+pub fn admitted(order: u32, l: Layout) -> bool
+    ensures { λ r. ⌜ r ≡ admissible order l ⌝ }
 {
     let b = l.racks;
     let u = l.size;
@@ -105,10 +105,13 @@ pub fn admitted(l: Layout) -> bool
     if b < 2 {
         return false;
     }
-    if !size_allowed(u) {
+    if !size_allowed(order, u) {
         return false;
     }
     if TRAYS < b {
+        return false;
+    }
+    if TRAYS < u {
         return false;
     }
     let n = b * u;
@@ -139,7 +142,7 @@ pub fn admitted(l: Layout) -> bool
 
 // L, the number of layers.
 pub fn layer_count(l: Layout) -> u32
-    requires { ⌜ Admissible l ⌝ }
+    requires { ⌜ Cabinet l ⌝ }
     ensures { λ r. ⌜ r ≡ layers l ⌝ }
 {
     capped_power(digit_count(l), l.racks)
@@ -147,7 +150,7 @@ pub fn layer_count(l: Layout) -> u32
 
 // s, the base of a layer's digits.
 pub fn digit_count(l: Layout) -> u32
-    requires { ⌜ Admissible l ⌝ }
+    requires { ⌜ Cabinet l ⌝ }
     ensures { λ r. ⌜ r ≡ digits l ⌝ }
 {
     l.helpers - l.dimension / l.size + 1
@@ -155,7 +158,7 @@ pub fn digit_count(l: Layout) -> u32
 
 // n, the number of trays.
 pub fn tray_count(l: Layout) -> u32
-    requires { ⌜ Admissible l ⌝ }
+    requires { ⌜ Cabinet l ⌝ }
     ensures { λ r. ⌜ r ≡ trays l ⌝ }
 {
     l.racks * l.size
@@ -163,7 +166,7 @@ pub fn tray_count(l: Layout) -> u32
 
 // r, the number of checks of a layer.
 pub fn check_count(l: Layout) -> u32
-    requires { ⌜ Admissible l ⌝ }
+    requires { ⌜ Cabinet l ⌝ }
     ensures { λ r. ⌜ r ≡ checks l ⌝ }
 {
     l.racks * l.size - l.dimension
@@ -171,7 +174,7 @@ pub fn check_count(l: Layout) -> u32
 
 // L/s, the number of groups for a host rack.
 pub fn group_count(l: Layout) -> u32
-    requires { ⌜ Admissible l ⌝ }
+    requires { ⌜ Cabinet l ⌝ }
     ensures { λ r. ⌜ r ≡ groups l ⌝ }
 {
     layer_count(l) / digit_count(l)
@@ -179,7 +182,7 @@ pub fn group_count(l: Layout) -> u32
 
 // Whether so many lost trays of one rack can be repaired: 1 to u - v.
 pub fn lost_count_fits(l: Layout, count: usize) -> bool
-    requires { ⌜ Admissible l ⌝ }
+    requires { ⌜ Cabinet l ⌝ }
     ensures { λ r. ⌜ r ≡ lostCountFits l count ⌝ }
 {
     let u = l.size;
@@ -222,11 +225,11 @@ pub fn group_of(l: Layout, h: u32, j: u32) -> u32
 }
 
 // The layout call: L, r and the traffic of a repair, or 1.
-pub fn measure(l: Layout) -> Measured
-    ensures { λ r. ⌜ r ≡ measured l ⌝ }
+pub fn measure(order: u32, l: Layout) -> Measured
+    ensures { λ r. ⌜ r ≡ measured order l ⌝ }
 {
     let helpers = l.helpers;
-    if !admitted(l) {
+    if !admitted(order, l) {
         return Measured::Refused(1);
     }
     Measured::Known {

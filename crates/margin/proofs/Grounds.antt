@@ -13,8 +13,8 @@ use mir.Syntax.{w32}
 use mir.Val.{toZ, ofZ}
 use Rattle.lists.proofs.Bools.{passed, all-true, all-false, told-false, told-true}
 use Rattle.layout.specs.declared.Layout.{Layout}
-use Rattle.layout.specs.Layout.{trays, admissible, trayLimit}
-use Rattle.layout.proofs.Facts.{admissible-facts, dimension-in}
+use Rattle.layout.specs.Layout.{trays, admissible, trayLimit, Cabinet}
+use Rattle.layout.proofs.Facts.{admissible-facts, admitted-so, dimension-in}
 use Rattle.margin.specs.declared.LossMargin.the-variants.{Known, Refused}
 use Rattle.margin.specs.Margin.{stateLimit, live, marginOf, statesKnown, marginRefusal, marginAnswer, marginValue}
 use Rattle.margin.proofs.Signed.{handed-on}
@@ -28,24 +28,27 @@ module _ (states : List ℕ) where
   unfolding statesKnown
   known-false x l h = all-false _ (length states) x l (λ e. omega (arith, leb-true (getD states x 0) stateLimit e))
 
-module _ (l : Layout) (states : List ℕ) where
-  pub margin-1 : (a : Bool) → a ≡ admissible l → not a ≡ true → 1 ≡ marginRefusal l states
+module _ (N : ℕ) (l : Layout) (states : List ℕ) where
+  pub margin-1 : (a : Bool) → a ≡ admissible N l → not a ≡ true → 1 ≡ marginRefusal N l states
   unfolding marginRefusal
   margin-1 a e h = simp (told-false e h)
 
-  module _ (a : Bool) (e : a ≡ admissible l) (h : not a ≡ false) (n : ℕ) (f : n ≡ trays l) where
-    pub margin-2 : (length states ≡ n → ⊥) → 2 ≡ marginRefusal l states
+  module _ (a : Bool) (e : a ≡ admissible N l) (h : not a ≡ false) (n : ℕ) (f : n ≡ trays l) where
+    pub margin-2 : (length states ≡ n → ⊥) → 2 ≡ marginRefusal N l states
     unfolding marginRefusal
     margin-2 d = simp (told-true e h, ne-eqb (length states) (trays l) (λ q. d (q ∙ sym f)))
 
     module _ (k : length states ≡ n) (b : Bool) (g : b ≡ statesKnown states) where
-      pub margin-3 : not b ≡ true → 3 ≡ marginRefusal l states
+      pub margin-3 : not b ≡ true → 3 ≡ marginRefusal N l states
       unfolding marginRefusal
       margin-3 q = simp (told-true e h, eq-eqb (length states) (trays l) (k ∙ f), told-false g q)
 
-      pub margin-0 : not b ≡ false → 0 ≡ marginRefusal l states
+      pub margin-0 : not b ≡ false → 0 ≡ marginRefusal N l states
       unfolding marginRefusal
       margin-0 q = simp (told-true e h, eq-eqb (length states) (trays l) (k ∙ f), told-true g q)
+
+  pub cabinet-so : (a : Bool) → a ≡ admissible N l → not a ≡ false → Cabinet l
+  cabinet-so a e h = admitted-so N l a e h .cabinet
 
   -- past the grounds there are as many states as trays, and k is within the limit
   pub record Measurable : Type 0 where
@@ -53,27 +56,27 @@ module _ (l : Layout) (states : List ℕ) where
     pub length-high : length states ≤ trayLimit
     pub dimension-high : l .dimension ≤ trayLimit
 
-  pub measurable : marginRefusal l states ≡ 0 → Measurable
+  pub measurable : marginRefusal N l states ≡ 0 → Measurable
   unfolding marginRefusal
   measurable h =
-      let p = passed (admissible l) 1 _ (lit< tt) h in
+      let p = passed (admissible N l) 1 _ (lit< tt) h in
       let q = passed (eqb (length states) (trays l)) 2 _ (lit< tt) (p .1) in
-      let a = admissible-facts l (p .0) in
+      let a = admissible-facts N l (p .0) .cabinet in
       let e = eqb-true (length states) (trays l) (q .0) in
       record { length-is = e; length-high = omega arith; dimension-high = omega (arith, dimension-in l a) }
 
-  module _ (e : ℕ) (q : e ≡ marginRefusal l states) where
+  module _ (e : ℕ) (q : e ≡ marginRefusal N l states) where
     module _ (d : e ≡ 0 → ⊥) where
-      pub refused-answer : Refused e ≡ marginAnswer l states
+      pub refused-answer : Refused e ≡ marginAnswer N l states
       unfolding marginAnswer
-      refused-answer = simp (ne-eqb (marginRefusal l states) 0 (λ z. d (q ∙ z))) (ap Refused q)
+      refused-answer = simp (ne-eqb (marginRefusal N l states) 0 (λ z. d (q ∙ z))) (ap Refused q)
 
-      pub refused-value : pos 0 ≡ marginValue l states
+      pub refused-value : pos 0 ≡ marginValue N l states
       unfolding marginValue
-      refused-value = simp (ne-eqb (marginRefusal l states) 0 (λ z. d (q ∙ z)))
+      refused-value = simp (ne-eqb (marginRefusal N l states) 0 (λ z. d (q ∙ z)))
 
     module _ (z : e ≡ 0) where
-      pub given-0 : 0 ≡ marginRefusal l states
+      pub given-0 : 0 ≡ marginRefusal N l states
       given-0 = sym z ∙ q
 
       pub given-length : length states ≤ trayLimit
@@ -88,10 +91,10 @@ module _ (l : Layout) (states : List ℕ) where
         unfolding marginOf
         is-margin = handed-on count (l .dimension) h given-dimension m m-is ∙ ap (λ n. pos n -ℤ pos (l .dimension)) p
 
-        pub given-answer : Known (toZ w32 (ofZ w32 m)) ≡ marginAnswer l states
+        pub given-answer : Known (toZ w32 (ofZ w32 m)) ≡ marginAnswer N l states
         unfolding marginAnswer
-        given-answer = simp (eq-eqb (marginRefusal l states) 0 (sym given-0)) (ap Known is-margin)
+        given-answer = simp (eq-eqb (marginRefusal N l states) 0 (sym given-0)) (ap Known is-margin)
 
-        pub given-value : toZ w32 (ofZ w32 m) ≡ marginValue l states
+        pub given-value : toZ w32 (ofZ w32 m) ≡ marginValue N l states
         unfolding marginValue
-        given-value = simp (eq-eqb (marginRefusal l states) 0 (sym given-0)) is-margin
+        given-value = simp (eq-eqb (marginRefusal N l states) 0 (sym given-0)) is-margin

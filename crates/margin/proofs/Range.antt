@@ -31,34 +31,34 @@ sub-rises a b k h = elim (decLt b k) [
 rises : (a b k : ℕ) → a ≤ b → (pos a -ℤ pos k) ≤ℤ (pos b -ℤ pos k)
 rises a b k h = leZ-yes (subst T (sym (ap₂ leZ (sub-is a k) (sub-is b k) ∙ sub-rises a b k h)) tt)
 
-pub margin-range : (l : Layout) (states : List ℕ) → marginRefusal l states ≡ 0
+pub margin-range : (N : ℕ) (l : Layout) (states : List ℕ) → marginRefusal N l states ≡ 0
     → (negℤ (pos (l .dimension)) ≤ℤ marginOf l states) × (marginOf l states ≤ℤ (pos (trays l) -ℤ pos (l .dimension)))
 unfolding marginOf
-margin-range l states h =
-    let m = measurable l states h in
+margin-range N l states h =
+    let m = measurable N l states h in
     let p = live states (length states) in (
       subst (λ (z : ℤ). z ≤ℤ (pos p -ℤ pos (l .dimension))) (+ℤ-idl (negℤ (pos (l .dimension)))) (rises 0 p (l .dimension) (omega arith)),
       rises p (trays l) (l .dimension) (omega (arith, live-high states (length states), m .length-is)),
     )
 
 -- every tray in one state x, which counts or not
-module _ (l : Layout) (a : admissible l ≡ true) (x : ℕ) (h : x ≤ stateLimit) (t : Bool) (e : counts x ≡ t) where
+module _ (N : ℕ) (l : Layout) (a : admissible N l ≡ true) (x : ℕ) (h : x ≤ stateLimit) (t : Bool) (e : counts x ≡ t) where
   abbrev states : List ℕ
   states = replicate (trays l) x
 
   each : (i : ℕ) → i < length states → getD states i 0 ≡ x
   each i k = getD-replicate (trays l) i x 0 (omega (arith, length-replicate (trays l) x))
 
-  alike : (marginRefusal l states ≡ 0) × (marginOf l states ≡ pos (cond t (trays l) 0) -ℤ pos (l .dimension))
+  alike : (marginRefusal N l states ≡ 0) × (marginOf l states ≡ pos (cond t (trays l) 0) -ℤ pos (l .dimension))
   unfolding marginOf
   alike = (
-    sym (margin-0 l states true (sym a) refl (trays l) refl (length-replicate (trays l) x) true (known-true states (λ i k. omega (arith, each i k))) refl),
+    sym (margin-0 N l states true (sym a) refl (trays l) refl (length-replicate (trays l) x) true (known-true states (λ i k. omega (arith, each i k))) refl),
     ap (λ n. pos n -ℤ pos (l .dimension)) (live-same t states (length states) (λ i k. ap counts (each i k) ∙ e) ∙ ap (λ n. cond t n 0) (length-replicate (trays l) x)),
   )
 
-pub margin-ends : (l : Layout) → admissible l ≡ true →
-    ((marginRefusal l (replicate (trays l) 0) ≡ 0) × (marginOf l (replicate (trays l) 0) ≡ negℤ (pos (l .dimension))))
-    × ((marginRefusal l (replicate (trays l) 1) ≡ 0) × (marginOf l (replicate (trays l) 1) ≡ pos (trays l) -ℤ pos (l .dimension)))
-margin-ends l a =
-    let low = alike l a 0 (lit≤ tt) false refl in
-    ((low .0, low .1 ∙ +ℤ-idl (negℤ (pos (l .dimension)))), alike l a 1 (lit≤ tt) true refl)
+pub margin-ends : (N : ℕ) (l : Layout) → admissible N l ≡ true →
+    ((marginRefusal N l (replicate (trays l) 0) ≡ 0) × (marginOf l (replicate (trays l) 0) ≡ negℤ (pos (l .dimension))))
+    × ((marginRefusal N l (replicate (trays l) 1) ≡ 0) × (marginOf l (replicate (trays l) 1) ≡ pos (trays l) -ℤ pos (l .dimension)))
+margin-ends N l a =
+    let low = alike N l a 0 (lit≤ tt) false refl in
+    ((low .0, low .1 ∙ +ℤ-idl (negℤ (pos (l .dimension)))), alike N l a 1 (lit≤ tt) true refl)

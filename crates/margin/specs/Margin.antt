@@ -32,16 +32,16 @@ marginOf l states = pos (live states (length states)) -ℤ pos (l .dimension)
 unfoldable pub statesKnown : List ℕ → Bool
 statesKnown states = all (λ x. leb (getD states x 0) stateLimit) (length states)
 
--- the refusal, 0 for none
-unfoldable pub marginRefusal : Layout → List ℕ → ℕ
-marginRefusal l states =
-    unless (admissible l) 1
+-- the refusal in a field whose root has N powers, 0 for none
+unfoldable pub marginRefusal : ℕ → Layout → List ℕ → ℕ
+marginRefusal N l states =
+    unless (admissible N l) 1
     (unless (eqb (length states) (trays l)) 2
     (unless (statesKnown states) 3 0))
 
 -- the answer
-unfoldable pub marginAnswer : Layout → List ℕ → LossMargin
-marginAnswer l states = cond (eqb (marginRefusal l states) 0) (Known (marginOf l states)) (Refused (marginRefusal l states))
+unfoldable pub marginAnswer : ℕ → Layout → List ℕ → LossMargin
+marginAnswer N l states = cond (eqb (marginRefusal N l states) 0) (Known (marginOf l states)) (Refused (marginRefusal N l states))
 
 -- document 01's number and value for each answer
 abbrev pub refusalOf : LossMargin → ℕ
@@ -53,5 +53,5 @@ valueOf (Known m) = m
 valueOf (Refused e) = pos 0
 
 -- the value given: the margin, 0 with a refusal
-unfoldable pub marginValue : Layout → List ℕ → ℤ
-marginValue l states = cond (eqb (marginRefusal l states) 0) (marginOf l states) (pos 0)
+unfoldable pub marginValue : ℕ → Layout → List ℕ → ℤ
+marginValue N l states = cond (eqb (marginRefusal N l states) 0) (marginOf l states) (pos 0)

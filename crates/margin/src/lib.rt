@@ -2,7 +2,7 @@
 // refusing; a margin below zero is an answer. It runs from -k to n - k (proofs/Range.antt).
 use layout::Layout;
 ghost use mathlib.Core.Path.{_≡_};
-ghost use Prim.Native.Nat.{_≤_};
+ghost use Prim.Native.Nat.{_<_, _≤_};
 ghost use lib.IntN.{pos, _-ℤ_};
 ghost use lib.ListN.{length};
 ghost use Rattle.layout.specs.Layout.{trayLimit};
@@ -63,10 +63,10 @@ fn states_known(states: &[u8]) -> bool
 }
 
 // The refusal, 0 for none.
-fn margin_refusal(l: Layout, states: &[u8]) -> u8
-    ensures { λ r. ⌜ r ≡ marginRefusal l (now (states .entry)) ⌝ }
+fn margin_refusal(order: u32, l: Layout, states: &[u8]) -> u8
+    ensures { λ r. ⌜ r ≡ marginRefusal order l (now (states .entry)) ⌝ }
 {
-    if !layout::admitted(l) {
+    if !layout::admitted(order, l) {
         return 1;
     }
     if states.len() != layout::tray_count(l) as usize {
@@ -78,14 +78,14 @@ fn margin_refusal(l: Layout, states: &[u8]) -> u8
     0
 }
 
-// The margin of a cabinet whose trays have these states, one byte a tray.
-pub fn margin(l: Layout, states: &[u8]) -> LossMargin
-    ensures answer { λ r. ⌜ r ≡ marginAnswer l (now (states .entry)) ⌝ }
-    ensures refusal { λ r. ⌜ refusalOf r ≡ marginRefusal l (now (states .entry)) ⌝ }
-    ensures value { λ r. ⌜ valueOf r ≡ marginValue l (now (states .entry)) ⌝ }
+// The margin of a cabinet whose trays have these states, one byte a tray, in a field whose root has so many powers.
+pub fn margin(order: u32, l: Layout, states: &[u8]) -> LossMargin
+    ensures answer { λ r. ⌜ r ≡ marginAnswer order l (now (states .entry)) ⌝ }
+    ensures refusal { λ r. ⌜ refusalOf r ≡ marginRefusal order l (now (states .entry)) ⌝ }
+    ensures value { λ r. ⌜ valueOf r ≡ marginValue order l (now (states .entry)) ⌝ }
 {
     let k = l.dimension;
-    let refusal = margin_refusal(l, states);
+    let refusal = margin_refusal(order, l, states);
     if refusal != 0 {
         return LossMargin::Refused(refusal);
     }

@@ -8,12 +8,13 @@ use native.Mathlib.Omega.{arith}
 use mir.Val.{Fits}
 use mir.Syntax.{w32}
 use lib.ListN.{length}
+use Rattle.algebra.specs.Shape.{Field}
 use Rattle.kernel.specs.Runs.{Inverses}
 use Rattle.layout.specs.declared.Layout.{Layout}
-use Rattle.layout.specs.Layout.{digits, layers, groups, parityRacks, trayLimit, Admissible}
+use Rattle.layout.specs.Layout.{digits, layers, groups, parityRacks, trayLimit, Cabinet}
 use Rattle.layout.proofs.Facts.{bounds, rack-in}
-use Rattle.syndrome.specs.Syndrome.{blockLimit, roomLimit, Block, Allowed}
-use Rattle.syndrome.proofs.Room.{roomOf, rowOf, room-long, row-long}
+use Rattle.blocks.specs.Blocks.{blockLimit, roomLimit, Block, Allowed}
+use Rattle.blocks.proofs.Room.{roomOf, rowOf, room-long, row-long}
 use Rattle.rule.specs.Lost.{firstLost, Losses}
 use Rattle.sums.specs.Inner.{Received, Groups, Summing}
 use Rattle.sums.proofs.Steps.{unknowns-high, sums-high}
@@ -21,7 +22,7 @@ use Rattle.group.specs.Inner.{Losing, Mending, Workspace}
 use Rattle.pieces.specs.Inner.{Rows, Fitting, Piecing, Rooms}
 
 -- ---- the rows of a block
-module _ (l : Layout) (adm : Admissible l) (e s r : ℕ) (few : e + l .dimension % l .size ≤ l .size) (es : s ≡ digits l) (er : r ≡ parityRacks l) where
+module _ (l : Layout) (adm : Cabinet l) (e s r : ℕ) (few : e + l .dimension % l .size ≤ l .size) (es : s ≡ digits l) (er : r ≡ parityRacks l) where
   high : e * s ≤ trayLimit
   high = rw es (sums-high l adm e few)
 
@@ -49,8 +50,8 @@ pub groups-of : (l : Layout) (p left rows w : ℕ) → p + left ≤ groups l →
 groups-of l p left rows w h b a = record { block = b; inside = let t = a .within in omega arith }
 
 -- ---- what a block is told
-module _ (l : Layout) (lost helpers shares host : List ℕ) (w first : ℕ) (spare sums sides found points coefs row cur : List ℕ)
-    (p : Piecing l lost helpers shares host first w spare) (g : Groups l w first) (fit : Fitting l (length lost) w) (r : Rooms sums sides found points coefs row cur) where
+module _ (N : ℕ) (l : Layout) (lost helpers shares host : List ℕ) (w first : ℕ) (spare sums sides found points coefs row cur : List ℕ)
+    (p : Piecing N l lost helpers shares host first w spare) (g : Groups l w first) (fit : Fitting l (length lost) w) (r : Rooms sums sides found points coefs row cur) where
   -- the host rack
   h : ℕ
   h = firstLost l lost / l .size
@@ -60,11 +61,11 @@ module _ (l : Layout) (lost helpers shares host : List ℕ) (w first : ℕ) (spa
 
   host-in : h < l .racks
   unfolding h
-  host-in = rack-in l (p .adm) (firstLost l lost) (p .losses .help .lost-in)
+  host-in = rack-in l (p .adm .cabinet) (firstLost l lost) (p .losses .help .lost-in)
 
   -- e rows are fewer than e·s
   lost-rows : length lost * w ≤ roomLimit
-  lost-rows = le-trans (mul-le-mul-right w (le-mul-of-pos-right (length lost) (bounds l (p .adm) .digits-low))) (fit .sums)
+  lost-rows = le-trans (mul-le-mul-right w (le-mul-of-pos-right (length lost) (bounds l (p .adm .cabinet) .digits-low))) (fit .sums)
 
   pub summing-of : Summing l (firstLost l lost / l .size) w first helpers shares (length lost) sums sides found points coefs row cur
   unfolding h
@@ -73,7 +74,7 @@ module _ (l : Layout) (lost helpers shares host : List ℕ) (w first : ℕ) (spa
       record {
         received = record {
           chosen = record {
-            adm = p .adm;
+            adm = p .adm .cabinet;
             host-in = host-in;
             many = p .losses .help .many;
             inside = p .losses .help .inside;
@@ -95,11 +96,11 @@ module _ (l : Layout) (lost helpers shares host : List ℕ) (w first : ℕ) (spa
         cur-long = le-trans (fit .small) (r .cur-long);
       }
 
-  pub mending-of : (sums′ table : List ℕ) → length sums′ ≡ length sums → Inverses table → Mending l (firstLost l lost / l .size) lost host w first sums′ table
+  pub mending-of : {A : Type 0} (f : Field A) (sums′ table : List ℕ) → length sums′ ≡ length sums → Inverses f table → Mending f l (firstLost l lost / l .size) lost host w first sums′ table
   unfolding h
-  mending-of sums′ table e t = record {
+  mending-of f sums′ table e t = record {
     losing = record {
-      adm = p .adm;
+      adm = p .adm .cabinet;
       host-in = host-in;
       some = p .losses .some;
       few = few;
@@ -114,7 +115,7 @@ module _ (l : Layout) (lost helpers shares host : List ℕ) (w first : ℕ) (spa
   pub space-of : (sides′ found′ points′ coefs′ row′ cur′ : List ℕ) → length sides′ ≡ length sides → length found′ ≡ length found → length points′ ≡ length points →
       length coefs′ ≡ length coefs → length row′ ≡ length row → length cur′ ≡ length cur → Workspace (length lost) w sides′ found′ points′ coefs′ row′ cur′
   space-of sides′ found′ points′ coefs′ row′ cur′ e1 e2 e3 e4 e5 e6 =
-      let b = bounds l (p .adm) in
+      let b = bounds l (p .adm .cabinet) in
       let n : length lost ≤ trayLimit = omega (arith, few) in
       let u = lost-rows in
       record {
@@ -149,5 +150,5 @@ rooms = record { sums-long = all; sides-long = all; found-long = all; points-lon
     row : blockLimit ≤ length rowOf
     row = rw row-long (omega arith)
 
-pub start-fits : (l : Layout) (lost helpers shares host : List ℕ) (first count k : ℕ) (spare : List ℕ) → Piecing l lost helpers shares host first count spare → k < count → Fits w32 (first + k)
-start-fits l lost helpers shares host first count k spare p h = let b = bounds l (p .adm) in record { fits = omega (arith, p .within) }
+pub start-fits : (N : ℕ) (l : Layout) (lost helpers shares host : List ℕ) (first count k : ℕ) (spare : List ℕ) → Piecing N l lost helpers shares host first count spare → k < count → Fits w32 (first + k)
+start-fits N l lost helpers shares host first count k spare p h = let b = bounds l (p .adm .cabinet) in record { fits = omega (arith, p .within) }

@@ -47,9 +47,9 @@ module _ {A : Type 0} (f : Field A) (l : Layout) (lost helpers shares host : Lis
       go p h g (no d) = m .done p (omega arith) (omega arith)
 
 -- what the next block is told
-pub piecing-next : (l : Layout) (lost helpers shares host : List ℕ) (first count k w : ℕ) (old spare : List ℕ) → Piecing l lost helpers shares host first count old → k + w ≤ count →
-    length spare ≡ length old → Piecing l lost helpers shares host (first + k) w spare
-piecing-next l lost helpers shares host first count k w old spare q h e = record {
+pub piecing-next : (N : ℕ) (l : Layout) (lost helpers shares host : List ℕ) (first count k w : ℕ) (old spare : List ℕ) → Piecing N l lost helpers shares host first count old → k + w ≤ count →
+    length spare ≡ length old → Piecing N l lost helpers shares host (first + k) w spare
+piecing-next N l lost helpers shares host first count k w old spare q h e = record {
   adm = q .adm;
   losses = q .losses;
   shares-long = q .shares-long;

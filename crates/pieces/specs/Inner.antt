@@ -6,7 +6,7 @@ use Prim.Native.Nat.{ℕ, _+_, _*_, _≤_}
 use lib.ListN.{length}
 use Rattle.layout.specs.declared.Layout.{Layout}
 use Rattle.layout.specs.Layout.{digits, layers, groups, parityRacks, trayLimit, Admissible}
-use Rattle.syndrome.specs.Syndrome.{blockLimit, roomLimit}
+use Rattle.blocks.specs.Blocks.{blockLimit, roomLimit}
 use Rattle.rule.specs.Lost.{Losses}
 
 -- rows enough for the R unknowns of a group and for its host sums, with e lost trays
@@ -21,9 +21,9 @@ pub record Fitting (l : Layout) (e w : ℕ) : Type 0 where
   pub unknowns : parityRacks l * w ≤ roomLimit
   pub sums : e * digits l * w ≤ roomLimit
 
--- lost trays of one rack with the helpers' shares, the host rack and the spare, and groups to repair
-pub record Piecing (l : Layout) (lost helpers shares host : List ℕ) (first count : ℕ) (spare : List ℕ) : Type 0 where
-  pub adm : Admissible l
+-- lost trays of one rack with the helpers' shares, the host rack and the spare, and groups to repair, in a field whose root has N powers
+pub record Piecing (N : ℕ) (l : Layout) (lost helpers shares host : List ℕ) (first count : ℕ) (spare : List ℕ) : Type 0 where
+  pub adm : Admissible N l
   pub losses : Losses l lost helpers
   pub shares-long : length shares ≡ l .helpers * (length lost * groups l)
   pub host-long : length host ≡ l .size * layers l

@@ -1,19 +1,20 @@
 // A piece of a repair: consecutive groups, a block at a time. A block is a power of s of groups that begins at a multiple of itself, so that the groups' points
-// go through it in runs (crates sums and group). Promises that the layers of these groups in the spare are as the rule fixes them, and every other byte as it
-// was.
+// go through it in runs (crates sums and group). Promises that the layers of these groups in the spare are as the rule fixes them, and every other symbol as
+// it was.
 use layout::Layout;
+use symbol::plain::SIZE;
 ghost use Prim.Native.Nat.{_+_, _%_, _≤_};
 ghost use lib.ListN.{length};
 ghost use Rattle.symbol.specs.Elem.{gf256};
 ghost use Rattle.kernel.specs.Runs.{Inverses};
-ghost use Rattle.layout.specs.Layout.{Admissible};
+ghost use Rattle.layout.specs.Layout.{Cabinet};
 ghost use Rattle.rule.specs.Lost.{Piece};
 ghost use Rattle.sums.specs.Inner.{Groups};
 ghost use Rattle.pieces.specs.Inner.{Rows, Fitting, Piecing, Rooms};
 
 // The rows that a block needs: for the unknowns of its groups, and for their host sums.
 fn row_count(l: Layout, e: u32) -> u32
-    requires { ⌜ Admissible l × (e + l .dimension % l .size ≤ l .size) ⌝ }
+    requires { ⌜ Cabinet l × (e + l .dimension % l .size ≤ l .size) ⌝ }
     ensures { λ r. ⌜ Rows l e r ⌝ }
 {
     let unknowns = sums::unknown_count(l);
@@ -43,7 +44,7 @@ fn mend_block(
     cur: &mut [u8],
     table: &[u8],
 )
-    requires { ⌜ Piecing l (now lost) (now helpers) (now shares) (now host) first w (now spare) × Groups l w first × Fitting l (length (now lost)) w × Rooms (now sums) (now sides) (now found) (now points) (now coefs) (now row) (now cur) × Inverses (now table) ⌝ }
+    requires { ⌜ Piecing (gf256 .order) l (now lost) (now helpers) (now shares) (now host) first w (now spare) × Groups l w first × Fitting l (length (now lost)) w × Rooms (now sums) (now sides) (now found) (now points) (now coefs) (now row) (now cur) × Inverses gf256 (now table) ⌝ }
     ensures { λ _. ⌜ Piece gf256 l (now (lost .entry)) (now (helpers .entry)) (now (shares .entry)) (now (host .entry)) first w (now (spare .entry)) (now (spare .exit)) ⌝ }
 {
     let h = lost[0] / l.size;
@@ -103,13 +104,13 @@ fn mend_blocks(
     cur: &mut [u8],
     table: &[u8],
 )
-    requires { ⌜ Piecing l (now lost) (now helpers) (now shares) (now host) first count (now spare) × Rooms (now sums) (now sides) (now found) (now points) (now coefs) (now row) (now cur) × Inverses (now table) ⌝ }
+    requires { ⌜ Piecing (gf256 .order) l (now lost) (now helpers) (now shares) (now host) first count (now spare) × Rooms (now sums) (now sides) (now found) (now points) (now coefs) (now row) (now cur) × Inverses gf256 (now table) ⌝ }
     ensures { λ _. ⌜ Piece gf256 l (now (lost .entry)) (now (helpers .entry)) (now (shares .entry)) (now (host .entry)) first count (now (spare .entry)) (now (spare .exit)) ⌝ }
 {
     let rows = row_count(l, lost.len() as u32);
     let mut k = 0u32;
     while k < count {
-        let w = syndrome::block_at(l, first + k, count - k, rows);
+        let w = blocks::block_at(l, first + k, count - k, rows);
         mend_block(
             l,
             lost,
@@ -143,17 +144,17 @@ pub fn mend_groups(
     count: u32,
     spare: &mut [u8],
 )
-    requires { ⌜ Piecing l (now lost) (now helpers) (now shares) (now host) first count (now spare) ⌝ }
+    requires { ⌜ Piecing (gf256 .order) l (now lost) (now helpers) (now shares) (now host) first count (now spare) ⌝ }
     ensures { λ _. ⌜ Piece gf256 l (now (lost .entry)) (now (helpers .entry)) (now (shares .entry)) (now (host .entry)) first count (now (spare .entry)) (now (spare .exit)) ⌝ }
 {
-    let mut sums = [0u8; syndrome::ROOM];
-    let mut sides = [0u8; syndrome::ROOM];
-    let mut found = [0u8; syndrome::ROOM];
-    let mut points = [0u8; syndrome::ROOM];
-    let mut coefs = [0u8; syndrome::ROOM];
-    let mut row = [0u8; syndrome::BLOCK];
-    let mut cur = [0u8; syndrome::BLOCK];
-    let mut table = [0u8; 256];
+    let mut sums = [0u8; blocks::ROOM];
+    let mut sides = [0u8; blocks::ROOM];
+    let mut found = [0u8; blocks::ROOM];
+    let mut points = [0u8; blocks::ROOM];
+    let mut coefs = [0u8; blocks::ROOM];
+    let mut row = [0u8; blocks::BLOCK];
+    let mut cur = [0u8; blocks::BLOCK];
+    let mut table = [0u8; SIZE];
     kernel::inverses(&mut table);
     mend_blocks(
         l,

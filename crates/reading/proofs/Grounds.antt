@@ -11,63 +11,68 @@ use lib.ListN.{length, take, drop}
 use borrow.Author.Tests.{eq-eqb, ne-eqb, eqb-true}
 use Rattle.lists.proofs.Bools.{both, not-both, passed, told-false, told-true}
 use Rattle.layout.specs.declared.Layout.{Layout}
-use Rattle.layout.specs.Layout.{trayLimit, layerLimit, trays, layers, admissible}
-use Rattle.layout.proofs.Facts.{admissible-facts}
+use Rattle.layout.specs.Layout.{trayLimit, layerLimit, trays, layers, admissible, Admissible, Cabinet}
+use Rattle.layout.proofs.Facts.{admissible-facts, admitted-so}
 use Rattle.reading.specs.Reading.{inRange, available, partRefusal, run, partGiven}
 use Rattle.reading.specs.Inner.{Readable}
 use Rattle.reading.proofs.Ranges.{range-facts}
 
-module _ (l : Layout) (codeword spare lost done tray first end : ℕ) where
-  pub ground-1 : (a : Bool) → a ≡ admissible l → not a ≡ true → 1 ≡ partRefusal l codeword spare lost done tray first end
+module _ (N : ℕ) (l : Layout) (codeword spare lost done tray first end : ℕ) where
+  pub ground-1 : (a : Bool) → a ≡ admissible N l → not a ≡ true → 1 ≡ partRefusal N l codeword spare lost done tray first end
   unfolding partRefusal
   ground-1 a e h = simp (told-false e h)
 
-  module _ (a : Bool) (e : a ≡ admissible l) (h : not a ≡ false) (n m : ℕ) (p : n ≡ trays l) (q : m ≡ layers l) where
-    lengths : (codeword ≡ trays l * layers l → spare ≡ layers l → ⊥) → 2 ≡ partRefusal l codeword spare lost done tray first end
+  module _ (a : Bool) (e : a ≡ admissible N l) (h : not a ≡ false) (n m : ℕ) (p : n ≡ trays l) (q : m ≡ layers l) where
+    lengths : (codeword ≡ trays l * layers l → spare ≡ layers l → ⊥) → 2 ≡ partRefusal N l codeword spare lost done tray first end
     unfolding partRefusal
     lengths k = simp (told-true e h, not-both (eqb codeword (trays l * layers l)) (eqb spare (layers l)) (λ c s. k (eqb-true _ _ c) (eqb-true _ _ s)))
 
-    pub ground-2-codeword : (codeword ≡ n * m → ⊥) → 2 ≡ partRefusal l codeword spare lost done tray first end
+    pub ground-2-codeword : (codeword ≡ n * m → ⊥) → 2 ≡ partRefusal N l codeword spare lost done tray first end
     ground-2-codeword d = lengths (λ c s. d (c ∙ sym (ap₂ _*_ p q)))
 
-    pub ground-2-spare : (spare ≡ m → ⊥) → 2 ≡ partRefusal l codeword spare lost done tray first end
+    pub ground-2-spare : (spare ≡ m → ⊥) → 2 ≡ partRefusal N l codeword spare lost done tray first end
     ground-2-spare d = lengths (λ c s. d (s ∙ sym q))
 
     module _ (c : codeword ≡ n * m) (s : spare ≡ m) (b : Bool) (f : b ≡ inRange l lost done tray first end) where
-      pub ground-3 : not b ≡ true → 3 ≡ partRefusal l codeword spare lost done tray first end
+      pub ground-3 : not b ≡ true → 3 ≡ partRefusal N l codeword spare lost done tray first end
       unfolding partRefusal
       ground-3 k = simp (told-true e h, eq-eqb _ _ (c ∙ ap₂ _*_ p q), eq-eqb _ _ (s ∙ q), told-false f k)
 
       module _ (k : not b ≡ false) (v : Bool) (g : v ≡ available l lost done tray first end) where
-        pub ground-13 : not v ≡ true → 13 ≡ partRefusal l codeword spare lost done tray first end
+        pub ground-13 : not v ≡ true → 13 ≡ partRefusal N l codeword spare lost done tray first end
         unfolding partRefusal
         ground-13 t = simp (told-true e h, eq-eqb _ _ (c ∙ ap₂ _*_ p q), eq-eqb _ _ (s ∙ q), told-true f k, told-false g t)
 
-        pub ground-0 : not v ≡ false → 0 ≡ partRefusal l codeword spare lost done tray first end
+        pub ground-0 : not v ≡ false → 0 ≡ partRefusal N l codeword spare lost done tray first end
         unfolding partRefusal
         ground-0 t = simp (told-true e h, eq-eqb _ _ (c ∙ ap₂ _*_ p q), eq-eqb _ _ (s ∙ q), told-true f k, told-true g t)
 
   -- what lets a read through
   pub record Accepted : Type 0 where
+    pub adm : Admissible N l
     pub readable : Readable l lost done tray first end
     pub codeword-long : codeword ≡ trays l * layers l
     pub spare-long : spare ≡ layers l
     pub given : available l lost done tray first end ≡ true
 
-  pub accepted : partRefusal l codeword spare lost done tray first end ≡ 0 → Accepted
+  pub accepted : partRefusal N l codeword spare lost done tray first end ≡ 0 → Accepted
   unfolding partRefusal
   accepted z =
-      let g1 = passed (admissible l) 1 _ (omega arith) z in
+      let g1 = passed (admissible N l) 1 _ (omega arith) z in
       let g2 = passed (eqb codeword (trays l * layers l) && eqb spare (layers l)) 2 _ (omega arith) (g1 .1) in
       let g3 = passed (inRange l lost done tray first end) 3 _ (omega arith) (g2 .1) in
       let g13 = passed (available l lost done tray first end) 13 0 (omega arith) (g3 .1) in
       let two = both (eqb codeword (trays l * layers l)) (eqb spare (layers l)) (g2 .0) in
       record {
-        readable = range-facts l lost done tray first end (admissible-facts l (g1 .0)) (g3 .0);
+        adm = admissible-facts N l (g1 .0);
+        readable = range-facts l lost done tray first end (admissible-facts N l (g1 .0) .cabinet) (g3 .0);
         codeword-long = eqb-true _ _ (two .0);
         spare-long = eqb-true _ _ (two .1);
         given = g13 .0;
       }
+
+pub cabinet-so : (N : ℕ) (l : Layout) (a : Bool) → a ≡ admissible N l → not a ≡ false → Cabinet l
+cabinet-so N l a e h = admitted-so N l a e h .cabinet
 
 -- the end of a run of tray y lies within n trays of m symbols
 pub run-in : (n m y end : ℕ) → y < n → end ≤ m → y * m + end ≤ n * m
@@ -77,7 +82,7 @@ run-in n m y end h k =
     omega arith
 
 -- the run of tray y, as the code places it in the codeword
-module _ {l : Layout} {codeword spare lost done tray first end : ℕ} (r : Accepted l codeword spare lost done tray first end) {y m : ℕ} (ys : y ≡ tray) (k : m ≡ layers l) where
+module _ {N : ℕ} {l : Layout} {codeword spare lost done tray first end : ℕ} (r : Accepted N l codeword spare lost done tray first end) {y m : ℕ} (ys : y ≡ tray) (k : m ≡ layers l) where
   pub run-end : y * m + end ≤ codeword
   run-end = rw (r .codeword-long, ys, k) (run-in (trays l) (layers l) tray end (r .readable .tray-in) (r .readable .end-in))
 
@@ -88,28 +93,28 @@ module _ {l : Layout} {codeword spare lost done tray first end : ℕ} (r : Accep
       omega (arith, run-end, r .codeword-long)
 
 -- what is handed out; the code has the trays' numbers as x (the lost one) and y, and the ground as g
-module _ (l : Layout) (codeword spare : List ℕ) (lost done tray first end x y g : ℕ) (xs : x ≡ lost) (ys : y ≡ tray)
-    (q : g ≡ partRefusal l (length codeword) (length spare) x done y first end) where
-  pub the-ground : g ≡ partRefusal l (length codeword) (length spare) lost done tray first end
-  the-ground = q ∙ ap₂ (λ a b. partRefusal l (length codeword) (length spare) a done b first end) xs ys
+module _ (N : ℕ) (l : Layout) (codeword spare : List ℕ) (lost done tray first end x y g : ℕ) (xs : x ≡ lost) (ys : y ≡ tray)
+    (q : g ≡ partRefusal N l (length codeword) (length spare) x done y first end) where
+  pub the-ground : g ≡ partRefusal N l (length codeword) (length spare) lost done tray first end
+  the-ground = q ∙ ap₂ (λ a b. partRefusal N l (length codeword) (length spare) a done b first end) xs ys
 
-  pub refused-part : (g ≡ 0 → ⊥) → [] ≡ partGiven l codeword spare lost done tray first end
+  pub refused-part : (g ≡ 0 → ⊥) → [] ≡ partGiven N l codeword spare lost done tray first end
   unfolding partGiven
   refused-part d = simp (ne-eqb _ _ (λ z. d (the-ground ∙ z)))
 
   module _ (z : g ≡ 0) where
-    none : partRefusal l (length codeword) (length spare) lost done tray first end ≡ 0
+    none : partRefusal N l (length codeword) (length spare) lost done tray first end ≡ 0
     none = sym the-ground ∙ z
 
-    pub facts : Accepted l (length codeword) (length spare) lost done tray first end
-    facts = accepted l (length codeword) (length spare) lost done tray first end none
+    pub facts : Accepted N l (length codeword) (length spare) lost done tray first end
+    facts = accepted N l (length codeword) (length spare) lost done tray first end none
 
-    pub spare-part : y ≡ x → take (end - first) (drop first spare) ≡ partGiven l codeword spare lost done tray first end
+    pub spare-part : y ≡ x → take (end - first) (drop first spare) ≡ partGiven N l codeword spare lost done tray first end
     unfolding partGiven run
     spare-part e = simp (eq-eqb _ _ none, eq-eqb tray lost (sym ys ∙ e ∙ xs))
 
     module _ (d : y ≡ x → ⊥) (m : ℕ) (k : m ≡ layers l) where
-      pub codeword-part : take (y * m + end - (y * m + first)) (drop (y * m + first) codeword) ≡ partGiven l codeword spare lost done tray first end
+      pub codeword-part : take (y * m + end - (y * m + first)) (drop (y * m + first) codeword) ≡ partGiven N l codeword spare lost done tray first end
       unfolding partGiven run
       codeword-part = simp (eq-eqb _ _ none, ne-eqb tray lost (λ e. d (ys ∙ e ∙ sym xs)))
           (ap₂ (λ a b. take a (drop b codeword)) (less (y * m) end first) (ap₂ (λ a b. a * b + first) ys k))

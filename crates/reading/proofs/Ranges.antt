@@ -9,7 +9,7 @@ use lib.Dec.{leb, ltb}
 use borrow.Author.Tests.{lt-ltb, ltb-true, le-leb, leb-true, eq-eqb, ne-eqb}
 use Rattle.lists.proofs.Bools.{both, not-true-false, all-holds, all-true}
 use Rattle.layout.specs.declared.Layout.{Layout}
-use Rattle.layout.specs.Layout.{layerLimit, trays, layers, groups, Admissible}
+use Rattle.layout.specs.Layout.{layerLimit, trays, layers, groups, Cabinet}
 use Rattle.layout.specs.Inner.{HasLayer}
 use Rattle.layout.proofs.Facts.{bounds, rack-in}
 use Rattle.rule.specs.Rule.{groupAt}
@@ -39,7 +39,7 @@ module _ (l : Layout) (lost done tray first end : ℕ) where
         end-in = leb-true _ _ (h4 .1);
       }
 
-  pub range-facts : Admissible l → inRange l lost done tray first end ≡ true → Readable l lost done tray first end
+  pub range-facts : Cabinet l → inRange l lost done tray first end ≡ true → Readable l lost done tray first end
   range-facts a h =
       let r = facts h in
       record { adm = a; lost-in = r .lost-in; tray-in = r .tray-in; done-in = r .done-in; rises = r .rises; end-in = r .end-in }

@@ -13,11 +13,10 @@ use lib.Seq.{ext-getD, getD-take, getD-drop, length-take-le}
 use borrow.Author.Tests.{eq-eqb, ne-eqb}
 use Rattle.lists.specs.Lists.{all}
 use Rattle.algebra.specs.Shape.{Field}
-use Rattle.symbol.specs.Elem.{gf256}
+use Rattle.algebra.specs.Plain.{Working}
 use Rattle.layout.specs.declared.Layout.{Layout}
 use Rattle.layout.specs.declared.Tray.{Tray}
 use Rattle.layout.specs.Layout.{trays, layers}
-use Rattle.codeword.specs.Codeword.{Usable}
 use Rattle.codeword.proofs.Usable.{usable}
 use Rattle.codeword.proofs.Buffers.{layers-pos}
 use Rattle.rule.specs.Rule.{trayPart, groupAt}
@@ -42,14 +41,15 @@ all-of-it : (l : Layout) (lost done tray first end : ℕ) → tray ≡ lost → 
 unfolding available
 all-of-it l lost done tray first end e h = simp (eq-eqb tray lost e) at h
 
-module _ {A : Type 0} (f : Field A) (l : Layout) (ok : Usable f l) (x : Tray) (c codeword spare : List ℕ) (done : ℕ)
+module _ {A : Type 0} {f : Field A} (W : Working f) (l : Layout) (x : Tray) (c codeword spare : List ℕ) (done : ℕ)
     (r : Repairing f l x c codeword spare done) (tray first end : ℕ) where
   -- the lost tray, in the spare
-  lost-run : Accepted l (length codeword) (length spare) (x .0) done tray first end → tray ≡ x .0 → take (end - first) (drop first spare) ≡ take (end - first) (drop first (trayPart l c tray))
+  lost-run : Accepted (f .order) l (length codeword) (length spare) (x .0) done tray first end → tray ≡ x .0 → take (end - first) (drop first spare) ≡ take (end - first) (drop first (trayPart l c tray))
   lost-run a e =
+      let ok = usable W l (a .adm) in
       let long : length (trayPart l c tray) ≡ layers l = tray-long l c (trays l) tray (layers-pos f l ok) (r .of .codeword .long) (a .readable .tray-in) in
       let ready = done-facts l (x .0) done first end (all-of-it l (x .0) done tray first end e (a .given)) in
-      let cut = cutting-one f l ok (x .0) (r .helpers) (r .shares) (r .host) (a .readable .adm) (r .chosen) (r .start) (r .calls) in
+      let cut = cutting-one W l (a .adm) (x .0) (r .helpers) (r .shares) (r .host) (r .chosen) (r .start) (r .calls) in
       same-run spare (trayPart l c tray) first first (end - first) (omega (arith, a .spare-long, a .readable .end-in, a .readable .rises)) (omega (arith, long, a .readable .end-in, a .readable .rises)) (λ i h.
       let j : first + i < end = omega arith in
       let g : groupAt l (x .0) (first + i) < r .G = omega (arith, ready (first + i) (omega arith) j, r .far-enough) in
@@ -58,9 +58,10 @@ module _ {A : Type 0} (f : Field A) (l : Layout) (ok : Usable f l) (x : Tray) (c
       ∙ ap (λ y. getD (trayPart l c y) (first + i) 0) (sym e))
 
   -- another tray, in the store
-  store-run : Accepted l (length codeword) (length spare) (x .0) done tray first end → ¬ (tray ≡ x .0) →
+  store-run : Accepted (f .order) l (length codeword) (length spare) (x .0) done tray first end → ¬ (tray ≡ x .0) →
       take (end - first) (drop (tray * layers l + first) codeword) ≡ take (end - first) (drop first (trayPart l c tray))
   store-run a d =
+      let ok = usable W l (a .adm) in
       let long : length (trayPart l codeword tray) ≡ layers l = tray-long l codeword (trays l) tray (layers-pos f l ok) (a .codeword-long) (a .readable .tray-in) in
       same-run codeword (trayPart l codeword tray) (tray * layers l + first) first (end - first)
       (omega (arith, a .codeword-long, a .readable .rises, run-in (trays l) (layers l) tray end (a .readable .tray-in) (a .readable .end-in)))
@@ -70,32 +71,24 @@ module _ {A : Type 0} (f : Field A) (l : Layout) (ok : Usable f l) (x : Tray) (c
 
   -- If the spare was written by pieces of a repair of the lost tray x, from shares and sound trays of the codeword c, and at least up to the groups given, and
   -- the store's other trays are those of c: a part that is given is that run of layers of c's tray.
-  pub reads-the-codeword : partRefusal l (length codeword) (length spare) (x .0) done tray first end ≡ 0 →
-      partGiven l codeword spare (x .0) done tray first end ≡ take (end - first) (drop first (trayPart l c tray))
+  pub reads-the-codeword : partRefusal (f .order) l (length codeword) (length spare) (x .0) done tray first end ≡ 0 →
+      partGiven (f .order) l codeword spare (x .0) done tray first end ≡ take (end - first) (drop first (trayPart l c tray))
   unfolding partGiven run
   reads-the-codeword z =
-      let a = accepted l (length codeword) (length spare) (x .0) done tray first end z in
+      let a = accepted (f .order) l (length codeword) (length spare) (x .0) done tray first end z in
       elim (ℕ-discrete tray (x .0)) [
-        | yes e ↦ simp (eq-eqb (partRefusal l (length codeword) (length spare) (x .0) done tray first end) 0 z, eq-eqb tray (x .0) e) (lost-run a e)
-        | no d ↦ simp (eq-eqb (partRefusal l (length codeword) (length spare) (x .0) done tray first end) 0 z, ne-eqb tray (x .0) d) (store-run a d)
+        | yes e ↦ simp (eq-eqb (partRefusal (f .order) l (length codeword) (length spare) (x .0) done tray first end) 0 z, eq-eqb tray (x .0) e) (lost-run a e)
+        | no d ↦ simp (eq-eqb (partRefusal (f .order) l (length codeword) (length spare) (x .0) done tray first end) 0 z, ne-eqb tray (x .0) d) (store-run a d)
       ]
 
--- the same for document 01's field: what is not refused is of an admissible layout
-pub reads-the-codeword-256 : (l : Layout) (x : Tray) (c codeword spare : List ℕ) (done : ℕ) → Repairing gf256 l x c codeword spare done → (tray first end : ℕ) →
-    partRefusal l (length codeword) (length spare) (x .0) done tray first end ≡ 0 →
-    partGiven l codeword spare (x .0) done tray first end ≡ take (end - first) (drop first (trayPart l c tray))
-reads-the-codeword-256 l x c codeword spare done r tray first end z =
-    let a = accepted l (length codeword) (length spare) (x .0) done tray first end z in
-    reads-the-codeword gf256 l (usable l (a .readable .adm)) x c codeword spare done r tray first end z
-
 -- An empty run is an empty part, also of the lost tray with no group done: the last ground never applies to it.
-pub empty-run : (l : Layout) (codeword spare : List ℕ) (lost done tray first : ℕ) →
-    (available l lost done tray first first ≡ true) × (partGiven l codeword spare lost done tray first first ≡ [])
+pub empty-run : (N : ℕ) (l : Layout) (codeword spare : List ℕ) (lost done tray first : ℕ) →
+    (available l lost done tray first first ≡ true) × (partGiven N l codeword spare lost done tray first first ≡ [])
 unfolding available allDone partGiven run all
-empty-run l codeword spare lost done tray first =
+empty-run N l codeword spare lost done tray first =
     let z : first - first ≡ 0 = omega arith in (
       ap (λ n. not (eqb tray lost) || all (λ i. ltb (groupAt l lost (first + i)) done) n) z ∙ always (not (eqb tray lost)),
-      nothing (eqb (partRefusal l (length codeword) (length spare) lost done tray first first) 0) (eqb tray lost) (first - first) (drop first spare) (drop (tray * layers l + first) codeword) z,
+      nothing (eqb (partRefusal N l (length codeword) (length spare) lost done tray first first) 0) (eqb tray lost) (first - first) (drop first spare) (drop (tray * layers l + first) codeword) z,
     )
   where
     always : (b : Bool) → (b || true) ≡ true

@@ -23,10 +23,10 @@ allDone l lost done first end = all (λ i. ltb (groupAt l lost (first + i)) done
 unfoldable pub available : Layout → ℕ → ℕ → ℕ → ℕ → ℕ → Bool
 available l lost done tray first end = not (eqb tray lost) || allDone l lost done first end
 
--- the refusal of a read, given the lengths of the codeword and the spare; 0 for none
-unfoldable pub partRefusal : Layout → ℕ → ℕ → ℕ → ℕ → ℕ → ℕ → ℕ → ℕ
-partRefusal l codeword spare lost done tray first end =
-    unless (admissible l) 1
+-- the refusal of a read in a field whose root has N powers, given the lengths of the codeword and the spare; 0 for none. No symbol is looked at
+unfoldable pub partRefusal : ℕ → Layout → ℕ → ℕ → ℕ → ℕ → ℕ → ℕ → ℕ → ℕ
+partRefusal N l codeword spare lost done tray first end =
+    unless (admissible N l) 1
     (unless (eqb codeword (trays l * layers l) && eqb spare (layers l)) 2
     (unless (inRange l lost done tray first end) 3 (unless (available l lost done tray first end) 13 0)))
 
@@ -38,8 +38,8 @@ run l codeword spare lost tray first end =
     (take (end - first) (drop (tray * layers l + first) codeword))
 
 -- the part that is given: the run, and none with a refusal
-unfoldable pub partGiven : Layout → List ℕ → List ℕ → ℕ → ℕ → ℕ → ℕ → ℕ → List ℕ
-partGiven l codeword spare lost done tray first end =
-    cond (eqb (partRefusal l (length codeword) (length spare) lost done tray first end) 0)
+unfoldable pub partGiven : ℕ → Layout → List ℕ → List ℕ → ℕ → ℕ → ℕ → ℕ → ℕ → List ℕ
+partGiven N l codeword spare lost done tray first end =
+    cond (eqb (partRefusal N l (length codeword) (length spare) lost done tray first end) 0)
     (run l codeword spare lost tray first end)
     []

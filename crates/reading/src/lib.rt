@@ -3,9 +3,11 @@
 // the spare was written by pieces of a repair, the part is the codeword's (proofs/ReadsTheCodeword.antt).
 use layout::Layout;
 use layout::Tray;
+use symbol::plain::ORDER;
 ghost use mathlib.Core.Path.{_≡_};
 ghost use lib.ListN.{length};
-ghost use Rattle.layout.specs.Layout.{Admissible};
+ghost use Rattle.symbol.specs.Elem.{gf256};
+ghost use Rattle.layout.specs.Layout.{Cabinet};
 ghost use Rattle.reading.specs.Reading.{inRange, allDone, available, partRefusal, partGiven};
 ghost use Rattle.reading.specs.Inner.{Asked, Readable};
 
@@ -27,7 +29,7 @@ fn all_done(l: Layout, x: u32, done: u32, first: u32, end: u32) -> bool
 
 // Whether both trays are of the layout, so many groups can be done, and the run is one of a tray's layers.
 fn in_range(l: Layout, lost: u32, done: u64, tray: u32, first: u32, end: u32) -> bool
-    requires { ⌜ Admissible l ⌝ }
+    requires { ⌜ Cabinet l ⌝ }
     ensures { λ r. ⌜ r ≡ inRange l lost done tray first end ⌝ }
 {
     let n = layout::tray_count(l);
@@ -68,9 +70,9 @@ fn refusal(
     first: u32,
     end: u32,
 ) -> u8
-    ensures { λ r. ⌜ r ≡ partRefusal l codeword spare lost done tray first end ⌝ }
+    ensures { λ r. ⌜ r ≡ partRefusal (gf256 .order) l codeword spare lost done tray first end ⌝ }
 {
-    if !layout::admitted(l) {
+    if !layout::admitted(ORDER as u32, l) {
         return 1;
     }
     let total = layout::layer_count(l) as usize;
@@ -102,8 +104,8 @@ pub fn read_part<'a>(
     end: u32,
     number: &mut u32,
 ) -> &'a [u8]
-    ensures part { λ r. ⌜ now r ≡ partGiven l (now (codeword .entry)) (now (spare .entry)) (lost .0) done (tray .0) first end ⌝ }
-    ensures number { λ _. ⌜ now (number .exit) ≡ partRefusal l (length (now (codeword .entry))) (length (now (spare .entry))) (lost .0) done (tray .0) first end ⌝ }
+    ensures part { λ r. ⌜ now r ≡ partGiven (gf256 .order) l (now (codeword .entry)) (now (spare .entry)) (lost .0) done (tray .0) first end ⌝ }
+    ensures number { λ _. ⌜ now (number .exit) ≡ partRefusal (gf256 .order) l (length (now (codeword .entry))) (length (now (spare .entry))) (lost .0) done (tray .0) first end ⌝ }
 {
     let x = lost.number();
     let y = tray.number();

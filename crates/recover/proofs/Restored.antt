@@ -5,6 +5,7 @@ use mathlib.Core.Path.{_≡_, sym, ap, ap₂, _∙_, subst}
 use mathlib.Core.Bool.{true}
 use mathlib.Core.List.{List}
 use Prim.Native.Nat.{ℕ, _+_, _*_, _/_, _%_, _<_, _≤_}
+use native.Mathlib.Nat.{mod-lt, div-add-mod', div-lt-iff-lt-mul}
 use lib.Arith.{digits-div, digits-mod}
 use lib.ListN.{length, getD}
 use Rattle.lists.specs.Lists.{table, allBelow, strictlyRising}
@@ -15,7 +16,7 @@ use Rattle.algebra.specs.Shape.{Field}
 use Rattle.algebra.specs.Lagrange.{check}
 use Rattle.algebra.specs.Cabinet.{layerPoint}
 use Rattle.algebra.proofs.Coding.{elem-same}
-use Rattle.algebra.proofs.Erasure.{check-congr}
+use Rattle.algebra.proofs.Erasure.{check-congr, place-cases}
 use Rattle.algebra.proofs.Restore.{restored-others, restored-codeword, restored-only, restored-survivors}
 use Rattle.layout.specs.declared.Layout.{Layout}
 use Rattle.layout.specs.Layout.{trays, checks, layers}
@@ -24,7 +25,7 @@ use Rattle.codeword.specs.Codeword.{shapeOf, symbolAt, pointAt, Codeword, Usabl
 use Rattle.codeword.proofs.Buffers.{to-word, from-word, buffers-same}
 use Rattle.recover.specs.Recover.{Kept, Survivors, Restores}
 use Rattle.syndrome.specs.Syndrome.{entryOf, Listed}
-use Rattle.restore.specs.Restored.{restoredAt, LayerFits}
+use Rattle.restore.specs.Restored.{restoredAt, LayerFits, RestoredTo}
 
 module _ {A : Type 0} (f : Field A) (l : Layout) (ok : Usable f l) (es c : List ℕ) (listed : Listed l es) where
   alike : (e : List ℕ) → Survivors l es c e → (x j : ℕ) → x < trays l → j < layers l → Kept es x → symbolAt f l c x j ≡ symbolAt f l e x j
@@ -44,14 +45,9 @@ module _ {A : Type 0} (f : Field A) (l : Layout) (ok : Usable f l) (es c : List 
       restored-only (shapeOf f l) (ok .fits) (entryOf es) (length es) (listed .places) (checks l) (listed .few) (symbolAt f l c) (symbolAt f l e) (alike e s)
       (to-word f l e w)
 
-  module _ (d : List ℕ) (long : length c ≡ trays l * layers l) (old : InRange (f .coding) c) (same : length d ≡ length c) (new : InRange (f .coding) d)
+  module _ (d : List ℕ) (long : length c ≡ trays l * layers l) (same : length d ≡ length c) (new : InRange (f .coding) d)
+      (kept : (x j : ℕ) → x < trays l → j < layers l → Kept es x → getD d (x * layers l + j) 0 ≡ getD c (x * layers l + j) 0)
       (at : (x j : ℕ) → x < trays l → j < layers l → symbolAt f l d x j ≡ restoredAt f l es c x j) where
-    kept : (x j : ℕ) → x < trays l → j < layers l → Kept es x → getD d (x * layers l + j) 0 ≡ getD c (x * layers l + j) 0
-    unfolding symbolAt
-    kept x j hx hj w =
-        elem-same (f .coding) (ok .field .coded) _ _ (new .at _ (cell-read d _ _ x j (same ∙ long) hx hj)) (old .at _ (cell-read c _ _ x j long hx hj))
-        (at x j hx hj ∙ restored-others (shapeOf f l) (ok .fits) (entryOf es) (length es) (listed .places) (symbolAt f l c) x j w)
-
     -- so a buffer with these symbols is the one codeword
     pub restores : ((j : ℕ) → j < layers l → LayerFits f l es c j) → Restores f l es c d
     unfolding pointAt
@@ -66,9 +62,9 @@ module _ {A : Type 0} (f : Field A) (l : Layout) (ok : Usable f l) (es c : List 
     }
 
   -- there is one wherever every layer meets its checks
-  pub restores-exists : length c ≡ trays l * layers l → InRange (f .coding) c → ((j : ℕ) → j < layers l → LayerFits f l es c j) → (d : List ℕ) × Restores f l es c d
+  pub restores-exists : length c ≡ trays l * layers l → ((x j : ℕ) → x < trays l → j < layers l → Kept es x → getD c (x * layers l + j) 0 < f .coding .size) → ((j : ℕ) → j < layers l → LayerFits f l es c j) → (d : List ℕ) × Restores f l es c d
   unfolding symbolAt
-  restores-exists long old fits = (buffer, restores buffer long old (buffer-long ∙ sym long) (record { at = within }) at fits)
+  restores-exists long old fits = (buffer, restores buffer long (buffer-long ∙ sym long) (record { at = within }) same at fits)
     where
       value : ℕ → ℕ
       value i = f .coding .val (restoredAt f l es c (i / layers l) (i % layers l))
@@ -87,6 +83,11 @@ module _ {A : Type 0} (f : Field A) (l : Layout) (ok : Usable f l) (es c : List 
           ap (f .coding .elem) (table-at value (trays l * layers l) (x * layers l + j) (cell-in (trays l) (layers l) x j hx hj)) ∙ ok .field .coded .elem-val _
           ∙ ap₂ (restoredAt f l es c) (digits-div x hj) (digits-mod x hj)
 
+      same : (x j : ℕ) → x < trays l → j < layers l → Kept es x → getD buffer (x * layers l + j) 0 ≡ getD c (x * layers l + j) 0
+      same x j hx hj w =
+          elem-same (f .coding) (ok .field .coded) _ _ (within _ (cell-read buffer _ _ x j buffer-long hx hj)) (old x j hx hj w)
+          (at x j hx hj ∙ restored-others (shapeOf f l) (ok .fits) (entryOf es) (length es) (listed .places) (symbolAt f l c) x j w)
+
   -- a codeword is the one that has its survivors
   its-own : (w : List ℕ) → Codeword f l w → Survivors l es c w → Restores f l es c w
   its-own w good s = record {
@@ -100,6 +101,20 @@ module _ {A : Type 0} (f : Field A) (l : Layout) (ok : Usable f l) (es c : List 
   pub low-checks : (j : ℕ) → j < layers l → (t : ℕ) → t < length es → check (f .ops) (pointAt f l j) (trays l) (λ x. restoredAt f l es c x j) t ≡ f .ops .zero
   unfolding pointAt
   low-checks j h t b = (restored-codeword (shapeOf f l) (ok .fits) (entryOf es) (length es) (listed .places) (symbolAt f l c)) .at j t h b
+
+-- what is restored is in range where the trays not listed are
+pub restored-range : {A : Type 0} (f : Field A) (l : Layout) (es c d : List ℕ) → 0 < layers l → length c ≡ trays l * layers l → RestoredTo f l es c (layers l) d →
+    ((x j : ℕ) → x < trays l → j < layers l → Kept es x → getD c (x * layers l + j) 0 < f .coding .size) → InRange (f .coding) d
+restored-range f l es c d pos long r old = record { at = λ i h. subst (λ k. getD d k 0 < f .coding .size) (div-add-mod' i (layers l)) (place (i / layers l) (i % layers l) (rack i h) (mod-lt i pos)) }
+  where
+    rack : (i : ℕ) → i < length d → i / layers l < trays l
+    rack i h = div-lt-iff-lt-mul pos .1 (subst (λ n. i < n) (r .long ∙ long) h)
+
+    place : (x j : ℕ) → x < trays l → j < layers l → getD d (x * layers l + j) 0 < f .coding .size
+    place x j hx hj =
+        place-cases (getD d (x * layers l + j) 0 < f .coding .size) (entryOf es) (length es) x
+        (λ k hk e. subst (λ y. getD d (y * layers l + j) 0 < f .coding .size) (sym e) (r .small k j hk hj))
+        (λ kept. rw (r .kept x j hj kept) (old x j hx hj kept))
 
 -- a list that passed its tests
 pub list-listed : (l : Layout) (es : List ℕ) → allBelow es (trays l) ≡ true → strictlyRising es ≡ true → length es ≤ checks l → Listed l es

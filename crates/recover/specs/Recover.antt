@@ -1,22 +1,32 @@
 -- Recovering erased trays: what the call answers and leaves in the buffer.
 -- Assumes nothing.
 use mathlib.Core.Path.{_≡_}
+use mathlib.Core.Bool.{Bool, true, cond, _&&_}
 use mathlib.Core.List.{List}
 use Prim.Native.Nat.{ℕ, _+_, _*_, _<_}
 use lib.Dec.{eqb, leb}
 use lib.ListN.{length, getD}
-use Rattle.lists.specs.Lists.{unless, allBelow, strictlyRising}
+use Rattle.lists.specs.Lists.{unless, all, absent, allBelow, strictlyRising}
 use Rattle.algebra.specs.Shape.{Field}
 use Rattle.layout.specs.declared.Layout.{Layout}
 use Rattle.layout.specs.Layout.{trays, checks, layers, admissible}
+use Rattle.range.specs.Range.{symbolsFrom}
 use Rattle.codeword.specs.Codeword.{Codeword}
 
--- the refusal of a recovery before the survivors are looked at, given the list of erased trays and the buffer's length; 0 for none
-unfoldable pub recoverRefusal : Layout → List ℕ → ℕ → ℕ
-recoverRefusal l es n =
-    unless (admissible l) 1
-    (unless (eqb n (trays l * layers l)) 2
-    (unless (allBelow es (trays l)) 3
+-- tray x of so many layers is listed, or all its numbers are symbols
+unfoldable pub keptTray : {A : Type 0} → Field A → List ℕ → List ℕ → ℕ → ℕ → Bool
+keptTray f es c total x = cond (absent es x) (symbolsFrom f c (x * total) total) true
+
+-- every number of the trays that are not listed is a symbol
+unfoldable pub keptSymbols : {A : Type 0} → Field A → Layout → List ℕ → List ℕ → Bool
+keptSymbols f l es c = all (keptTray f es c (layers l)) (trays l)
+
+-- the refusal of a recovery before the checks of the survivors are looked at, given the list of erased trays and the buffer; 0 for none
+unfoldable pub recoverRefusal : {A : Type 0} → Field A → Layout → List ℕ → List ℕ → ℕ
+recoverRefusal f l es c =
+    unless (admissible (f .order) l) 1
+    (unless (eqb (length c) (trays l * layers l)) 2
+    (unless (allBelow es (trays l) && keptSymbols f l es c) 3
     (unless (strictlyRising es) 4
     (unless (leb (length es) (checks l)) 5
     0))))
@@ -39,8 +49,8 @@ module _ {A : Type 0} (f : Field A) (l : Layout) (es c d : List ℕ) where
 
   -- the contract of a recovery: the buffer is c before and d after, and the number is what it answers
   pub record RecoverAnswer (number : ℕ) : Type 0 where
-    pub refused : ¬ (recoverRefusal l es (length c) ≡ 0) → number ≡ recoverRefusal l es (length c)
-    pub answers : recoverRefusal l es (length c) ≡ 0 → ¬ (number ≡ 0) → number ≡ 8
+    pub refused : ¬ (recoverRefusal f l es c ≡ 0) → number ≡ recoverRefusal f l es c
+    pub answers : recoverRefusal f l es c ≡ 0 → ¬ (number ≡ 0) → number ≡ 8
     pub unchanged : ¬ (number ≡ 0) → d ≡ c
     pub done : number ≡ 0 → Restores
     pub none : number ≡ 8 → (e : List ℕ) → Codeword f l e → Survivors l es c e → ⊥

@@ -7,13 +7,17 @@ use native.Mathlib.Decide.{decLt}
 use native.Mathlib.Nat.{mul-add, mul-zero, zero-add}
 use native.Mathlib.Omega.{arith}
 use lib.ListN.{length, getD}
+use Rattle.algebra.specs.Coding.{InRange}
 use Rattle.algebra.specs.Shape.{Field}
+use Rattle.algebra.specs.Plain.{Working}
 use Rattle.algebra.specs.Points.{place}
 use Rattle.algebra.proofs.Layers.{power-pos}
 use Rattle.algebra.proofs.Erasure.{fill-congr, check-congr}
 use Rattle.layout.specs.declared.Layout.{Layout}
 use Rattle.layout.specs.Layout.{digits, layers, groups, traffic, Admissible}
 use Rattle.codeword.specs.Codeword.{shapeOf, Usable}
+use Rattle.layout.proofs.Facts.{size-pos}
+use Rattle.codeword.proofs.Usable.{usable}
 use Rattle.codeword.proofs.Buffers.{layers-pos}
 use Rattle.rule.specs.Rule.{groupAt}
 use Rattle.rule.specs.Lost.{firstLost, lostPlace, Losses, sentSymbol, mended, SoundAlike, Ruled}
@@ -21,13 +25,17 @@ use Rattle.rule.proofs.Rule.{group-below}
 use Rattle.rule.proofs.Lost.{lost-high, lost-places, rule-one, ruled-same}
 use Rattle.rule.proofs.Exact.{rule-whole}
 use Rattle.repair.specs.declared.Repaired.the-variants.{Done}
-use Rattle.repair.specs.Repair.{report, RepairDone}
+use Rattle.repair.specs.Repair.{SoundSymbols, report, RepairDone}
 use Rattle.repair.specs.Calls.{Calls, none, done, refused, Uncut, Cut, DoneCall, Does}
 use Rattle.repair.proofs.Refusals.{repairable, accepted}
+use Rattle.repair.proofs.Seen.{piece-symbols}
 use Rattle.pieces.proofs.Pieces.{ruled-kept}
 use Rattle.repair.proofs.Pieces.{kept-at}
 
-module _ {A : Type 0} (f : Field A) (l : Layout) (ok : Usable f l) (adm : Admissible l) (lost helpers : List ℕ) (given : Losses l lost helpers) (shares host start : List ℕ) where
+module _ {A : Type 0} {f : Field A} (W : Working f) (l : Layout) (adm : Admissible (f .order) l) (lost helpers : List ℕ) (given : Losses l lost helpers) (shares host start : List ℕ) where
+  abbrev ok : Usable f l
+  ok = usable W l adm
+
   -- what the rule fixes for a host rack it fixes for one that is alike in the sound trays
   ruled-host : (host′ : List ℕ) (p : ℕ) (spare : List ℕ) → ((j : ℕ) → j < layers l → SoundAlike f l lost j host host′) → Ruled f l lost helpers shares host′ p spare →
       Ruled f l lost helpers shares host p spare
@@ -60,7 +68,7 @@ module _ {A : Type 0} (f : Field A) (l : Layout) (ok : Usable f l) (adm : Admiss
   more : (G crossed toCome : ℕ) (spare : List ℕ) (budget : ℕ) (host′ spare′ : List ℕ) (g c t : ℕ) → ((j : ℕ) → j < layers l → SoundAlike f l lost j host host′) →
       RepairDone f l lost helpers shares host′ G budget spare spare′ (report (Done g c t)) → Sofar G crossed toCome spare → Sofar (G + g) (crossed + c) t spare′
   more G crossed toCome spare budget host′ spare′ g c t alike r s =
-      let made = repairable l lost helpers (length shares) (length host′) (length spare) G (r .accepted) in
+      let made = repairable f l lost helpers shares host′ (length spare) G budget (r .accepted) in
       record {
         within = omega (arith, r .done-is, s .within);
         long = r .piece .long ∙ s .long;
@@ -98,8 +106,8 @@ module _ {A : Type 0} (f : Field A) (l : Layout) (ok : Usable f l) (adm : Admiss
   some-group = rw (ok .groups-are) (power-pos (digits l) (l .racks - 1) (ok .fits .some-digits))
 
   -- one uncut call over a spare of e·L symbols, with the rule's own outcome
-  uncut-call : length shares ≡ length lost * traffic l → length host ≡ l .size * layers l → (other : List ℕ) → length other ≡ length lost * layers l → Uncut f l lost helpers shares host other
-  uncut-call es eh other eo =
+  uncut-call : length shares ≡ length lost * traffic l → length host ≡ l .size * layers l → InRange (f .coding) shares → SoundSymbols f l lost host → (other : List ℕ) → length other ≡ length lost * layers l → Uncut f l lost helpers shares host other
+  uncut-call es eh range sound other eo =
       let one = rule-one f l ok lost helpers given shares host in
       record {
         written = one .outcome;
@@ -107,8 +115,9 @@ module _ {A : Type 0} (f : Field A) (l : Layout) (ok : Usable f l) (adm : Admiss
         crossed = length lost * (l .helpers * groups l);
         toCome = length lost * (l .helpers * (groups l - groups l));
         answer = record {
-          accepted = accepted l lost helpers _ _ _ 0 (lost-high f l ok lost helpers given)
-              (record { adm = adm; shares-long = es; host-long = eh; spare-long = eo; losses = given; first-in = omega arith });
+          accepted = accepted f l lost helpers shares host _ 0 (groups l) (lost-high f l ok lost helpers given)
+              (record { adm = adm; shares-long = es; host-long = eh; spare-long = eo; losses = given; first-in = omega arith })
+              (piece-symbols f l lost shares host 0 (groups l) helpers given (size-pos l (adm .cabinet)) (omega arith) es range sound);
           done-is = omega arith;
           crossed-is = refl;
           remaining-is = ap (λ n. length lost * (l .helpers * (groups l - n))) (sym (zero-add (groups l)));
@@ -143,12 +152,12 @@ module _ {A : Type 0} (f : Field A) (l : Layout) (ok : Usable f l) (adm : Admiss
 
 -- Any two done calls, whatever their first groups, over the same layout, lost trays and helpers, that both do group p and are alike in its e·d share symbols and
 -- in the symbols of the host rack's sound trays at its layers, write the same symbols at its layers.
-pub same-group : {A : Type 0} (f : Field A) (l : Layout) → Usable f l → (lost helpers : List ℕ) (one two : DoneCall f l lost helpers) (p : ℕ) → Does one p → Does two p →
+pub same-group : {A : Type 0} {f : Field A} (W : Working f) (l : Layout) (lost helpers : List ℕ) (one two : DoneCall f l lost helpers) (p : ℕ) → Does one p → Does two p →
     ((m k : ℕ) → m < length lost → k < l .helpers → sentSymbol f l (length lost) (one .shares) m p k ≡ sentSymbol f l (length lost) (two .shares) m p k) →
     ((j : ℕ) → j < layers l → groupAt l (firstLost l lost) j ≡ p → SoundAlike f l lost j (one .host) (two .host)) →
     (i : ℕ) → i < length lost → (j : ℕ) → j < layers l → groupAt l (firstLost l lost) j ≡ p → getD (one .new) (i * layers l + j) 0 ≡ getD (two .new) (i * layers l + j) 0
-same-group f l ok lost helpers one two p d e alike sound i hi j hj k =
+same-group {f = f} W l lost helpers one two p d e alike sound i hi j hj k =
     let r = one .answer in
-    let made = repairable l lost helpers (length (one .shares)) (length (one .host)) (length (one .old)) (one .first) (r .accepted) in
-    ruled-same f l ok lost helpers (made .losses) p (omega (arith, r .done-is, made .first-in)) (one .shares) (two .shares) (one .host) (two .host) (one .new) (two .new)
+    let made = repairable f l lost helpers (one .shares) (one .host) (length (one .old)) (one .first) (one .budget) (r .accepted) in
+    ruled-same f l (usable W l (made .adm)) lost helpers (made .losses) p (omega (arith, r .done-is, made .first-in)) (one .shares) (two .shares) (one .host) (two .host) (one .new) (two .new)
     (r .piece .done p (d .0) (d .1)) (two .answer .piece .done p (e .0) (e .1)) alike sound i hi j hj k

@@ -1,25 +1,35 @@
 -- The lost trays come back exactly: shares as the share call computes them, sound trays of the codeword, and one call that does every group.
 -- Assumes nothing.
-use mathlib.Core.Path.{_≡_, refl, sym, _∙_, ap}
+use mathlib.Core.Path.{_≡_, refl, sym, _∙_, ap, subst}
+use mathlib.Core.Bool.{true}
 use mathlib.Core.List.{List}
-use Prim.Native.Nat.{ℕ, _-_, _*_, _/_, _≤_, _<_}
+use Prim.Native.Nat.{ℕ, _+_, _-_, _*_, _/_, _%_, _≤_, _<_}
 use native.Mathlib.Decide.{ℕ-discrete}
+use native.Mathlib.Nat.{mul-assoc, mod-lt, div-add-mod', div-lt-iff-lt-mul}
 use native.Mathlib.Omega.{arith}
 use lib.ListN.{length, getD, take, drop, length-drop}
-use lib.Seq.{length-take-le}
-use Rattle.algebra.specs.Shape.{Field}
+use lib.Seq.{getD-take, getD-drop, length-take-le}
+use Rattle.lists.proofs.Numbers.{cell-in}
+use Rattle.lists.proofs.Tables.{table-at}
+use Rattle.algebra.specs.Coding.{InRange}
+use Rattle.algebra.specs.Shape.{Field, FieldLaws}
+use Rattle.algebra.specs.Plain.{Working}
 use Rattle.layout.specs.declared.Layout.{Layout}
 use Rattle.layout.specs.Layout.{layers, groups, traffic, Admissible}
-use Rattle.layout.proofs.Facts.{facts-admissible, fits}
+use Rattle.layout.proofs.Facts.{facts-admissible, size-pos, fits}
 use Rattle.codeword.specs.Codeword.{Usable}
-use Rattle.rule.specs.Rule.{rackPart}
+use Rattle.codeword.proofs.Usable.{usable}
+use Rattle.range.specs.Range.{symbolsFrom}
+use Rattle.rule.specs.Rule.{rackPart, shareSymbol}
 use Rattle.rule.specs.Lost.{firstLost, lostPart, Of}
 use Rattle.rule.proofs.Racks.{rack-long}
 use Rattle.rule.proofs.Rule.{host-in}
 use Rattle.rule.proofs.Lost.{lost-high}
 use Rattle.rule.proofs.Exact.{rule-whole}
+use Rattle.share.specs.Share.{shareOf}
 use Rattle.share.specs.Many.{manyRefusal}
-use Rattle.share.proofs.Refusals.{ground-0, rack-grounds, buffer-refused, buffer-done}
+use Rattle.share.proofs.Sums.{groups-pos}
+use Rattle.share.proofs.Refusals.{symbols-in, some-seen, ground-0, rack-grounds, buffer-refused, buffer-done}
 use Rattle.share.proofs.Weights.{row-in}
 use Rattle.share.proofs.Shares.{sent, sent-many}
 use Rattle.repair.specs.declared.Repaired.{Repaired}
@@ -28,6 +38,11 @@ use Rattle.repair.specs.Repair.{report, RepairAnswer}
 use Rattle.repair.specs.Exact.{Sent, Called}
 use Rattle.repair.proofs.Refusals.{accepted}
 use Rattle.repair.proofs.Pieces.{swap}
+use Rattle.repair.proofs.Seen.{piece-symbols}
+
+share-below : {A : Type 0} (f : Field A) → FieldLaws f → (l : Layout) (m h : ℕ) (rack : List ℕ) (p : ℕ) → p < groups l → getD (shareOf f l m h rack) p 0 < f .coding .size
+unfolding shareOf
+share-below f laws l m h rack p hp = rw (table-at (λ p. f .coding .val (shareSymbol f l m h rack p)) (groups l) p hp) (laws .coded .val-below _)
 
 -- the shares and sound trays are those of the codeword
 pub of-sent : {A : Type 0} (f : Field A) (l : Layout) → Usable f l → (lost helpers shares host c : List ℕ) → Sent f l lost helpers shares host c → Of f l lost helpers shares host c
@@ -37,21 +52,50 @@ of-sent f l ok lost helpers shares host c s = record {
   sound = s .setting .sound;
 }
 
+-- so the shares' numbers are symbols
+sent-range : {A : Type 0} {f : Field A} (W : Working f) (l : Layout) → Admissible (f .order) l → (lost helpers shares host c : List ℕ) → Sent f l lost helpers shares host c → InRange (f .coding) shares
+sent-range {f = f} W l adm lost helpers shares host c s = record {
+  at = λ n hn.
+      let row-low : n / groups l < l .helpers * length lost = div-lt-iff-lt-mul pos .1 (omega (arith, hn, long)) in
+      subst (λ y. getD shares y 0 < f .coding .size) (place n)
+      (at (n / groups l / length lost) (n / groups l % length lost) (n % groups l) (div-lt-iff-lt-mul some .1 row-low) (mod-lt (n / groups l) some) (mod-lt n pos));
+}
+  where
+    pos : 0 < groups l
+    pos = groups-pos l (adm .cabinet)
+
+    some : 0 < length lost
+    some = s .setting .losses .some
+
+    long : length shares ≡ l .helpers * length lost * groups l
+    long = s .setting .shares-long ∙ swap (length lost) (l .helpers) (groups l) ∙ sym (mul-assoc (l .helpers) (length lost) (groups l))
+
+    place : (n : ℕ) → (n / groups l / length lost * length lost + n / groups l % length lost) * groups l + n % groups l ≡ n
+    place n = ap (λ y. y * groups l + n % groups l) (div-add-mod' (n / groups l) (length lost)) ∙ div-add-mod' n (groups l)
+
+    at : (k m p : ℕ) → k < l .helpers → m < length lost → p < groups l → getD shares ((k * length lost + m) * groups l + p) 0 < f .coding .size
+    at k m p hk hm hp =
+        rw (sym (getD-take (groups l) (drop ((k * length lost + m) * groups l) shares) p 0 hp ∙ getD-drop ((k * length lost + m) * groups l) shares p 0) ∙ ap (λ o. getD o p 0) (s .share k m hk hm))
+        (share-below f (W .field) l m (firstLost l lost / l .size) (rackPart l c (getD helpers k 0)) p hp)
+
 -- For each admissible layout, codeword c, e lost trays of one rack and choice of d helpers out of the other racks: a repair with first group 0 and a budget of L/s
 -- groups or more, given the helpers' shares and the sound trays of the rack, is done, e·d·L/s symbols cross, and the spare then holds the codeword's lost trays.
-pub repair-exact : {A : Type 0} (f : Field A) (l : Layout) → Usable f l → Admissible l → (lost helpers shares host c : List ℕ) → Sent f l lost helpers shares host c →
+pub repair-exact : {A : Type 0} {f : Field A} (W : Working f) (l : Layout) → Admissible (f .order) l → (lost helpers shares host c : List ℕ) → Sent f l lost helpers shares host c →
     (budget : ℕ) → groups l ≤ budget → (spare new : List ℕ) → length spare ≡ length lost * layers l → (answer : Repaired) → RepairAnswer f l lost helpers shares host 0 budget spare new answer →
     (report answer .refusal ≡ 0) × (report answer .crossed ≡ length lost * traffic l) × (new ≡ lostPart l lost c)
-repair-exact f l ok adm lost helpers shares host c s budget enough spare new el (Refused e) r =
+repair-exact {f = f} W l adm lost helpers shares host c s budget enough spare new el (Refused e) r =
     let t = s .setting in
+    let ok = usable W l adm in
     absurd (omega (
       arith,
       r .refused,
       r .ground,
-      accepted l lost helpers (length shares) (length host) (length spare) 0 (lost-high f l ok lost helpers (t .losses))
-          (record { adm = adm; shares-long = t .shares-long; host-long = t .host-long; spare-long = el; losses = t .losses; first-in = omega arith }),
+      accepted f l lost helpers shares host (length spare) 0 budget (lost-high f l ok lost helpers (t .losses))
+          (record { adm = adm; shares-long = t .shares-long; host-long = t .host-long; spare-long = el; losses = t .losses; first-in = omega arith })
+          (piece-symbols f l lost shares host 0 budget helpers (t .losses) (size-pos l (adm .cabinet)) (omega arith) (t .shares-long) (sent-range W l adm lost helpers shares host c s) (t .host-range)),
     ))
-repair-exact f l ok adm lost helpers shares host c s budget enough spare new el (Done g k t) r =
+repair-exact {f = f} W l adm lost helpers shares host c s budget enough spare new el (Done g k t) r =
+    let ok = usable W l adm in
     let all : g ≡ groups l = omega (arith, r .done-is) in (
       refl,
       r .crossed-is ∙ ap (λ n. length lost * (l .helpers * n)) all,
@@ -59,7 +103,10 @@ repair-exact f l ok adm lost helpers shares host c s budget enough spare new el 
           (λ p h. r .piece .done p (omega arith) (omega (arith, all))),
     )
 
-module _ {A : Type 0} (f : Field A) (l : Layout) (ok : Usable f l) (adm : Admissible l) (lost helpers shares host c : List ℕ) (s : Called f l lost helpers shares host c) where
+module _ {A : Type 0} {f : Field A} (W : Working f) (l : Layout) (adm : Admissible (f .order) l) (lost helpers shares host c : List ℕ) (s : Called f l lost helpers shares host c) where
+  abbrev ok : Usable f l
+  ok = usable W l adm
+
   abbrev e : ℕ
   e = length lost
 
@@ -76,19 +123,28 @@ module _ {A : Type 0} (f : Field A) (l : Layout) (ok : Usable f l) (adm : Admiss
         length-take-le (e * groups l) (drop (k * (e * groups l)) shares)
         (rw (length-drop (k * (e * groups l)) shares, s .setting .shares-long, swap e (l .helpers) (groups l)) (omega (arith, row-in (l .helpers) (e * groups l) k hk)))
 
+    -- the helper's rack has symbols only
+    rack-symbols : symbolsFrom f (rackPart l c i) 0 (length (rackPart l c i)) ≡ true
+    unfolding rackPart
+    rack-symbols = symbols-in f (rackPart l c i) (λ n hn.
+        let w = s .setting .codeword in
+        let m : n < l .size * layers l = rw (rack-long l c i (s .setting .losses .help .inside k hk) (w .long)) at hn in
+        rw (getD-take (l .size * layers l) (drop (i * (l .size * layers l)) c) n 0 m ∙ getD-drop (i * (l .size * layers l)) c n 0)
+        (w .symbols .at _ (rw (w .long, mul-assoc (l .racks) (l .size) (layers l)) (cell-in (l .racks) (l .size * layers l) i n (s .setting .losses .help .inside k hk) m))))
+
     -- no such share call is refused
-    pub call-done : manyRefusal l e h i (length (rackPart l c i)) (length (s .room k)) ≡ 0
+    pub call-done : manyRefusal f l e h i (rackPart l c i) (length (s .room k)) ≡ 0
     call-done = go (ℕ-discrete _ 0)
       where
-        fits-then : length (s .room k) ≡ e * groups l → manyRefusal l e h i (length (rackPart l c i)) (length (s .room k)) ≡ 0
+        fits-then : length (s .room k) ≡ e * groups l → manyRefusal f l e h i (rackPart l c i) (length (s .room k)) ≡ 0
         fits-then r =
             let t = s .setting in
             let help = t .losses .help in
-            sym (ground-0 l e (l .size) h i _ _ (sym (facts-admissible l adm)) (rack-long l c i (help .inside k hk) (t .codeword .long)) r (host-in f l ok (firstLost l lost) helpers help) (help .inside k hk)
-            (sym (fits l e (t .losses .some) (t .losses .few))) (λ q. help .other k hk (sym q))
-            ∙ rack-grounds l e h i _ _)
+            sym (ground-0 (f .order) l e (l .size) h i _ _ _ (sym (facts-admissible (f .order) l adm)) (rack-long l c i (help .inside k hk) (t .codeword .long)) r (host-in f l ok (firstLost l lost) helpers help) (help .inside k hk)
+            (sym (some-seen e _ (λ q. let z = t .losses .some in omega arith)) ∙ rack-symbols) (sym (fits l e (t .losses .some) (t .losses .few))) (λ q. help .other k hk (sym q))
+            ∙ rack-grounds W l e h i (rackPart l c i) (length (s .room k)))
 
-        go : Dec (manyRefusal l e h i (length (rackPart l c i)) (length (s .room k)) ≡ 0) → manyRefusal l e h i (length (rackPart l c i)) (length (s .room k)) ≡ 0
+        go : Dec (manyRefusal f l e h i (rackPart l c i) (length (s .room k)) ≡ 0) → manyRefusal f l e h i (rackPart l c i) (length (s .room k)) ≡ 0
         go (yes z) = z
         go (no d) = fits-then (ap length (buffer-refused f l e h i (rackPart l c i) (s .room k) d ∙ sym (s .share k hk)) ∙ block-long)
 
@@ -105,4 +161,4 @@ module _ {A : Type 0} (f : Field A) (l : Layout) (ok : Usable f l) (adm : Admiss
   pub exact-by-calls : (budget : ℕ) → groups l ≤ budget → (spare new : List ℕ) → length spare ≡ length lost * layers l → (answer : Repaired) →
       RepairAnswer f l lost helpers shares host 0 budget spare new answer →
       (report answer .refusal ≡ 0) × (report answer .crossed ≡ length lost * traffic l) × (new ≡ lostPart l lost c)
-  exact-by-calls = repair-exact f l ok adm lost helpers shares host c sent-by-calls
+  exact-by-calls = repair-exact W l adm lost helpers shares host c sent-by-calls

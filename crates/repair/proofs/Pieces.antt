@@ -24,9 +24,9 @@ pub swap : (e d n : ℕ) → e * (d * n) ≡ d * (e * n)
 swap e d n = sym (mul-assoc e d n) ∙ ap (λ y. y * n) (mul-comm e d) ∙ mul-assoc d e n
 
 -- what the piece is told
-pub piecing-of : (l : Layout) (lost helpers shares host : List ℕ) (first count : ℕ) (spare : List ℕ) → Repairable l lost helpers (length shares) (length host) (length spare) first →
-    first + count ≤ groups l → Piecing l lost helpers shares host first count spare
-piecing-of l lost helpers shares host first count spare g h = record {
+pub piecing-of : (N : ℕ) (l : Layout) (lost helpers shares host : List ℕ) (first count : ℕ) (spare : List ℕ) → Repairable N l lost helpers (length shares) (length host) (length spare) first →
+    first + count ≤ groups l → Piecing N l lost helpers shares host first count spare
+piecing-of N l lost helpers shares host first count spare g h = record {
   adm = g .adm;
   losses = g .losses;
   shares-long = g .shares-long ∙ swap (length lost) (l .helpers) (groups l);
@@ -36,9 +36,9 @@ piecing-of l lost helpers shares host first count spare g h = record {
 }
 
 -- what an accepted call reports is small
-pub crossing-in : {l : Layout} {lost helpers : List ℕ} {shares host spare first : ℕ} → Repairable l lost helpers shares host spare first → (n : ℕ) → n ≤ layerLimit →
+pub crossing-in : {N : ℕ} {l : Layout} {lost helpers : List ℕ} {shares host spare first : ℕ} → Repairable N l lost helpers shares host spare first → (n : ℕ) → n ≤ layerLimit →
     length lost * (l .helpers * n) < 18446744073709551616
-crossing-in {l} r n h =
-    let b = bounds l (r .adm) in
-    let one : l .helpers * n < 245761 = mul-below trayLimit layerLimit (omega (arith, r .adm .helpers-high)) h tt in
-    mul-below 17 245760 (omega (arith, r .losses .few)) (omega arith) tt
+crossing-in {l = l} r n h =
+    let b = bounds l (r .adm .cabinet) in
+    let one : l .helpers * n < 245761 = mul-below trayLimit layerLimit (omega (arith, r .adm .cabinet .helpers-high)) h tt in
+    mul-below 30 245760 (omega (arith, r .losses .few)) (omega arith) tt

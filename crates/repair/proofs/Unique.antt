@@ -1,4 +1,4 @@
--- The contract of a repair decides its answer and every byte of the spare.
+-- The contract of a repair decides its answer and every symbol of the spare.
 -- Assumes nothing.
 use mathlib.Core.Path.{_≡_, refl, sym, ap, _∙_}
 use mathlib.Core.List.{List}
@@ -8,9 +8,11 @@ use native.Mathlib.Omega.{arith}
 use lib.ListN.{length, getD}
 use lib.Seq.{ext-getD}
 use Rattle.algebra.specs.Shape.{Field}
+use Rattle.algebra.specs.Plain.{Working}
 use Rattle.layout.specs.declared.Layout.{Layout}
-use Rattle.layout.specs.Layout.{layers, groups, Admissible}
+use Rattle.layout.specs.Layout.{layers, groups}
 use Rattle.codeword.specs.Codeword.{Usable}
+use Rattle.codeword.proofs.Usable.{usable}
 use Rattle.codeword.proofs.Buffers.{layers-pos}
 use Rattle.rule.specs.Rule.{groupAt}
 use Rattle.rule.specs.Lost.{firstLost, Losses, Piece}
@@ -38,20 +40,20 @@ module _ {A : Type 0} (f : Field A) (l : Layout) (lost helpers shares host : Lis
         | no low ↦ a .kept i hi j hj (λ w. low (omega arith)) ∙ sym (b .kept i hi j hj (λ w. low (omega arith)))
       ]
 
-module _ {A : Type 0} (f : Field A) (l : Layout) (ok : Admissible l → Usable f l) (lost helpers shares host : List ℕ) (first budget : ℕ) (old new new′ : List ℕ) where
+module _ {A : Type 0} {f : Field A} (W : Working f) (l : Layout) (lost helpers shares host : List ℕ) (first budget : ℕ) (old new new′ : List ℕ) where
   both-done : (g c t g′ c′ t′ : ℕ) → RepairDone f l lost helpers shares host first budget old new (report (Done g c t)) →
       RepairDone f l lost helpers shares host first budget old new′ (report (Done g′ c′ t′)) → (Done g c t ≡ Done g′ c′ t′) × (new ≡ new′)
   both-done g c t g′ c′ t′ a b =
-      let made = repairable l lost helpers (length shares) (length host) (length old) first (a .accepted) in
+      let made = repairable f l lost helpers shares host (length old) first budget (a .accepted) in
       let groups-same : g ≡ g′ = a .done-is ∙ sym (b .done-is) in
       let crossed-same : c ≡ c′ = a .crossed-is ∙ ap (λ n. length lost * (l .helpers * n)) groups-same ∙ sym (b .crossed-is) in
       let toCome-same : t ≡ t′ = a .remaining-is ∙ ap (λ n. length lost * (l .helpers * (groups l - (first + n)))) groups-same ∙ sym (b .remaining-is) in (
         (λ i. Done (groups-same i) (crossed-same i) (toCome-same i)),
-        same-piece f l lost helpers shares host first old new new′ (ok (made .adm)) (made .losses) g (omega (arith, a .done-is, made .first-in)) (made .spare-long) (a .piece)
+        same-piece f l lost helpers shares host first old new new′ (usable W l (made .adm)) (made .losses) g (omega (arith, a .done-is, made .first-in)) (made .spare-long) (a .piece)
             (rw groups-same (b .piece)),
       )
 
-  done-refused : {B : Type 0} (z : repairRefusal l lost helpers (length shares) (length host) (length old) first ≡ 0) (new″ : List ℕ) (e : ℕ) →
+  done-refused : {B : Type 0} (z : repairRefusal f l lost helpers shares host (length old) first budget ≡ 0) (new″ : List ℕ) (e : ℕ) →
       RepairRefused f l lost helpers shares host first budget old new″ (report (Refused e)) → B
   done-refused z new″ e r = absurd (omega (arith, z, r .refused, r .ground))
 

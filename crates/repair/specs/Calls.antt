@@ -4,13 +4,14 @@ use mathlib.Core.Path.{_≡_}
 use mathlib.Core.List.{List}
 use Prim.Native.Nat.{ℕ, _+_, _-_, _*_, _%_, _<_, _≤_}
 use lib.ListN.{length, getD}
+use Rattle.algebra.specs.Coding.{InRange}
 use Rattle.algebra.specs.Shape.{Field}
 use Rattle.layout.specs.declared.Layout.{Layout}
 use Rattle.layout.specs.Layout.{layers, groups, traffic}
 use Rattle.rule.specs.Rule.{groupAt}
 use Rattle.rule.specs.Lost.{firstLost, lostPart, SoundAlike, Ruled, Of}
 use Rattle.repair.specs.declared.Repaired.the-variants.{Done, Refused}
-use Rattle.repair.specs.Repair.{report, RepairAnswer}
+use Rattle.repair.specs.Repair.{SoundSymbols, report, RepairAnswer}
 
 -- Calls .. G crossed toCome spare: a list of calls over a spare that was `start` at first and is `spare` now, with G groups done, `crossed` reported as
 -- crossed in all and `toCome` reported last as still to come. Each step is what the repair call's own contract allows.
@@ -45,8 +46,9 @@ pub record Cut {A : Type 0} (f : Field A) (l : Layout) (lost helpers shares host
   -- which is what one uncut call writes, over whatever other spare,
   pub uncut : (other : List ℕ) (one : Uncut f l lost helpers shares host other) → (i : ℕ) → i < length lost →
       (j : ℕ) → j < layers l → groupAt l (firstLost l lost) j < G → getD spare (i * layers l + j) 0 ≡ getD (one .written) (i * layers l + j) 0
-  -- and over each spare of e·L symbols there is such a call
-  pub uncut-is : length shares ≡ length lost * traffic l → length host ≡ l .size * layers l → (other : List ℕ) → length other ≡ length lost * layers l → Uncut f l lost helpers shares host other
+  -- and over each spare of e·L symbols there is such a call, where what was fixed are symbols
+  pub uncut-is : length shares ≡ length lost * traffic l → length host ≡ l .size * layers l → InRange (f .coding) shares → SoundSymbols f l lost host →
+      (other : List ℕ) → length other ≡ length lost * layers l → Uncut f l lost helpers shares host other
   -- every other symbol is the one it held at first
   pub kept : (n : ℕ) → n < length start → ¬ (groupAt l (firstLost l lost) (n % layers l) < G) → getD spare n 0 ≡ getD start n 0
   -- with G = L/s and the shares and sound trays of a codeword, the spare holds that codeword's lost trays

@@ -12,14 +12,17 @@ use Rattle.rule.specs.Rule.{rackPart}
 use Rattle.rule.specs.Lost.{firstLost, Losses, SoundAlike}
 use Rattle.share.specs.Share.{shareOf}
 use Rattle.share.specs.Many.{manyBuffer}
+use Rattle.repair.specs.Repair.{SoundSymbols}
 
 module _ {A : Type 0} (f : Field A) (l : Layout) (lost helpers shares host c : List ℕ) where
-  -- a codeword, lost trays of one rack, d helpers out of the other racks, shares of the right length, and a host rack whose sound trays are the codeword's
+  -- a codeword, lost trays of one rack, d helpers out of the other racks, shares of the right length, and a host rack whose sound trays are the codeword's,
+  -- all symbols
   pub record Setting : Type 0 where
     pub codeword : Codeword f l c
     pub losses : Losses l lost helpers
     pub shares-long : length shares ≡ length lost * traffic l
     pub host-long : length host ≡ l .size * layers l
+    pub host-range : SoundSymbols f l lost host
     pub sound : (j : ℕ) → j < layers l → SoundAlike f l lost j host (rackPart l c (firstLost l lost / l .size))
 
   -- the shares are those of the helpers' racks, one after another, each helper's for the weights m below e in order

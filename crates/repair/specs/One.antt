@@ -4,6 +4,7 @@ use mathlib.Core.Path.{_≡_}
 use mathlib.Core.List.{List, [], _∷_}
 use Prim.Native.Nat.{ℕ, _+_, _-_, _*_, _/_, _%_, _<_, _≤_, min}
 use lib.ListN.{length, getD, take, drop}
+use Rattle.algebra.specs.Coding.{InRange}
 use Rattle.algebra.specs.Shape.{Field}
 use Rattle.layout.specs.declared.Layout.{Layout}
 use Rattle.layout.specs.Layout.{layers, groups, traffic}
@@ -11,6 +12,7 @@ use Rattle.codeword.specs.Codeword.{Codeword}
 use Rattle.rule.specs.Rule.{rackPart, trayPart, Helpers, groupAt, Outside, rackSymbol, RuledOne}
 use Rattle.rule.specs.Lost.{Of}
 use Rattle.share.specs.Share.{shareBuffer}
+use Rattle.repair.specs.Repair.{SoundSymbols}
 use Rattle.repair.specs.Calls.{Uncut}
 
 -- two host racks are alike in layer j of the trays other than x
@@ -35,8 +37,9 @@ module _ {A : Type 0} (f : Field A) (l : Layout) (x : ℕ) (helpers shares host 
     pub ruled : (p : ℕ) → p < G → RuledOne f l x helpers shares host p spare
     -- which is what one call with first group 0 and budget L/s writes, over whatever other spare,
     pub uncut : (other : List ℕ) (one : Uncut f l (x ∷ []) helpers shares host other) → (j : ℕ) → j < layers l → groupAt l x j < G → getD spare j 0 ≡ getD (one .written) j 0
-    -- and over each spare of L symbols there is such a call
-    pub uncut-is : length shares ≡ traffic l → length host ≡ l .size * layers l → (other : List ℕ) → length other ≡ layers l → Uncut f l (x ∷ []) helpers shares host other
+    -- and over each spare of L symbols there is such a call, where what was fixed are symbols
+    pub uncut-is : length shares ≡ traffic l → length host ≡ l .size * layers l → InRange (f .coding) shares → SoundSymbols f l (x ∷ []) host →
+        (other : List ℕ) → length other ≡ layers l → Uncut f l (x ∷ []) helpers shares host other
     -- every other symbol is the one it held at first
     pub kept : (j : ℕ) → j < length start → ¬ (groupAt l x j < G) → getD spare j 0 ≡ getD start j 0
     -- with G = L/s and the shares and sound trays of a codeword, the spare is that codeword's lost tray
@@ -46,7 +49,7 @@ module _ {A : Type 0} (f : Field A) (l : Layout) (x : ℕ) (helpers shares host 
     pub adds-up : crossed + toCome ≡ traffic l
 
   -- what the repair of the codeword c's tray x is given: d helpers out of the other racks, their shares as the share calls left them in rooms that held anything,
-  -- one after another, and a host rack whose other trays are the codeword's
+  -- one after another, and a host rack whose other trays are the codeword's, all symbols
   pub record CalledOne (c : List ℕ) : Type 0 where
     pub codeword : Codeword f l c
     pub chosen : Helpers l x helpers
@@ -55,4 +58,5 @@ module _ {A : Type 0} (f : Field A) (l : Layout) (x : ℕ) (helpers shares host 
     pub share : (k : ℕ) → k < l .helpers →
         take (groups l) (drop (k * groups l) shares) ≡ shareBuffer f l (x / l .size) (getD helpers k 0) (rackPart l c (getD helpers k 0)) (room k)
     pub host-long : length host ≡ l .size * layers l
+    pub host-range : SoundSymbols f l (x ∷ []) host
     pub sound : (j : ℕ) → j < layers l → OthersAlike f l x j host (rackPart l c (x / l .size))

@@ -1,29 +1,31 @@
 -- What a repair answers and what the spare holds afterwards.
 -- Assumes nothing.
 use mathlib.Core.Path.{_≡_}
-use mathlib.Core.Bool.{Bool, _&&_}
+use mathlib.Core.Bool.{_&&_}
 use mathlib.Core.List.{List}
 use Prim.Native.Nat.{ℕ, _+_, _-_, _*_, _/_, _<_, min}
 use lib.Dec.{eqb, leb}
 use lib.ListN.{length, getD}
-use Rattle.lists.specs.Lists.{all, unless, allBelow, strictlyRising, absent}
+use Rattle.lists.specs.Lists.{unless, allBelow, strictlyRising, absent}
 use Rattle.algebra.specs.Shape.{Field}
 use Rattle.layout.specs.declared.Layout.{Layout}
 use Rattle.layout.specs.Layout.{trays, layers, groups, traffic, admissible, lostCountFits}
-use Rattle.rule.specs.Lost.{firstLost, Piece}
+use Rattle.rule.specs.Lost.{firstLost, lostPlace, Piece}
+use Rattle.grounds.specs.Grounds.{oneRack}
+use Rattle.seen.specs.Seen.{pieceSymbols}
 use Rattle.repair.specs.declared.Repaired.{Repaired}
 use Rattle.repair.specs.declared.Repaired.the-variants.{Done, Refused}
 
--- every tray of a list stands in the rack of the first one listed
-unfoldable pub oneRack : Layout → List ℕ → Bool
-oneRack l lost = all (λ i. eqb (getD lost i 0 / l .size) (firstLost l lost / l .size)) (length lost)
+-- the numbers of the host rack's sound trays are symbols, as the claims over whole repairs ask
+abbrev pub SoundSymbols : {A : Type 0} → Field A → Layout → List ℕ → List ℕ → Type 0
+SoundSymbols f l lost host = (g j : ℕ) → g < l .size → j < layers l → ((i : ℕ) → i < length lost → ¬ (g ≡ lostPlace l lost i)) → getD host (g * layers l + j) 0 < f .coding .size
 
--- the refusal of a repair of the lost trays, given the lengths of the shares, the host rack and the spare; 0 for none
-unfoldable pub repairRefusal : Layout → List ℕ → List ℕ → ℕ → ℕ → ℕ → ℕ → ℕ
-repairRefusal l lost helpers shares host spare first =
-    unless (admissible l) 1
-    (unless (eqb shares (length lost * traffic l) && eqb host (l .size * layers l) && eqb spare (length lost * layers l)) 2
-    (unless (allBelow lost (trays l) && oneRack l lost && allBelow helpers (l .racks)) 3
+-- the refusal of a repair of the lost trays, given the shares, the host rack and the length of the spare; 0 for none
+unfoldable pub repairRefusal : {A : Type 0} → Field A → Layout → List ℕ → List ℕ → List ℕ → List ℕ → ℕ → ℕ → ℕ → ℕ
+repairRefusal f l lost helpers shares host spare first budget =
+    unless (admissible (f .order) l) 1
+    (unless (eqb (length shares) (length lost * traffic l) && eqb (length host) (l .size * layers l) && eqb spare (length lost * layers l)) 2
+    (unless (allBelow lost (trays l) && oneRack l lost && allBelow helpers (l .racks) && pieceSymbols f l lost shares host first budget) 3
     (unless (strictlyRising lost && strictlyRising helpers) 4
     (unless (eqb (length helpers) (l .helpers)) 5
     (unless (lostCountFits l (length lost)) 12
@@ -45,15 +47,15 @@ report (Refused e) = record { refusal = e; groupsDone = 0; crossed = 0; remainin
 module _ {A : Type 0} (f : Field A) (l : Layout) (lost helpers shares host : List ℕ) (first budget : ℕ) (old new : List ℕ) where
   -- a call that is done: the smaller of the budget and the groups left, and nothing else written
   pub record RepairDone (n : Report) : Type 0 where
-    pub accepted : repairRefusal l lost helpers (length shares) (length host) (length old) first ≡ 0
+    pub accepted : repairRefusal f l lost helpers shares host (length old) first budget ≡ 0
     pub done-is : n .groupsDone ≡ min budget (groups l - first)
     pub crossed-is : n .crossed ≡ length lost * (l .helpers * n .groupsDone)
     pub remaining-is : n .remaining ≡ length lost * (l .helpers * (groups l - (first + n .groupsDone)))
     pub piece : Piece f l lost helpers shares host first (n .groupsDone) old new
 
-  -- a call that is refused: no byte changed
+  -- a call that is refused: no symbol changed
   pub record RepairRefused (n : Report) : Type 0 where
-    pub refused : n .refusal ≡ repairRefusal l lost helpers (length shares) (length host) (length old) first
+    pub refused : n .refusal ≡ repairRefusal f l lost helpers shares host (length old) first budget
     pub ground : 0 < n .refusal
     pub kept : new ≡ old
 

@@ -14,30 +14,21 @@ use Rattle.algebra.specs.Erasure.{zeros, rest, erased}
 use Rattle.algebra.proofs.Ring.{zero-add}
 use Rattle.algebra.proofs.Sum.{sum-congr}
 use Rattle.algebra.proofs.Lagrange.{basis-zero, basis-suc}
-use Rattle.symbol.specs.Elem.{Elem, ops, gf256}
-use Rattle.symbol.proofs.Elem.{laws, neg-is}
+use Rattle.algebra.specs.Shape.{Field, FieldLaws}
+use Rattle.algebra.specs.Plain.{Working}
 use Rattle.kernel.specs.Runs.{cell}
 use Rattle.columns.specs.Columns.{column, Systems, Solved}
 use Rattle.layout.specs.declared.Layout.{Layout}
-use Rattle.layout.specs.Layout.{trays, digits, Admissible}
+use Rattle.layout.specs.Layout.{trays, digits, Cabinet}
 use Rattle.codeword.specs.Codeword.{symbolAt, pointAt}
-use Rattle.syndrome.specs.Syndrome.{Block, entryOf, Listed, survivorAt, Sums}
-use Rattle.restore.specs.Inner.{erasedAt, Steady, ListedPoints, Workspace, FoundBlock}
-use Rattle.restore.proofs.Runs.{run-low, columns-low, turns-low, width-is, columns-in, cycle-points}
+use Rattle.blocks.specs.Blocks.{Block}
+use Rattle.blocks.specs.Cycles.{Steady}
+use Rattle.blocks.proofs.Cycles.{run-low, columns-low, turns-low, width-is, columns-in}
+use Rattle.syndrome.specs.Syndrome.{entryOf, Listed, survivorAt, Sums}
+use Rattle.restore.specs.Inner.{erasedAt, ListedPoints, Workspace, FoundBlock}
+use Rattle.restore.proofs.Runs.{cycle-points}
 
--- a solution hangs on the points and the right sides below m
-basis-same : (p q : ℕ → Elem) (i n : ℕ) → ((x : ℕ) → x < n → p x ≡ q x) → i < n → (m : ℕ) → m ≤ n → basis ops p i m ≡ basis ops q i m
-basis-same p q i n e hi zero h = basis-zero ops p i ∙ sym (basis-zero ops q i)
-basis-same p q i n e hi (suc m) h =
-    basis-suc ops p i m ∙ ap₂ (λ x y. factor ops (eqb m i) x y (basis ops p i m)) (e i hi) (e m (omega arith))
-    ∙ ap (factor ops (eqb m i) (q i) (q m)) (basis-same p q i n e hi m (omega arith)) ∙ sym (basis-suc ops q i m)
-
-pub solve-same : (m : ℕ) (p q b d : ℕ → Elem) → ((x : ℕ) → x < m → p x ≡ q x) → ((t : ℕ) → t < m → b t ≡ d t) → (k : ℕ) → k < m → solve ops p m b k ≡ solve ops q m d k
-unfolding solve
-solve-same m p q b d e g k h =
-    sum-congr ops m _ _ (λ t l. ap₂ (ops .mul) (g t l) (ap (λ y. coeff ops y t) (basis-same p q k m e h m (omega arith))))
-
-pub systems-of : (l : Layout) (w : ℕ) (es : List ℕ) (e run v turns : ℕ) (sums found points coefs row new : List ℕ) → Admissible l → Listed l es → w ≡ digits l ^ e → Steady l es e run v turns →
+pub systems-of : (l : Layout) (w : ℕ) (es : List ℕ) (e run v turns : ℕ) (sums found points coefs row new : List ℕ) → Cabinet l → Listed l es → w ≡ digits l ^ e → Steady l es e run v turns →
     Workspace l w sums found points coefs row → length new ≡ length row → Systems w v run turns (length es) found sums coefs new
 systems-of l w es e run v turns sums found points coefs row new a k ew s g q = record {
   run-low = run-low l es e w run v turns a ew s;
@@ -50,31 +41,48 @@ systems-of l w es e run v turns sums found points coefs row new a k ew s g q = r
   row-long = rw q (g .row-long);
 }
 
-pub points-room : (l : Layout) (w : ℕ) (es : List ℕ) (e run v turns : ℕ) (sums found points new coefs row : List ℕ) → Admissible l → Listed l es → w ≡ digits l ^ e → Steady l es e run v turns →
+pub points-room : (l : Layout) (w : ℕ) (es : List ℕ) (e run v turns : ℕ) (sums found points new coefs row : List ℕ) → Cabinet l → Listed l es → w ≡ digits l ^ e → Steady l es e run v turns →
     Workspace l w sums found points coefs row → length new ≡ length points → length es * v ≤ length new
 points-room l w es e run v turns sums found points new coefs row a k ew s g q =
     rw q (le-trans (mul-le-mul (k .few) (columns-in l es e w run v turns a ew s)) (g .points-long))
 
-pub found-of : (l : Layout) (w first : ℕ) (es : List ℕ) (e run v turns : ℕ) (sums points found : List ℕ) → Block l w first → w ≡ digits l ^ e → Steady l es e run v turns →
-    ListedPoints l first es v run (length es) points → Solved w v run (length es) sums points found (length es) → FoundBlock l w first es sums found
-unfolding column
-found-of l w first es e run v turns sums points found b ew s g f = record {
-  at = λ k j h c.
-      f .at k j h c
-      ∙ solve-same (length es) (column v points (j / run % v)) (λ i. pointAt gf256 l (first + j) (getD es i 0)) (λ t. cell w sums t j) (λ t. cell w sums t j)
-      (λ i q. g .at i (j / run % v) q (mod-lt (j / run) (columns-low l es e w run v turns (b .adm) ew s)) ∙ cycle-points l es e w first run v turns b ew s i q j c) (λ t q. refl) k h;
-}
+module _ {A : Type 0} {f : Field A} (W : Working f) where
+  open Field f using (ops)
+  open FieldLaws (W .field) using (laws)
 
-module _ (l : Layout) (w first : ℕ) (es c sums : List ℕ) (r : ℕ) (few : length es ≤ r) (s : Sums l w first r c es (trays l) sums) (j : ℕ) (hj : j < w) where
-  -- the sums are the checks of the survivors
-  pub sums-check : (t : ℕ) → t < r → cell w sums t j ≡ check ops (pointAt gf256 l (first + j)) (trays l) (survivorAt l es c (first + j)) t
-  unfolding check
-  sums-check t h = s .at t j h hj
+  -- a solution hangs on the points and the right sides below m
+  basis-same : (p q : ℕ → A) (i n : ℕ) → ((x : ℕ) → x < n → p x ≡ q x) → i < n → (m : ℕ) → m ≤ n → basis ops p i m ≡ basis ops q i m
+  basis-same p q i n e hi zero h = basis-zero ops p i ∙ sym (basis-zero ops q i)
+  basis-same p q i n e hi (suc m) h =
+      basis-suc ops p i m ∙ ap₂ (λ x y. factor ops (eqb m i) x y (basis ops p i m)) (e i hi) (e m (omega arith))
+      ∙ ap (factor ops (eqb m i) (q i) (q m)) (basis-same p q i n e hi m (omega arith)) ∙ sym (basis-suc ops q i m)
 
-  right-side : (t : ℕ) → t < length es → cell w sums t j ≡ rest ops (pointAt gf256 l (first + j)) (trays l) (entryOf es) (length es) (zeros ops) (λ y. symbolAt gf256 l c y (first + j)) t
-  unfolding rest survivorAt
-  right-side t h = sums-check t (omega arith) ∙ sym (neg-is _) ∙ sym (zero-add ops laws _)
+  pub solve-same : (m : ℕ) (p q b d : ℕ → A) → ((x : ℕ) → x < m → p x ≡ q x) → ((t : ℕ) → t < m → b t ≡ d t) → (k : ℕ) → k < m → solve ops p m b k ≡ solve ops q m d k
+  unfolding solve
+  solve-same m p q b d e g k h =
+      sum-congr ops m _ _ (λ t l. ap₂ (ops .mul) (g t l) (ap (λ y. coeff ops y t) (basis-same p q k m e h m (omega arith))))
 
-  pub found-erased : (found : List ℕ) → FoundBlock l w first es sums found → (k : ℕ) → k < length es → cell w found k j ≡ erasedAt l es c (first + j) k
-  unfolding erasedAt erased
-  found-erased found f k h = f .at k j h hj ∙ solve-same (length es) _ _ _ _ (λ i q. refl) right-side k h
+  pub found-of : (l : Layout) (w first : ℕ) (es : List ℕ) (e run v turns : ℕ) (sums points found : List ℕ) → Block l w first → w ≡ digits l ^ e → Steady l es e run v turns →
+      ListedPoints f l first es v run (length es) points → Solved f w v run (length es) sums points found (length es) → FoundBlock f l w first es sums found
+  unfolding column
+  found-of l w first es e run v turns sums points found b ew s g z = record {
+    small = λ k j h c. z .small k j h c;
+    at = λ k j h c.
+        z .at k j h c
+        ∙ solve-same (length es) (column f v points (j / run % v)) (λ i. pointAt f l (first + j) (getD es i 0)) (λ t. ops .neg (cell f w sums t j)) (λ t. ops .neg (cell f w sums t j))
+        (λ i q. g .at i (j / run % v) q (mod-lt (j / run) (columns-low l es e w run v turns (b .adm) ew s)) ∙ cycle-points W l es e w first run v turns b ew s i q j c) (λ t q. refl) k h;
+  }
+
+  module _ (l : Layout) (w first : ℕ) (es c sums : List ℕ) (r : ℕ) (few : length es ≤ r) (s : (Sums f) l w first r c es (trays l) sums) (j : ℕ) (hj : j < w) where
+    -- the sums are the checks of the survivors
+    pub sums-check : (t : ℕ) → t < r → cell f w sums t j ≡ check ops (pointAt f l (first + j)) (trays l) (survivorAt f l es c (first + j)) t
+    unfolding check
+    sums-check t h = s .at t j h hj
+
+    right-side : (t : ℕ) → t < length es → ops .neg (cell f w sums t j) ≡ rest ops (pointAt f l (first + j)) (trays l) (entryOf es) (length es) (zeros ops) (λ y. symbolAt f l c y (first + j)) t
+    unfolding rest survivorAt
+    right-side t h = ap (ops .neg) (sums-check t (omega arith)) ∙ sym (zero-add ops laws _)
+
+    pub found-erased : (found : List ℕ) → FoundBlock f l w first es sums found → (k : ℕ) → k < length es → cell f w found k j ≡ erasedAt f l es c (first + j) k
+    unfolding erasedAt erased
+    found-erased found z k h = z .at k j h hj ∙ solve-same (length es) _ _ _ _ (λ i q. refl) right-side k h

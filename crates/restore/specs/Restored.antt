@@ -3,14 +3,14 @@
 use mathlib.Core.Path.{_≡_}
 use mathlib.Core.Bool.{Bool, true, false}
 use mathlib.Core.List.{List}
-use Prim.Native.Nat.{ℕ, _*_, _<_, _≤_}
-use lib.ListN.{length}
+use Prim.Native.Nat.{ℕ, _+_, _*_, _<_, _≤_}
+use lib.ListN.{length, getD}
+use Rattle.algebra.specs.Coding.{Coding}
 use Rattle.algebra.specs.Shape.{Field}
 use Rattle.algebra.specs.Lagrange.{check}
 use Rattle.algebra.specs.Repair.{restored}
-use Rattle.symbol.specs.Elem.{gf256}
 use Rattle.layout.specs.declared.Layout.{Layout}
-use Rattle.layout.specs.Layout.{trays, checks, layers, Admissible}
+use Rattle.layout.specs.Layout.{trays, checks, layers, Cabinet}
 use Rattle.codeword.specs.Codeword.{shapeOf, symbolAt, pointAt}
 use Rattle.syndrome.specs.Syndrome.{entryOf, Listed}
 
@@ -27,15 +27,17 @@ abbrev pub Says : Bool → Type 0 → Type 0
 Says true P = P
 Says false P = ¬ P
 
--- an admissible layout, its number of layers, a list of trays and a buffer of the right length
+-- a cabinet's layout, its number of layers, a list of trays and a buffer of the right length
 pub record Erasing (l : Layout) (total : ℕ) (es c : List ℕ) : Type 0 where
-  pub adm : Admissible l
+  pub adm : Cabinet l
   pub total-is : total ≡ layers l
   pub long : length c ≡ trays l * layers l
   pub listed : Listed l es
 
--- the layers below i restored, the others as they were
-pub record RestoredTo (l : Layout) (es c : List ℕ) (i : ℕ) (d : List ℕ) : Type 0 where
+-- the layers below i of the trays listed restored, and everything else as it was
+pub record RestoredTo {A : Type 0} (f : Field A) (l : Layout) (es c : List ℕ) (i : ℕ) (d : List ℕ) : Type 0 where
   pub long : length d ≡ length c
-  pub done : (x j : ℕ) → x < trays l → j < i → symbolAt gf256 l d x j ≡ restoredAt gf256 l es c x j
-  pub rest : (x j : ℕ) → x < trays l → j < layers l → i ≤ j → symbolAt gf256 l d x j ≡ symbolAt gf256 l c x j
+  pub done : (x j : ℕ) → x < trays l → j < i → symbolAt f l d x j ≡ restoredAt f l es c x j
+  pub small : (k j : ℕ) → k < length es → j < i → getD d (getD es k 0 * layers l + j) 0 < f .coding .size
+  pub kept : (x j : ℕ) → j < layers l → ((k : ℕ) → k < length es → ¬ (x ≡ getD es k 0)) → getD d (x * layers l + j) 0 ≡ getD c (x * layers l + j) 0
+  pub rest : (x j : ℕ) → j < layers l → i ≤ j → getD d (x * layers l + j) 0 ≡ getD c (x * layers l + j) 0

@@ -2,6 +2,7 @@
 // whether these meet the checks that were not needed to solve. Never looks at the old bytes of the trays listed. What is promised here is what recovering
 // and storing rest on (specs/Restored.antt).
 use layout::Layout;
+use symbol::plain::SIZE;
 ghost use mathlib.Core.Path.{_≡_};
 ghost use mathlib.Core.Bool.{true, false};
 ghost use Prim.Native.Nat.{ℕ, _*_, _^_, _<_, _≤_};
@@ -9,78 +10,10 @@ ghost use lib.ListN.{length};
 ghost use Rattle.symbol.specs.Elem.{gf256};
 ghost use Rattle.kernel.specs.Runs.{Inverses};
 ghost use Rattle.layout.specs.Layout.{digits, layers, Admissible};
-ghost use Rattle.syndrome.specs.Syndrome.{Block, Listed, Room};
+ghost use Rattle.blocks.specs.Blocks.{Block};
+ghost use Rattle.syndrome.specs.Syndrome.{Listed, Room};
 ghost use Rattle.restore.specs.Restored.{LayerFits, Says, Erasing, RestoredTo};
-ghost use Rattle.restore.specs.Inner.{LowRack, HighRack, Steady, Columns, ListedPoints, Workspace, FoundBlock, Cells, PutBlock, BlockRestored, FoundTerms, BlockFits};
-
-// How the points of the trays listed go through a block: runs of layers with the same points, so many columns of these, and so many times over.
-struct Cycle {
-    run: usize,
-    columns: usize,
-    turns: usize,
-}
-
-// The smaller of two numbers.
-fn least(a: u32, b: u32) -> u32
-    ensures { λ r. ⌜ (r ≤ a) × (r ≤ b) ⌝ }
-{
-    if a < b { a } else { b }
-}
-
-// The lowest rack of the trays listed.
-fn lowest_rack(u: u32, racks: u32, es: &[u32]) -> u32
-    requires { ⌜ 0 < u ⌝ }
-    ensures { λ r. ⌜ (r ≤ racks) × LowRack u (now (es .entry)) r ⌝ }
-{
-    let mut low = racks;
-    let mut k = 0usize;
-    while k < es.len() {
-        low = least(low, es[k] / u);
-        k += 1;
-    }
-    low
-}
-
-// One above rack i where that is below e and not below high, else high.
-fn above(high: u32, i: u32, e: u32) -> u32
-    requires { ⌜ high ≤ e ⌝ }
-    ensures { λ r. ⌜ (high ≤ r) × (r ≤ e) × (i < e → i < r) ⌝ }
-{
-    if i < high {
-        return high;
-    }
-    if i < e { i + 1 } else { high }
-}
-
-// One above the highest rack below e of the trays listed, or `from` where that is higher.
-fn highest_rack(u: u32, from: u32, e: u32, es: &[u32]) -> u32
-    requires { ⌜ (0 < u) × (from ≤ e) ⌝ }
-    ensures { λ r. ⌜ (from ≤ r) × (r ≤ e) × HighRack u e (now (es .entry)) r ⌝ }
-{
-    let mut high = from;
-    let mut k = 0usize;
-    while k < es.len() {
-        high = above(high, es[k] / u, e);
-        k += 1;
-    }
-    high
-}
-
-// The cycle of the trays listed in a block of e digits: the digits below the lowest rack do not count, and those above the highest stay or run on alike.
-fn cycle_of(l: Layout, e: u32, es: &[u32]) -> Cycle
-    requires { ⌜ Admissible l × (e ≤ l .racks) ⌝ }
-    ensures { λ r. ⌜ Steady l (now (es .entry)) e (r .run) (r .columns) (r .turns) ⌝ }
-{
-    let u = l.size;
-    let b = l.racks;
-    let bottom = least(lowest_rack(u, b, es), e);
-    let top = highest_rack(u, bottom, e, es);
-    Cycle {
-        run: syndrome::block_width(l, bottom),
-        columns: syndrome::block_width(l, top - bottom),
-        turns: syndrome::block_width(l, e - top),
-    }
-}
+ghost use Rattle.restore.specs.Inner.{Columns, ListedPoints, Workspace, FoundBlock, Cells, PutBlock, BlockRestored, FoundTerms, BlockFits};
 
 // The points of the trays listed, one for each run of layers.
 fn listed_points(
@@ -94,7 +27,7 @@ fn listed_points(
     row: &mut [u8],
 )
     requires { ⌜ Columns l w first (now es) v run (now points) (now row) ⌝ }
-    ensures { λ _. ⌜ ListedPoints l first (now (es .entry)) v run (length (now (es .entry))) (now (points .exit)) ⌝ }
+    ensures { λ _. ⌜ ListedPoints gf256 l first (now (es .entry)) v run (length (now (es .entry))) (now (points .exit)) ⌝ }
 {
     let mut k = 0usize;
     while k < es.len() {
@@ -118,10 +51,10 @@ fn solve_block(
     row: &mut [u8],
     table: &[u8],
 )
-    requires { ⌜ Block l w first × (e ≤ l .racks) × (w ≡ digits l ^ e) × Listed l (now es) × Workspace l w (now sums) (now found) (now points) (now coefs) (now row) × Inverses (now table) ⌝ }
-    ensures { λ _. ⌜ FoundBlock l w first (now (es .entry)) (now (sums .entry)) (now (found .exit)) ⌝ }
+    requires { ⌜ Block l w first × (e ≤ l .racks) × (w ≡ digits l ^ e) × Listed l (now es) × Workspace l w (now sums) (now found) (now points) (now coefs) (now row) × Inverses gf256 (now table) ⌝ }
+    ensures { λ _. ⌜ FoundBlock gf256 l w first (now (es .entry)) (now (sums .entry)) (now (found .exit)) ⌝ }
 {
-    let p = cycle_of(l, e, es);
+    let p = blocks::cycle_of(l, e, es);
     let run = p.run;
     let v = p.columns;
     let turns = p.turns;
@@ -170,8 +103,8 @@ fn restore_block(
     cur: &mut [u8],
     table: &[u8],
 )
-    requires { ⌜ Block l w first × (e ≤ l .racks) × (w ≡ digits l ^ e) × Erasing l total (now es) (now c) × Workspace l w (now sums) (now found) (now points) (now coefs) (now row) × (w ≤ length (now cur)) × Inverses (now table) ⌝ }
-    ensures { λ _. ⌜ BlockRestored l w first (now (es .entry)) (now (c .entry)) (now (c .exit)) ⌝ }
+    requires { ⌜ Block l w first × (e ≤ l .racks) × (w ≡ digits l ^ e) × Erasing l total (now es) (now c) × Workspace l w (now sums) (now found) (now points) (now coefs) (now row) × (w ≤ length (now cur)) × Inverses gf256 (now table) ⌝ }
+    ensures { λ _. ⌜ BlockRestored gf256 l w first (now (es .entry)) (now (c .entry)) (now (c .exit)) ⌝ }
 {
     syndrome::sum_kept(sums, l, w, first, es.len(), c, es, cur, row);
     solve_block(found, l, e, w, first, es, sums, points, coefs, row, table);
@@ -193,10 +126,10 @@ fn restore_blocks(
     cur: &mut [u8],
     table: &[u8],
 )
-    requires { ⌜ (e ≤ l .racks) × Erasing l total (now es) (now c) × Workspace l (digits l ^ e) (now sums) (now found) (now points) (now coefs) (now row) × (digits l ^ e ≤ length (now cur)) × Inverses (now table) ⌝ }
-    ensures { λ _. ⌜ RestoredTo l (now (es .entry)) (now (c .entry)) (layers l) (now (c .exit)) ⌝ }
+    requires { ⌜ (e ≤ l .racks) × Erasing l total (now es) (now c) × Workspace l (digits l ^ e) (now sums) (now found) (now points) (now coefs) (now row) × (digits l ^ e ≤ length (now cur)) × Inverses gf256 (now table) ⌝ }
+    ensures { λ _. ⌜ RestoredTo gf256 l (now (es .entry)) (now (c .entry)) (layers l) (now (c .exit)) ⌝ }
 {
-    let w = syndrome::block_width(l, e);
+    let w = blocks::block_width(l, e);
     let count = total / w;
     let mut q = 0usize;
     while q < count {
@@ -223,16 +156,16 @@ fn restore_blocks(
 // Solves and writes the trays listed, whatever the others hold.
 pub fn restore(l: Layout, total: u32, c: &mut [u8], es: &[u32])
     requires { ⌜ Erasing l total (now es) (now c) ⌝ }
-    ensures { λ _. ⌜ RestoredTo l (now (es .entry)) (now (c .entry)) (layers l) (now (c .exit)) ⌝ }
+    ensures { λ _. ⌜ RestoredTo gf256 l (now (es .entry)) (now (c .entry)) (layers l) (now (c .exit)) ⌝ }
 {
-    let e = syndrome::block_digits(l);
-    let mut sums = [0u8; syndrome::ROOM];
-    let mut found = [0u8; syndrome::ROOM];
-    let mut points = [0u8; syndrome::ROOM];
-    let mut coefs = [0u8; syndrome::ROOM];
-    let mut row = [0u8; syndrome::BLOCK];
-    let mut cur = [0u8; syndrome::BLOCK];
-    let mut table = [0u8; 256];
+    let e = blocks::block_digits(l);
+    let mut sums = [0u8; blocks::ROOM];
+    let mut found = [0u8; blocks::ROOM];
+    let mut points = [0u8; blocks::ROOM];
+    let mut coefs = [0u8; blocks::ROOM];
+    let mut row = [0u8; blocks::BLOCK];
+    let mut cur = [0u8; blocks::BLOCK];
+    let mut table = [0u8; SIZE];
     kernel::inverses(&mut table);
     restore_blocks(
         c,
@@ -263,7 +196,7 @@ fn found_terms(
     cur: &mut [u8],
 )
     requires { ⌜ Block l w first × Listed l (now es) × Room w r (now sums) (now cur) (now row) × (length (now es) * w ≤ length (now found)) ⌝ }
-    ensures { λ _. ⌜ FoundTerms l w first r (now (es .entry)) (now (found .entry)) (now (sums .entry)) (now (sums .exit)) (length (now (es .entry))) ⌝ }
+    ensures { λ _. ⌜ FoundTerms gf256 l w first r (now (es .entry)) (now (found .entry)) (now (sums .entry)) (now (sums .exit)) (length (now (es .entry))) ⌝ }
 {
     let mut k = 0usize;
     while k < es.len() {
@@ -291,8 +224,8 @@ fn block_fits(
     cur: &mut [u8],
     table: &[u8],
 ) -> bool
-    requires { ⌜ Block l w first × (e ≤ l .racks) × (w ≡ digits l ^ e) × Erasing l total (now es) (now c) × Workspace l w (now sums) (now found) (now points) (now coefs) (now row) × (w ≤ length (now cur)) × Inverses (now table) ⌝ }
-    ensures { λ r. ⌜ Says r (BlockFits l w first (now (es .entry)) (now (c .entry))) ⌝ }
+    requires { ⌜ Block l w first × (e ≤ l .racks) × (w ≡ digits l ^ e) × Erasing l total (now es) (now c) × Workspace l w (now sums) (now found) (now points) (now coefs) (now row) × (w ≤ length (now cur)) × Inverses gf256 (now table) ⌝ }
+    ensures { λ r. ⌜ Says r (BlockFits gf256 l w first (now (es .entry)) (now (c .entry))) ⌝ }
 {
     let r = layout::check_count(l) as usize;
     syndrome::sum_kept(sums, l, w, first, r, c, es, cur, row);
@@ -316,10 +249,10 @@ fn blocks_fit(
     cur: &mut [u8],
     table: &[u8],
 ) -> bool
-    requires { ⌜ (e ≤ l .racks) × Erasing l total (now es) (now c) × Workspace l (digits l ^ e) (now sums) (now found) (now points) (now coefs) (now row) × (digits l ^ e ≤ length (now cur)) × Inverses (now table) ⌝ }
+    requires { ⌜ (e ≤ l .racks) × Erasing l total (now es) (now c) × Workspace l (digits l ^ e) (now sums) (now found) (now points) (now coefs) (now row) × (digits l ^ e ≤ length (now cur)) × Inverses gf256 (now table) ⌝ }
     ensures { λ r. ⌜ Says r ((j : ℕ) → j < layers l → LayerFits gf256 l (now (es .entry)) (now (c .entry)) j) ⌝ }
 {
-    let w = syndrome::block_width(l, e);
+    let w = blocks::block_width(l, e);
     let count = total / w;
     let mut q = 0usize;
     while q < count {
@@ -351,14 +284,14 @@ fn room_fits(l: Layout, total: u32, c: &[u8], es: &[u32]) -> bool
     requires { ⌜ Erasing l total (now es) (now c) ⌝ }
     ensures { λ r. ⌜ Says r ((j : ℕ) → j < layers l → LayerFits gf256 l (now (es .entry)) (now (c .entry)) j) ⌝ }
 {
-    let e = syndrome::block_digits(l);
-    let mut sums = [0u8; syndrome::ROOM];
-    let mut found = [0u8; syndrome::ROOM];
-    let mut points = [0u8; syndrome::ROOM];
-    let mut coefs = [0u8; syndrome::ROOM];
-    let mut row = [0u8; syndrome::BLOCK];
-    let mut cur = [0u8; syndrome::BLOCK];
-    let mut table = [0u8; 256];
+    let e = blocks::block_digits(l);
+    let mut sums = [0u8; blocks::ROOM];
+    let mut found = [0u8; blocks::ROOM];
+    let mut points = [0u8; blocks::ROOM];
+    let mut coefs = [0u8; blocks::ROOM];
+    let mut row = [0u8; blocks::BLOCK];
+    let mut cur = [0u8; blocks::BLOCK];
+    let mut table = [0u8; SIZE];
     kernel::inverses(&mut table);
     blocks_fit(
         c,
@@ -378,7 +311,7 @@ fn room_fits(l: Layout, total: u32, c: &[u8], es: &[u32]) -> bool
 
 // Whether every layer meets its checks; with as many trays listed as there are checks it does.
 pub fn all_fit(l: Layout, total: u32, c: &[u8], es: &[u32]) -> bool
-    requires { ⌜ Erasing l total (now es) (now c) ⌝ }
+    requires { ⌜ Erasing l total (now es) (now c) × Admissible (gf256 .order) l ⌝ }
     ensures { λ r. ⌜ Says r ((j : ℕ) → j < layers l → LayerFits gf256 l (now (es .entry)) (now (c .entry)) j) ⌝ }
 {
     if es.len() == layout::check_count(l) as usize {

@@ -2,7 +2,7 @@
 -- Assumes nothing.
 use mathlib.Core.Path.{_≡_, sym, _∙_, ap, subst}
 use mathlib.Core.List.{List}
-use Prim.Native.Nat.{ℕ, _+_, _-_, _/_, _^_, _<_}
+use Prim.Native.Nat.{ℕ, _+_, _-_, _/_, _^_, _<_, _≤_}
 use native.Mathlib.Nat.{div-lt-iff-lt-mul}
 use native.Mathlib.Numerals.{add-one}
 use native.Mathlib.Omega.{arith}
@@ -20,16 +20,16 @@ use Rattle.codeword.specs.Codeword.{shapeOf, Usable}
 use Rattle.rule.specs.Rule.{groupAt, Helpers}
 
 -- rising racks other than the host, in the algebra's terms
-pub helping-from : {A : Type 0} (f : Field A) (l : Layout) → Usable f l → (h : ℕ) (helpers : List ℕ) → h < l .racks → ((k : ℕ) → k < l .helpers → getD helpers k 0 < l .racks) →
+pub helping-from : {A : Type 0} (f : Field A) (l : Layout) → parityRacks l + l .helpers ≡ digits l + (l .racks - 1) → l .helpers ≤ l .racks - 1 → (h : ℕ) (helpers : List ℕ) → h < l .racks → ((k : ℕ) → k < l .helpers → getD helpers k 0 < l .racks) →
     ((k : ℕ) → k + 1 < l .helpers → getD helpers k 0 < getD helpers (k + 1) 0) → ((k : ℕ) → k < l .helpers → ¬ (getD helpers k 0 ≡ h)) →
     Helping (shapeOf f l) h (λ k. getD helpers k 0) (l .helpers) (parityRacks l)
-helping-from f l ok h helpers host inside rising other = record {
+helping-from f l whole under h helpers host inside rising other = record {
   host-in = host;
   rising = rising-from (λ k. getD helpers k 0) (l .helpers) (l .racks)
       (λ k q. subst (λ n. getD helpers k 0 < getD helpers n 0) (add-one k) (rising k (omega (arith, add-one k)))) inside;
   other = other;
-  total = ok .total;
-  few = ok .few;
+  total = whole;
+  few = under;
 }
 
 module _ {A : Type 0} (f : Field A) (l : Layout) (ok : Usable f l) (x : ℕ) (helpers : List ℕ) (help : Helpers l x helpers) where
@@ -38,7 +38,7 @@ module _ {A : Type 0} (f : Field A) (l : Layout) (ok : Usable f l) (x : ℕ) (he
 
   -- the helpers in the algebra's terms
   pub helping : Helping (shapeOf f l) (x / l .size) (λ k. getD helpers k 0) (l .helpers) (parityRacks l)
-  helping = helping-from f l ok (x / l .size) helpers host-in (help .inside) (help .rising) (help .other)
+  helping = helping-from f l (ok .total) (ok .few) (x / l .size) helpers host-in (help .inside) (help .rising) (help .other)
 
   -- each layer is in a group below L/s
   pub group-below : (j : ℕ) → j < layers l → groupAt l x j < groups l

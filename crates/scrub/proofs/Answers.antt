@@ -3,7 +3,7 @@
 use mathlib.Core.Path.{_≡_, sym, ap, ap₂, _∙_}
 use mathlib.Core.Bool.{true, false, not, _&&_}
 use mathlib.Core.List.{List}
-use Prim.Native.Nat.{ℕ, _-_, _*_, _<_, _≤_, min}
+use Prim.Native.Nat.{ℕ, _*_, _<_, _≤_}
 use borrow.Author.Tests.{lt-ltb, le-ltb, le-leb, eq-eqb, ne-eqb, eqb-true, leb-true, not-false}
 use lib.Dec.{eqb, ltb, leb, lit<}
 use lib.ListN.{length}
@@ -16,7 +16,7 @@ use Rattle.codeword.specs.Codeword.{checkAt}
 use Rattle.scrub.specs.declared.Walk.{Walk}
 use Rattle.scrub.specs.declared.Report.{Report}
 use Rattle.scrub.specs.declared.Report.the-variants.{Begun, Unfinished, Sound, Bad, Refused}
-use Rattle.scrub.specs.Scrub.{badLayer, after, plausible, reportOf, scrubRefusal, stepped, scrubbed, fresh, begun}
+use Rattle.scrub.specs.Scrub.{badLayer, after, plausible, stepLayers, stepSymbols, reportOf, scrubRefusal, stepped, scrubbed, fresh, begun}
 
 module _ {A : Type 0} (f : Field A) (ok : Coded (f .coding)) (l : Layout) (c : List ℕ) (j : ℕ) where
   -- elements with the same number are the same
@@ -69,55 +69,67 @@ module _ (L : ℕ) (w : Walk) where
   unfolding reportOf
   is-bad k d = simp (le-ltb _ _ k, ne-eqb _ _ d)
 
-module _ (l : Layout) (w : Walk) where
-  pub not-begun : admissible l ≡ false → record { report = Refused 1; walk = w } ≡ begun l w
+module _ (N : ℕ) (l : Layout) (w : Walk) where
+  pub not-begun : admissible N l ≡ false → record { report = Refused 1; walk = w } ≡ begun N l w
   unfolding begun
   not-begun e = simp e
 
-  pub is-begun : (n : ℕ) → admissible l ≡ true → n ≡ layers l → record { report = Begun; walk = record { next = 0; bad = 0; first = n } } ≡ begun l w
+  pub is-begun : (n : ℕ) → admissible N l ≡ true → n ≡ layers l → record { report = Begun; walk = record { next = 0; bad = 0; first = n } } ≡ begun N l w
   unfolding begun fresh
   is-begun n e k = simp (e, k)
 
-module _ (l : Layout) (n : ℕ) (w : Walk) where
-  pub refused-1 : admissible l ≡ false → 1 ≡ scrubRefusal l n w
+module _ {A : Type 0} (f : Field A) (l : Layout) (c : List ℕ) (w : Walk) (budget : ℕ) where
+  pub refused-1 : admissible (f .order) l ≡ false → 1 ≡ scrubRefusal f l c w budget
   unfolding scrubRefusal
   refused-1 e = simp e
 
-  pub refused-2 : admissible l ≡ true → (n ≡ trays l * layers l → ⊥) → 2 ≡ scrubRefusal l n w
+  pub refused-2 : admissible (f .order) l ≡ true → (length c ≡ trays l * layers l → ⊥) → 2 ≡ scrubRefusal f l c w budget
   unfolding scrubRefusal
   refused-2 e k = simp (e, ne-eqb _ _ k)
 
-  pub refused-3 : admissible l ≡ true → n ≡ trays l * layers l → plausible (layers l) w ≡ false → 3 ≡ scrubRefusal l n w
+  -- by the record, and by a number that is no symbol
+  pub refused-record : admissible (f .order) l ≡ true → length c ≡ trays l * layers l → plausible (layers l) w ≡ false → 3 ≡ scrubRefusal f l c w budget
   unfolding scrubRefusal
-  refused-3 e k p = simp (e, eq-eqb _ _ k, p)
+  refused-record e k p = simp (e, eq-eqb _ _ k, p)
 
-  pub not-refused : admissible l ≡ true → n ≡ trays l * layers l → plausible (layers l) w ≡ true → 0 ≡ scrubRefusal l n w
+  pub refused-symbol : admissible (f .order) l ≡ true → length c ≡ trays l * layers l → plausible (layers l) w ≡ true → stepSymbols f l c w budget ≡ false →
+      3 ≡ scrubRefusal f l c w budget
   unfolding scrubRefusal
-  not-refused e k p = simp (e, eq-eqb _ _ k, p)
+  refused-symbol e k p s = simp (e, eq-eqb _ _ k, p, s)
+
+  pub not-refused : admissible (f .order) l ≡ true → length c ≡ trays l * layers l → plausible (layers l) w ≡ true → stepSymbols f l c w budget ≡ true →
+      0 ≡ scrubRefusal f l c w budget
+  unfolding scrubRefusal
+  not-refused e k p s = simp (e, eq-eqb _ _ k, p, s)
 
   -- what a call that is not refused is told
-  pub accepted : scrubRefusal l n w ≡ 0 → (admissible l ≡ true) × (n ≡ trays l * layers l) × (plausible (layers l) w ≡ true)
+  pub record Accepted : Type 0 where
+    pub adm : admissible (f .order) l ≡ true
+    pub long : length c ≡ trays l * layers l
+    pub record-ok : plausible (layers l) w ≡ true
+    pub symbols : stepSymbols f l c w budget ≡ true
+
+  pub accepted : scrubRefusal f l c w budget ≡ 0 → Accepted
   unfolding scrubRefusal
   accepted e =
-      let a = passed (admissible l) 1 _ (lit< tt) e in
-      let b = passed (eqb n (trays l * layers l)) 2 _ (lit< tt) (a .1) in
-      let d = passed (plausible (layers l) w) 3 0 (lit< tt) (b .1) in
-      (a .0, eqb-true _ _ (b .0), d .0)
+      let a = passed (admissible (f .order) l) 1 _ (lit< tt) e in
+      let b = passed (eqb (length c) (trays l * layers l)) 2 _ (lit< tt) (a .1) in
+      let d = both (plausible (layers l) w) _ (passed (plausible (layers l) w && stepSymbols f l c w budget) 3 0 (lit< tt) (b .1) .0) in
+      record { adm = a .0; long = eqb-true _ _ (b .0); record-ok = d .0; symbols = d .1 }
 
-module _ {A : Type 0} (f : Field A) (l : Layout) (c : List ℕ) (w : Walk) (budget : ℕ) where
-  pub step-refused : (n : ℕ) → n ≡ scrubRefusal l (length c) w → (n ≡ 0 → ⊥) → record { report = Refused n; walk = w } ≡ scrubbed f l c w budget
+  pub step-refused : (n : ℕ) → n ≡ scrubRefusal f l c w budget → (n ≡ 0 → ⊥) → record { report = Refused n; walk = w } ≡ scrubbed f l c w budget
   unfolding scrubbed
   step-refused n e d = simp (ne-eqb _ _ (λ z. d (e ∙ z)), e)
 
-  pub step-taken : scrubRefusal l (length c) w ≡ 0 →
+  pub step-taken : scrubRefusal f l c w budget ≡ 0 →
       record { report = reportOf (layers l) (stepped f l c w budget); walk = stepped f l c w budget } ≡ scrubbed f l c w budget
   unfolding scrubbed
   step-taken e = simp (eq-eqb _ _ e)
 
   -- the answer of a call, from its parts
-  pub step-done : (total k : ℕ) (s : Walk) (r : Report) → scrubRefusal l (length c) w ≡ 0 → total ≡ layers l → k ≡ min budget (total - w .next) →
+  pub step-done : (total k : ℕ) (s : Walk) (r : Report) → scrubRefusal f l c w budget ≡ 0 → total ≡ layers l → k ≡ stepLayers total w budget →
       s ≡ after (badLayer f l c) w k → r ≡ reportOf total s → record { report = r; walk = s } ≡ scrubbed f l c w budget
   unfolding stepped
   step-done total k s r e t u q z =
-      let is : s ≡ stepped f l c w budget = q ∙ ap (after (badLayer f l c) w) (u ∙ ap (λ (n : ℕ). min budget (n - w .next)) t) in
+      let is : s ≡ stepped f l c w budget = q ∙ ap (after (badLayer f l c) w) (u ∙ ap (λ (n : ℕ). stepLayers n w budget) t) in
       ap₂ (λ (x : Report) (y : Walk). (record { report = x; walk = y })) (z ∙ ap₂ reportOf t is) is ∙ step-taken e

@@ -5,10 +5,11 @@ use mathlib.Core.List.{List}
 use Prim.Native.Nat.{ℕ, _+_, _-_, _*_, _≤_}
 use native.Mathlib.Omega.{arith}
 use lib.ListN.{length}
-use Rattle.symbol.specs.Elem.{gf256}
+use Rattle.algebra.specs.Shape.{Field}
 use Rattle.layout.specs.declared.Layout.{Layout}
 use Rattle.layout.specs.Layout.{checks}
-use Rattle.syndrome.specs.Syndrome.{blockLimit, roomLimit, Allowed, Room}
+use Rattle.blocks.specs.Blocks.{blockLimit, roomLimit, Allowed}
+use Rattle.syndrome.specs.Syndrome.{Room}
 use Rattle.scrub.specs.declared.Walk.{Walk}
 use Rattle.scrub.specs.Scrub.{badLayer, after}
 use Rattle.scrub.specs.Inner.{Ahead}
@@ -27,17 +28,17 @@ pub sums-in : (l : Layout) (w r : ℕ) (sums new cur row : List ℕ) → Room w 
 sums-in l w r sums new cur row g er e = rw (e, er) (g .sums-long)
 
 -- ---- a block of w layers more: what is to go, and that it leads to the same record
-pub more : (l : Layout) (total : ℕ) (c : List ℕ) (walk : Walk) (count : ℕ) (seen s : Walk) (p left r w : ℕ) → Allowed p left r w → s ≡ after (badLayer gf256 l c) seen w →
-    Ahead l total c seen left → after (badLayer gf256 l c) seen left ≡ after (badLayer gf256 l c) walk count →
-    Ahead l total c s (left - w) × (after (badLayer gf256 l c) s (left - w) ≡ after (badLayer gf256 l c) walk count)
-more l total c walk count seen s p left r w a e q k =
+pub more : {A : Type 0} (f : Field A) (l : Layout) (total : ℕ) (c : List ℕ) (walk : Walk) (count : ℕ) (seen s : Walk) (p left r w : ℕ) → Allowed p left r w → s ≡ after (badLayer f l c) seen w →
+    Ahead l total c seen left → after (badLayer f l c) seen left ≡ after (badLayer f l c) walk count →
+    Ahead l total c s (left - w) × (after (badLayer f l c) s (left - w) ≡ after (badLayer f l c) walk count)
+more f l total c walk count seen s p left r w a e q k =
     let t = a .within in
     let n : w + (left - w) ≡ left = omega arith in
     rw e (
       record {
         scannable = q .scannable;
-        room = rw (after-next (badLayer gf256 l c) seen w) (omega (arith, q .room));
-        bad-in = after-high (badLayer gf256 l c) seen w (q .bad-in);
+        room = rw (after-next (badLayer f l c) seen w) (omega (arith, q .room));
+        bad-in = after-high (badLayer f l c) seen w (q .bad-in);
       },
-      after-on (badLayer gf256 l c) seen w (left - w) ∙ ap (after (badLayer gf256 l c) seen) n ∙ k,
+      after-on (badLayer f l c) seen w (left - w) ∙ ap (after (badLayer f l c) seen) n ∙ k,
     )

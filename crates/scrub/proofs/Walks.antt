@@ -3,13 +3,13 @@
 use mathlib.Core.Path.{_≡_, refl, sym, ap, ap₂, _∙_, subst}
 use mathlib.Core.Bool.{Bool, true, false, cond, false≢true}
 use mathlib.Core.List.{List}
-use Prim.Native.Nat.{ℕ, _+_, _-_, _*_, _<_, _≤_, min}
+use Prim.Native.Nat.{ℕ, _+_, _-_, _*_, _<_, _≤_}
 use native.Mathlib.Decide.{ℕ-discrete, decLt}
 use native.Mathlib.Omega.{arith}
 use borrow.Author.Tests.{eq-eqb, lt-ltb}
 use lib.Dec.{eqb, ltb}
 use lib.ListN.{length}
-use Rattle.algebra.specs.Coding.{Coded, InRange}
+use Rattle.algebra.specs.Coding.{Coded}
 use Rattle.algebra.specs.Shape.{Field, FieldLaws}
 use Rattle.layout.specs.declared.Layout.{Layout}
 use Rattle.layout.specs.Layout.{layers, trays, admissible}
@@ -18,9 +18,10 @@ use Rattle.scrub.specs.declared.Walk.{Walk}
 use Rattle.scrub.specs.declared.Scrubbed.{Scrubbed}
 use Rattle.scrub.specs.declared.Report.{Report}
 use Rattle.scrub.specs.declared.Report.the-variants.{Begun, Unfinished, Sound, Bad, Refused}
-use Rattle.scrub.specs.Scrub.{badLayer, badCount, leastBad, after, plausible, scrubRefusal, reportOf, stepped, scrubbed, fresh, begun, numbersOf}
+use Rattle.scrub.specs.Scrub.{badLayer, badCount, leastBad, after, plausible, stepLayers, scrubRefusal, reportOf, stepped, scrubbed, fresh, begun, numbersOf}
 use Rattle.scrub.specs.Calls.{Calls, reset, step, refused-step, refused-reset, Tells, Says, Walked}
 use Rattle.scrub.proofs.Layers.{count-on, least-on, count-high, least-none, least-some, none-bad, all-good}
+use Rattle.scrub.proofs.Seen.{Seen, seen-none, seen-more, seen-all}
 use Rattle.scrub.proofs.Answers.{layer-good, good-checks, none-so-far, some-so-far, not-refused, accepted}
 use Rattle.scrub.proofs.Answers.{step-refused, step-taken, not-begun, is-begun, is-unfinished, is-sound, is-bad}
 
@@ -49,35 +50,35 @@ not-refusing L w = go (ltb (w .next) L) (eqb (w .bad) 0)
     go false false = refl
 
 -- what a reset leaves, by its report
-reset-admitted : (l : Layout) (w : Walk) → begun l w .report ≡ Begun → admissible l ≡ true
+reset-admitted : (N : ℕ) (l : Layout) (w : Walk) → begun N l w .report ≡ Begun → admissible N l ≡ true
 unfolding isBegun
-reset-admitted l w h = go (admissible l) refl
+reset-admitted N l w h = go (admissible N l) refl
   where
-    go : (t : Bool) → admissible l ≡ t → admissible l ≡ true
+    go : (t : Bool) → admissible N l ≡ t → admissible N l ≡ true
     go true e = e
-    go false e = absurd (false≢true (ap isBegun (ap (λ (s : Scrubbed). s .report) (not-begun l w e) ∙ h)))
+    go false e = absurd (false≢true (ap isBegun (ap (λ (s : Scrubbed). s .report) (not-begun N l w e) ∙ h)))
 
-reset-refused : (l : Layout) (w : Walk) (e : ℕ) → begun l w .report ≡ Refused e → (begun l w .walk ≡ w) × (0 < e)
+reset-refused : (N : ℕ) (l : Layout) (w : Walk) (e : ℕ) → begun N l w .report ≡ Refused e → (begun N l w .walk ≡ w) × (0 < e)
 unfolding isRefused
-reset-refused l w e h = go (admissible l) refl
+reset-refused N l w e h = go (admissible N l) refl
   where
-    go : (t : Bool) → admissible l ≡ t → (begun l w .walk ≡ w) × (0 < e)
-    go true a = absurd (false≢true (ap isRefused (ap (λ (s : Scrubbed). s .report) (is-begun l w (layers l) a refl) ∙ h)))
+    go : (t : Bool) → admissible N l ≡ t → (begun N l w .walk ≡ w) × (0 < e)
+    go true a = absurd (false≢true (ap isRefused (ap (λ (s : Scrubbed). s .report) (is-begun N l w (layers l) a refl) ∙ h)))
     go false a =
-        let q = ap (λ (r : Report). numbersOf r .refusal) (ap (λ (s : Scrubbed). s .report) (not-begun l w a) ∙ h) in
-        (sym (ap (λ (s : Scrubbed). s .walk) (not-begun l w a)), omega arith)
+        let q = ap (λ (r : Report). numbersOf r .refusal) (ap (λ (s : Scrubbed). s .report) (not-begun N l w a) ∙ h) in
+        (sym (ap (λ (s : Scrubbed). s .walk) (not-begun N l w a)), omega arith)
 
 module _ {A : Type 0} (f : Field A) where
   step-kept : (l : Layout) (c : List ℕ) (w : Walk) (budget e : ℕ) → scrubbed f l c w budget .report ≡ Refused e → (scrubbed f l c w budget .walk ≡ w) × (0 < e)
   unfolding isRefused
-  step-kept l c w budget e h = go (ℕ-discrete (scrubRefusal l (length c) w) 0)
+  step-kept l c w budget e h = go (ℕ-discrete (scrubRefusal f l c w budget) 0)
     where
-      go : Dec (scrubRefusal l (length c) w ≡ 0) → (scrubbed f l c w budget .walk ≡ w) × (0 < e)
+      go : Dec (scrubRefusal f l c w budget ≡ 0) → (scrubbed f l c w budget .walk ≡ w) × (0 < e)
       go (yes z) =
           absurd (false≢true (sym (not-refusing (layers l) (stepped f l c w budget))
           ∙ ap isRefused (ap (λ (s : Scrubbed). s .report) (step-taken f l c w budget z) ∙ h)))
       go (no d) =
-          let s = step-refused f l c w budget (scrubRefusal l (length c) w) refl d in
+          let s = step-refused f l c w budget (scrubRefusal f l c w budget) refl d in
           let q = ap (λ (r : Report). numbersOf r .refusal) (ap (λ (s : Scrubbed). s .report) s ∙ h) in
           (sym (ap (λ (s : Scrubbed). s .walk) s), omega arith)
 
@@ -114,8 +115,8 @@ module _ {A : Type 0} (f : Field A) (l : Layout) (c : List ℕ) where
           sym (some-so-far (layers l) w (t .within) high d) ∙ lt-ltb (w .first) (w .next) (omega (arith, t .least, b .1))
 
   -- what a report says where the record tells, over a buffer of the right length
-  tells-report : (w : Walk) → Tells f l c w → Coded (f .coding) → length c ≡ trays l * layers l → InRange (f .coding) c → Says f l c w (reportOf (layers l) w)
-  tells-report w t ok long range = go (decLt (w .next) (layers l)) (ℕ-discrete (w .bad) 0)
+  tells-report : (w : Walk) → Tells f l c w → Seen f l c (w .next) → Coded (f .coding) → length c ≡ trays l * layers l → Says f l c w (reportOf (layers l) w)
+  tells-report w t seen ok long = go (decLt (w .next) (layers l)) (ℕ-discrete (w .bad) 0)
     where
       go : Dec (w .next < layers l) → Dec (w .bad ≡ 0) → Says f l c w (reportOf (layers l) w)
       go (yes h) _ = subst (Says f l c w) (is-unfinished (layers l) w h) h
@@ -126,7 +127,7 @@ module _ {A : Type 0} (f : Field A) (l : Layout) (c : List ℕ) where
             z,
             record {
               long = long;
-              symbols = range;
+              symbols = seen-all f l c (λ x j hx hj. seen x j hx (omega arith)) long;
               holds = λ j k v u. good-checks f ok l c j (none-bad (badLayer f l c) 0 (w .next) (sym (t .count) ∙ z) j (omega arith) (omega arith)) v u;
             },
           )
@@ -139,45 +140,48 @@ module _ {A : Type 0} (f : Field A) (l : Layout) (c : List ℕ) where
                 d (t .count ∙ all-good (badLayer f l c) 0 (w .next) (λ j k u. sym (layer-good f ok l c j (q .holds j (omega arith))))),
           )
 
-  -- what is known along a walk: the reset was not refused
+  -- what is known along a walk: the reset was not refused, and the layers below the next were looked at
   record Along (w : Walk) : Type 0 where
-    adm : admissible l ≡ true
+    adm : admissible (f .order) l ≡ true
     tells : Tells f l c w
+    seen : Seen f l c (w .next)
 
   abbrev Good : Scrubbed → Type 0
   Good s = Along (s .walk) × Says f l c (s .walk) (s .report)
 
-  module _ (ok : Coded (f .coding)) (range : InRange (f .coding) c) where
+  module _ (ok : Coded (f .coding)) where
     -- a call of the walk, refused or not
     stepping : (w : Walk) → Along w → (budget : ℕ) → Good (scrubbed f l c w budget)
-    unfolding stepped
-    stepping w a budget = go (ℕ-discrete (scrubRefusal l (length c) w) 0)
+    unfolding stepped after
+    stepping w a budget = go (ℕ-discrete (scrubRefusal f l c w budget) 0)
       where
-        go : Dec (scrubRefusal l (length c) w ≡ 0) → Good (scrubbed f l c w budget)
+        go : Dec (scrubRefusal f l c w budget ≡ 0) → Good (scrubbed f l c w budget)
         go (yes z) =
-            let t = tells-after w (a .tells) (min budget (layers l - w .next)) (omega (arith, a .tells .within)) in
-            subst Good (step-taken f l c w budget z) (record { adm = a .adm; tells = t }, tells-report _ t ok (accepted l (length c) w z .1) range)
-        go (no d) = subst Good (step-refused f l c w budget (scrubRefusal l (length c) w) refl d) (a, omega arith)
+            let p = accepted f l c w budget z in
+            let t = tells-after w (a .tells) (stepLayers (layers l) w budget) (omega (arith, a .tells .within)) in
+            let s = seen-more f l c w budget (a .seen) (p .symbols) in
+            subst Good (step-taken f l c w budget z) (record { adm = a .adm; tells = t; seen = s }, tells-report _ t s ok (p .long))
+        go (no d) = subst Good (step-refused f l c w budget (scrubRefusal f l c w budget) refl d) (a, omega arith)
 
     good : {w : Walk} {r : Report} → Calls f l c w r → Along w × Says f l c w r
     unfolding fresh
     good (reset w s q h) =
-        let a = reset-admitted l w (ap (λ (x : Scrubbed). x .report) (sym q) ∙ h) in
-        subst Good (is-begun l w (layers l) a refl ∙ sym q) (record { adm = a; tells = tells-fresh }, refl)
+        let a = reset-admitted (f .order) l w (ap (λ (x : Scrubbed). x .report) (sym q) ∙ h) in
+        subst Good (is-begun (f .order) l w (layers l) a refl ∙ sym q) (record { adm = a; tells = tells-fresh; seen = seen-none f l c }, refl)
     good (step {w = w} before budget s q) = subst Good (sym q) (stepping w (good before .0) budget)
     good (refused-step {w = w} before l′ c′ budget e s q h) =
         let k = step-kept f l′ c′ w budget e (ap (λ (x : Scrubbed). x .report) (sym q) ∙ h) in
         (subst Along (sym (ap (λ (x : Scrubbed). x .walk) q ∙ k .0)) (good before .0), subst (Says f l c (s .walk)) (sym h) (k .1))
     good (refused-reset {w = w} before l′ e s q h) =
-        let k = reset-refused l′ w e (ap (λ (x : Scrubbed). x .report) (sym q) ∙ h) in
+        let k = reset-refused (f .order) l′ w e (ap (λ (x : Scrubbed). x .report) (sym q) ∙ h) in
         (subst Along (sym (ap (λ (x : Scrubbed). x .walk) q ∙ k .0)) (good before .0), subst (Says f l c (s .walk)) (sym h) (k .1))
 
-  -- THE CLAIM for every list of calls, where each number of the buffer is a symbol; in the field of 256 every byte is one
-  pub walked : FieldLaws f → InRange (f .coding) c → {w : Walk} {r : Report} → Calls f l c w r → Walked f l c w r
-  walked laws range {w} calls =
-      let g = good (laws .coded) range calls in
+  -- THE CLAIM for every list of calls and every buffer: where a number is no symbol, the call that would look at it is refused
+  pub walked : FieldLaws f → {w : Walk} {r : Report} → Calls f l c w r → Walked f l c w r
+  walked laws {w} calls =
+      let g = good (laws .coded) calls in
       record {
         tells = g .0 .tells;
         says = g .1;
-        goes-on = λ long. sym (not-refused l (length c) w (g .0 .adm) long (tells-plausible w (g .0 .tells)));
+        goes-on = λ long budget symbols. sym (not-refused f l c w budget (g .0 .adm) long (tells-plausible w (g .0 .tells)) symbols);
       }

@@ -1,6 +1,7 @@
 -- Lists of calls over one record, and what is claimed after each of them.
 -- Assumes nothing.
 use mathlib.Core.Path.{_≡_}
+use mathlib.Core.Bool.{true}
 use mathlib.Core.List.{List}
 use Prim.Native.Nat.{ℕ, _*_, _<_, _≤_}
 use lib.ListN.{length}
@@ -12,19 +13,19 @@ use Rattle.scrub.specs.declared.Walk.{Walk}
 use Rattle.scrub.specs.declared.Scrubbed.{Scrubbed}
 use Rattle.scrub.specs.declared.Report.{Report}
 use Rattle.scrub.specs.declared.Report.the-variants.{Begun, Unfinished, Sound, Bad, Refused}
-use Rattle.scrub.specs.Scrub.{badLayer, badCount, leastBad, scrubRefusal, scrubbed, begun}
+use Rattle.scrub.specs.Scrub.{badLayer, badCount, leastBad, stepSymbols, scrubRefusal, scrubbed, begun}
 
 module _ {A : Type 0} (f : Field A) (l : Layout) (c : List ℕ) where
   -- Calls w r: calls begun by a reset, the last of which handed back the record w and the report r. Each is handed the record as the one before handed
   -- it back, and its answer s is any that its contract allows.
   pub data Calls : Walk → Report → Type 0 where
-    reset : (w : Walk) (s : Scrubbed) → s ≡ begun l w → s .report ≡ Begun → Calls (s .walk) (s .report)
+    reset : (w : Walk) (s : Scrubbed) → s ≡ begun (f .order) l w → s .report ≡ Begun → Calls (s .walk) (s .report)
     -- a call over this layout and codeword
     step : {w : Walk} {r : Report} → Calls w r → (budget : ℕ) (s : Scrubbed) → s ≡ scrubbed f l c w budget → Calls (s .walk) (s .report)
     -- a refused call, and a refused reset, are given anything besides the record
     refused-step : {w : Walk} {r : Report} → Calls w r → (l′ : Layout) (c′ : List ℕ) (budget e : ℕ) (s : Scrubbed) → s ≡ scrubbed f l′ c′ w budget →
         s .report ≡ Refused e → Calls (s .walk) (s .report)
-    refused-reset : {w : Walk} {r : Report} → Calls w r → (l′ : Layout) (e : ℕ) (s : Scrubbed) → s ≡ begun l′ w → s .report ≡ Refused e →
+    refused-reset : {w : Walk} {r : Report} → Calls w r → (l′ : Layout) (e : ℕ) (s : Scrubbed) → s ≡ begun (f .order) l′ w → s .report ≡ Refused e →
         Calls (s .walk) (s .report)
 
   -- the record holds exactly how many layers below the next are bad, and the least of them, L for none
@@ -41,11 +42,11 @@ module _ {A : Type 0} (f : Field A) (l : Layout) (c : List ℕ) where
   Says w Bad = (w .next ≡ layers l) × (0 < w .bad) × ¬ (Codeword f l c)
   Says w (Refused e) = 0 < e
 
-  -- the claim after each call; over a buffer of the right length the next call is not refused
+  -- the claim after each call; over a buffer of the right length the next call is not refused where the layers that it looks at hold symbols
   pub record Walked (w : Walk) (r : Report) : Type 0 where
     pub tells : Tells w
     pub says : Says w r
-    pub goes-on : length c ≡ trays l * layers l → scrubRefusal l (length c) w ≡ 0
+    pub goes-on : length c ≡ trays l * layers l → (budget : ℕ) → stepSymbols f l c w budget ≡ true → scrubRefusal f l c w budget ≡ 0
 
   -- a bad layer in document 02's words: some check is broken
   pub record Broken (j : ℕ) : Type 0 where

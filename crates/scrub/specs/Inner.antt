@@ -6,14 +6,16 @@ use Prim.Native.Nat.{ℕ, _+_, _*_, _≤_}
 use lib.Dec.{eqb}
 use lib.ListN.{getD}
 use Rattle.lists.specs.Lists.{all}
+use Rattle.algebra.specs.Shape.{Field}
+use Rattle.algebra.specs.Plain.{reduced}
 use Rattle.layout.specs.declared.Layout.{Layout}
 use Rattle.layout.specs.Layout.{layers}
 use Rattle.codeword.specs.Inner.{Scannable}
 use Rattle.scrub.specs.declared.Walk.{Walk}
 
 -- whether some check is broken in column j of the sums of r checks, which have w columns
-unfoldable pub columnBad : (w r : ℕ) → List ℕ → ℕ → Bool
-columnBad w r sums j = not (all (λ t. eqb (getD sums (t * w + j) 0) 0) r)
+unfoldable pub columnBad : {A : Type 0} → Field A → (w r : ℕ) → List ℕ → ℕ → Bool
+columnBad f w r sums j = not (all (λ t. eqb (reduced f (getD sums (t * w + j) 0)) 0) r)
 
 -- the record after one more layer, which is bad or not
 unfoldable pub look : Bool → Walk → Walk

@@ -9,6 +9,7 @@ use Rattle.lists.specs.Lists.{all, unless}
 use Rattle.algebra.specs.Shape.{Field}
 use Rattle.layout.specs.declared.Layout.{Layout}
 use Rattle.layout.specs.Layout.{trays, checks, layers, admissible}
+use Rattle.range.specs.Range.{symbolRows}
 use Rattle.codeword.specs.Codeword.{checkAt}
 use Rattle.scrub.specs.declared.Walk.{Walk}
 use Rattle.scrub.specs.declared.Scrubbed.{Scrubbed}
@@ -41,32 +42,44 @@ after p w k = record {
 unfoldable pub plausible : ℕ → Walk → Bool
 plausible L w = leb (w .next) L && leb (w .bad) (w .next) && cond (eqb (w .bad) 0) (eqb (w .first) L) (ltb (w .first) (w .next))
 
--- the refusal of a call, given the buffer's length; 0 for none
-unfoldable pub scrubRefusal : Layout → ℕ → Walk → ℕ
-scrubRefusal l n w = unless (admissible l) 1 (unless (eqb n (trays l * layers l)) 2 (unless (plausible (layers l) w) 3 0))
+-- how many layers a call looks at: the smaller of its budget and the layers left
+abbrev pub stepLayers : ℕ → Walk → ℕ → ℕ
+stepLayers L w budget = min budget (L - w .next)
+
+-- every number in these layers is a symbol (document 02, W10)
+unfoldable pub stepSymbols : {A : Type 0} → Field A → Layout → List ℕ → Walk → ℕ → Bool
+stepSymbols f l c w budget = symbolRows f c (trays l) (layers l) (w .next) (stepLayers (layers l) w budget)
+
+-- the refusal of a call; 0 for none
+unfoldable pub scrubRefusal : {A : Type 0} → Field A → Layout → List ℕ → Walk → ℕ → ℕ
+scrubRefusal f l c w budget =
+    unless (admissible (f .order) l) 1
+    (unless (eqb (length c) (trays l * layers l)) 2
+    (unless (plausible (layers l) w && stepSymbols f l c w budget) 3
+    0))
 
 -- the report at a record
 unfoldable pub reportOf : ℕ → Walk → Report
 reportOf L w = cond (ltb (w .next) L) Unfinished (cond (eqb (w .bad) 0) Sound Bad)
 
--- what a call that is not refused makes of the record: it looks at the smaller of its budget and the layers left
+-- what a call that is not refused makes of the record
 unfoldable pub stepped : {A : Type 0} → Field A → Layout → List ℕ → Walk → ℕ → Walk
-stepped f l c w budget = after (badLayer f l c) w (min budget (layers l - w .next))
+stepped f l c w budget = after (badLayer f l c) w (stepLayers (layers l) w budget)
 
 -- a call; a refused one hands back the record as it came
 unfoldable pub scrubbed : {A : Type 0} → Field A → Layout → List ℕ → Walk → ℕ → Scrubbed
 scrubbed f l c w budget =
-    cond (eqb (scrubRefusal l (length c) w) 0)
+    cond (eqb (scrubRefusal f l c w budget) 0)
     (record { report = reportOf (layers l) (stepped f l c w budget); walk = stepped f l c w budget })
-    (record { report = Refused (scrubRefusal l (length c) w); walk = w })
+    (record { report = Refused (scrubRefusal f l c w budget); walk = w })
 
 -- the record that a walk begins with
 unfoldable pub fresh : Layout → Walk
 fresh l = record { next = 0; bad = 0; first = layers l }
 
--- a reset of any record
-unfoldable pub begun : Layout → Walk → Scrubbed
-begun l w = cond (admissible l) (record { report = Begun; walk = fresh l }) (record { report = Refused 1; walk = w })
+-- a reset of any record, over a field whose root has N powers; it looks at no symbol
+unfoldable pub begun : ℕ → Layout → Walk → Scrubbed
+begun N l w = cond (admissible N l) (record { report = Begun; walk = fresh l }) (record { report = Refused 1; walk = w })
 
 -- the numbers for each report: the refusal (0 for none), and 1 unfinished, 2 sound, 3 bad, 0 where nothing is said of the codeword
 pub record Numbers : Type 0 where

@@ -1,10 +1,11 @@
-// Testing a stored codeword some layers at a time (document 02, W6). A walk is begun by a reset, and each call looks at some more layers. Promises that after
-// each call the record holds exactly how many layers below the next are bad and the least of them, and what the report says; a refused call leaves the
-// record as it came. `reset` and `step` take the record by value and hand it back; `scrub_reset` and `scrub` change a lent one in its place.
+// Testing a stored codeword some layers at a time (document 02, W6). A walk is begun by a reset, and each call looks at some more layers, and at no symbol of
+// another. Promises that after each call the record holds exactly how many layers below the next are bad and the least of them, and what the report says; a
+// refused call leaves the record as it came. `reset` and `step` take the record by value and hand it back; `scrub_reset` and `scrub` change a lent one in its place.
 mod grounds;
 mod look;
 
 use layout::Layout;
+use symbol::plain::ORDER;
 ghost use mathlib.Core.Path.{_≡_};
 ghost use Rattle.symbol.specs.Elem.{gf256};
 ghost use Rattle.scrub.specs.Scrub.{reportOf, scrubbed, begun};
@@ -49,9 +50,9 @@ fn report_of(total: u32, walk: Walk) -> Report
 
 // Starts a new walk, whatever the old record holds.
 pub fn reset(l: Layout, old: Walk) -> Scrubbed
-    ensures { λ r. ⌜ r ≡ begun l old ⌝ }
+    ensures { λ r. ⌜ r ≡ begun (gf256 .order) l old ⌝ }
 {
-    if !layout::admitted(l) {
+    if !layout::admitted(ORDER as u32, l) {
         return Scrubbed {
             report: Report::Refused(1),
             walk: old,
@@ -71,7 +72,7 @@ pub fn reset(l: Layout, old: Walk) -> Scrubbed
 pub fn step(l: Layout, c: &[u8], walk: Walk, budget: u64) -> Scrubbed
     ensures { λ r. ⌜ r ≡ scrubbed gf256 l (now (c .entry)) walk budget ⌝ }
 {
-    let no = grounds::refusal(l, c.len(), walk);
+    let no = grounds::refusal(l, c, walk, budget);
     if no != 0 {
         return Scrubbed {
             report: Report::Refused(no),
@@ -79,8 +80,7 @@ pub fn step(l: Layout, c: &[u8], walk: Walk, budget: u64) -> Scrubbed
         };
     }
     let total = layout::layer_count(l);
-    let j = walk.next;
-    let count = lists::smaller(budget, (total - j) as u64) as u32;
+    let count = grounds::step_layers(total, walk, budget);
     let seen = look::look_on(l, total, c, walk, count);
     Scrubbed {
         report: report_of(total, seen),
@@ -90,7 +90,7 @@ pub fn step(l: Layout, c: &[u8], walk: Walk, budget: u64) -> Scrubbed
 
 // A reset with the record lent, and changed in its place.
 pub fn scrub_reset(l: Layout, walk: &mut Walk) -> Report
-    ensures { λ r. ⌜ (r ≡ begun l (now (walk .entry)) .report) × (now (walk .exit) ≡ begun l (now (walk .entry)) .walk) ⌝ }
+    ensures { λ r. ⌜ (r ≡ begun (gf256 .order) l (now (walk .entry)) .report) × (now (walk .exit) ≡ begun (gf256 .order) l (now (walk .entry)) .walk) ⌝ }
 {
     let s = reset(l, *walk);
     *walk = s.walk;

@@ -1,24 +1,26 @@
 // Looking at layers, a block at a time: which are bad, and the record after them.
 use crate::Walk;
 use layout::Layout;
+use symbol::plain::index;
 ghost use mathlib.Core.Path.{_≡_};
 ghost use mathlib.Core.Bool.{Bool};
 ghost use Prim.Native.Nat.{ℕ, _+_, _*_, _<_, _≤_};
 ghost use lib.ListN.{length};
 ghost use Rattle.symbol.specs.Elem.{gf256};
 ghost use Rattle.layout.specs.Layout.{trays, checks, layers, layerLimit};
-ghost use Rattle.syndrome.specs.Syndrome.{blockLimit, roomLimit, Block, Room};
+ghost use Rattle.blocks.specs.Blocks.{blockLimit, roomLimit, Block};
+ghost use Rattle.syndrome.specs.Syndrome.{Room};
 ghost use Rattle.scrub.specs.Scrub.{badLayer, after};
 ghost use Rattle.scrub.specs.Inner.{columnBad, look, Ahead};
 
 // Whether some check is broken in column j of the sums of r checks, which have w columns.
 fn bad_column(sums: &[u8], w: usize, r: usize, j: usize) -> bool
     requires { ⌜ (r * w ≤ length (now sums)) × (j < w) ⌝ }
-    ensures { λ b. ⌜ b ≡ columnBad w r (now (sums .entry)) j ⌝ }
+    ensures { λ b. ⌜ b ≡ columnBad gf256 w r (now (sums .entry)) j ⌝ }
 {
     let mut t = 0usize;
     while t < r {
-        if sums[t * w + j] != 0 {
+        if index(kernel::at(sums, t * w + j)) != 0 {
             return true;
         }
         t += 1;
@@ -58,7 +60,7 @@ fn look_at(walk: Walk, bad: bool) -> Walk
 // The record after so many layers more, by the sums of their checks.
 fn look_along(walk: Walk, w: usize, r: usize, sums: &[u8]) -> Walk
     requires { ⌜ (r * w ≤ length (now sums)) × (walk .next + w ≤ layerLimit) × (walk .bad ≤ walk .next) ⌝ }
-    ensures { λ s. ⌜ ((p : ℕ → Bool) → ((j : ℕ) → j < w → columnBad w r (now (sums .entry)) j ≡ p (walk .next + j)) → s ≡ after p walk w) ⌝ }
+    ensures { λ s. ⌜ ((p : ℕ → Bool) → ((j : ℕ) → j < w → columnBad gf256 w r (now (sums .entry)) j ≡ p (walk .next + j)) → s ≡ after p walk w) ⌝ }
 {
     let mut seen = walk;
     let mut j = 0usize;
@@ -109,7 +111,7 @@ fn look_blocks(
     let mut left = count;
     while left > 0 {
         let first = seen.next;
-        let w = syndrome::block_at(l, first, left, r);
+        let w = blocks::block_at(l, first, left, r);
         seen = look_block(l, c, none, seen, w as usize, sums, cur, row);
         left -= w;
     }
@@ -122,9 +124,9 @@ pub fn look_on(l: Layout, total: u32, c: &[u8], walk: Walk, count: u32) -> Walk
     ensures { λ r. ⌜ r ≡ after (badLayer gf256 l (now (c .entry))) walk count ⌝ }
 {
     let none = [0u32; 0];
-    let mut sums = [0u8; syndrome::ROOM];
-    let mut cur = [0u8; syndrome::BLOCK];
-    let mut row = [0u8; syndrome::BLOCK];
+    let mut sums = [0u8; blocks::ROOM];
+    let mut cur = [0u8; blocks::BLOCK];
+    let mut row = [0u8; blocks::BLOCK];
     look_blocks(
         l,
         total,

@@ -9,25 +9,30 @@ use native.Mathlib.Decide.{ℕ-discrete}
 use lib.Dec.{eqb}
 use lib.ListN.{length, getD}
 use Rattle.lists.specs.Lists.{table}
+use Rattle.lists.proofs.Bools.{and-true}
+use Rattle.lists.proofs.Numbers.{cell-in}
 use Rattle.lists.proofs.Tables.{table-at, table-length, table-same, is-table}
 use Rattle.algebra.specs.Field.{Ops, Laws}
 use Rattle.algebra.specs.Coding.{InRange}
 use Rattle.algebra.specs.Sum.{sum}
 use Rattle.algebra.specs.Erasure.{choose}
 use Rattle.algebra.specs.Shape.{Field, FieldLaws}
+use Rattle.algebra.specs.Plain.{Working}
 use Rattle.algebra.proofs.Ring.{zero-add, add-zero, add-assoc}
 use Rattle.algebra.proofs.Sum.{sum-zero, sum-suc, sum-congr, sum-add, sum-single, sum-is-zero}
 use Rattle.algebra.proofs.Cabinet.{choose-same, choose-other}
 use Rattle.symbol.specs.Elem.{Elem, ops, gf256}
 use Rattle.symbol.proofs.Elem.{gf256-laws}
+use Rattle.symbol.proofs.Working.{working}
 use Rattle.layout.specs.declared.Layout.{Layout}
 use Rattle.layout.specs.Layout.{layers, groups, Admissible}
 use Rattle.layout.proofs.Facts.{bounds}
 use Rattle.rule.specs.Rule.{trayPart}
-use Rattle.rule.proofs.Racks.{tray-long}
+use Rattle.range.specs.Range.{symbolsFrom}
+use Rattle.rule.proofs.Racks.{tray-at, tray-long}
 use Rattle.share.specs.Many.{sharesOf, manyRefusal, manyBuffer, partAt, fedMany, addManyRefusal, addManyBuffer}
 use Rattle.share.specs.Feeds.{count, odd, cleared, Feeds, none, feed, refused}
-use Rattle.share.proofs.Refusals.{shareable, rack-grounds, tray-done, tray-shareable, buffer-done, add-refused, add-done}
+use Rattle.share.proofs.Refusals.{symbols-in, symbols-range, rack-shareable, tray-done, tray-shareable, tray-ground-0, buffer-done, add-refused, add-done}
 use Rattle.share.proofs.Parts.{all-parts}
 
 -- one tray more among those counted
@@ -40,9 +45,12 @@ count-more o L places x g a = go (eqb g x)
     go true = sum-suc o (count g places) (λ n. a)
     go false = sym (add-zero o L _)
 
-module _ {A : Type 0} (f : Field A) (laws : FieldLaws f) (l : Layout) (e : ℕ) where
+module _ {A : Type 0} {f : Field A} (W : Working f) (l : Layout) (e : ℕ) where
   open Field f using (ops as o)
   open Ops (f .ops) using (add, zero)
+
+  laws : FieldLaws f
+  laws = W .field
 
   module _ (host x : ℕ) (symbols held : List ℕ) where
     once-long : length (fedMany f l e host x symbols held) ≡ e * groups l
@@ -56,18 +64,29 @@ module _ {A : Type 0} (f : Field A) (laws : FieldLaws f) (l : Layout) (e : ℕ) 
         ap (f .coding .val) (ap (λ y. add y (partAt f l host x symbols n)) (ap (f .coding .elem) (table-at _ (e * groups l) n k) ∙ laws .coded .elem-val _)
         ∙ add-assoc o (laws .laws) _ _ _))
 
+    -- what it holds are symbols
+    once-range : symbolsFrom f (fedMany f l e host x symbols held) 0 (length (fedMany f l e host x symbols held)) ≡ true
+    unfolding fedMany
+    once-range = symbols-in f (fedMany f l e host x symbols held) (λ k h.
+        rw (table-at (λ n. f .coding .val (add (f .coding .elem (getD held n 0)) (partAt f l host x symbols n))) (e * groups l) k (rw once-long at h)) (laws .coded .val-below _))
+
     -- feeding a tray twice adds its parts twice
-    pub fed-twice : addManyRefusal l e host x (length symbols) (length held) ≡ 0 →
+    pub fed-twice : addManyRefusal f l e host x symbols held ≡ 0 →
         addManyBuffer f l e host x symbols (addManyBuffer f l e host x symbols held)
         ≡ table (λ n. f .coding .val (add (f .coding .elem (getD held n 0)) (add (partAt f l host x symbols n) (partAt f l host x symbols n)))) (e * groups l)
     fed-twice q =
         ap (addManyBuffer f l e host x symbols) (sym (add-done f l e host x symbols held q))
         ∙ sym (add-done f l e host x symbols (fedMany f l e host x symbols held)
-        (ap (addManyRefusal l e host x (length symbols)) (once-long ∙ sym (tray-shareable l e host x _ _ q .room-long)) ∙ q))
+        (again q))
         ∙ twice
+      where
+        again : addManyRefusal f l e host x symbols held ≡ 0 → addManyRefusal f l e host x symbols (fedMany f l e host x symbols held) ≡ 0
+        again q =
+            let p = tray-shareable W l e host x symbols held q in
+            sym (tray-ground-0 W l e host x symbols (fedMany f l e host x symbols held) (length held) (symbolsFrom f held 0 (length held)) p (once-long ∙ sym (p .room-long)) once-range)
 
-  module _ (a : Admissible l) (host i : ℕ) (host-in : host < l .racks) (rack-in : i < l .racks) (some : 0 < e) (few : e + l .dimension % l .size ≤ l .size) (differ : ¬ (host ≡ i))
-      (rack : List ℕ) (long : length rack ≡ l .size * layers l) (start : List ℕ) (room : length start ≡ e * groups l) (range : InRange (f .coding) start) where
+  module _ (a : Admissible (f .order) l) (host i : ℕ) (host-in : host < l .racks) (rack-in : i < l .racks) (some : 0 < e) (few : e + l .dimension % l .size ≤ l .size) (differ : ¬ (host ≡ i))
+      (rack : List ℕ) (long : length rack ≡ l .size * layers l) (given : InRange (f .coding) rack) (start : List ℕ) (room : length start ≡ e * groups l) (range : InRange (f .coding) start) where
     -- number n of the parts of the tray at place g
     part : ℕ → ℕ → A
     part g n = partAt f l host (i * l .size + g) (trayPart l rack g) n
@@ -109,13 +128,28 @@ module _ {A : Type 0} (f : Field A) (laws : FieldLaws f) (l : Layout) (e : ℕ) 
         ∙ add-assoc o (laws .laws) _ _ _
         ∙ ap (add (f .coding .elem (getD start n 0))) (sym (total-more places g n h))))
 
-    done : (places : List ℕ) (g : ℕ) → g < l .size → addManyRefusal l e host (i * l .size + g) (length (trayPart l rack g)) (length (after places)) ≡ 0
-    done places g h = tray-done l e host i g _ _ (record {
+    -- what a call looks at are symbols
+    tray-whole : (g : ℕ) → g < l .size → length (trayPart l rack g) ≡ layers l
+    tray-whole g h = tray-long l rack (l .size) g (bounds l (a .cabinet) .layers-low) long h
+
+    tray-range : (g : ℕ) → g < l .size → symbolsFrom f (trayPart l rack g) 0 (length (trayPart l rack g)) ≡ true
+    tray-range g h = symbols-in f (trayPart l rack g) (λ k t.
+        let j : k < layers l = rw (tray-whole g h) at t in
+        rw (tray-at l rack g k j) (given .at (g * layers l + k) (rw long (cell-in (l .size) (layers l) g k h j))))
+
+    after-range : (places : List ℕ) → symbolsFrom f (after places) 0 (length (after places)) ≡ true
+    unfolding after
+    after-range places = symbols-in f (after places) (λ k t.
+        rw (table-at (λ n. f .coding .val (add (f .coding .elem (getD start n 0)) (total places n))) (e * groups l) k (rw (after-long places) at t)) (laws .coded .val-below _))
+
+    done : (places : List ℕ) (g : ℕ) → g < l .size → addManyRefusal f l e host (i * l .size + g) (trayPart l rack g) (after places) ≡ 0
+    done places g h = tray-done W l e host i g (trayPart l rack g) (after places) (record {
       adm = a;
-      long = tray-long l rack (l .size) g (bounds l a .layers-low) long h ∙ sym (one-mul (layers l));
+      long = tray-whole g h ∙ sym (one-mul (layers l));
       room-long = after-long places;
       host-in = host-in;
       helper-in = rack-in;
+      symbols-so = and-true _ _ (tray-range g h) (after-range places);
       some = some;
       few = few;
       differ = differ;
@@ -149,21 +183,21 @@ module _ {A : Type 0} (f : Field A) (laws : FieldLaws f) (l : Layout) (e : ℕ) 
         one-term : (y : A) → sum o 1 (λ m. y) ≡ y
         one-term y = sum-suc o 0 _ ∙ ap (λ s. add s y) (sum-zero o _) ∙ zero-add o (laws .laws) y
 
-module _ {A : Type 0} (f : Field A) (laws : FieldLaws f) (l : Layout) (e : ℕ) where
+module _ {A : Type 0} {f : Field A} (W : Working f) (l : Layout) (e : ℕ) where
   cleared-long : length (cleared f l e) ≡ e * groups l
   unfolding cleared
   cleared-long = table-length _ (e * groups l)
 
   cleared-range : InRange (f .coding) (cleared f l e)
   unfolding cleared
-  cleared-range = record { at = λ n h. rw (table-at (λ n. f .coding .val (f .ops .zero)) (e * groups l) n (rw cleared-long at h)) (laws .coded .val-below _) }
+  cleared-range = record { at = λ n h. rw (table-at (λ n. f .coding .val (f .ops .zero)) (e * groups l) n (rw cleared-long at h)) (W .field .coded .val-below _) }
 
   -- and that is what the call for the whole rack writes, into whatever room of the right length
-  pub feeds-call : (host i : ℕ) (rack out : List ℕ) → manyRefusal l e host i (length rack) (length out) ≡ 0 →
+  pub feeds-call : (host i : ℕ) (rack out : List ℕ) → manyRefusal f l e host i rack (length out) ≡ 0 →
       (places held : List ℕ) → Feeds f l e host i rack (cleared f l e) places held → ((g : ℕ) → g < l .size → count g places ≡ 1) → held ≡ manyBuffer f l e host i rack out
   feeds-call host i rack out h places held feeds once =
-      let p = shareable l e (l .size) host i _ _ (rack-grounds l e host i (length rack) (length out) ∙ h) in
-      feeds-shares f laws l e (p .adm) host i (p .host-in) (p .helper-in) (p .some) (p .few) (p .differ) rack (p .long) (cleared f l e) cleared-long cleared-range refl places held feeds once
+      let p = rack-shareable W l e host i rack (length out) h in
+      feeds-shares W l e (p .adm) host i (p .host-in) (p .helper-in) (p .some) (p .few) (p .differ) rack (p .long) (symbols-range f rack (p .symbols-so)) (cleared f l e) cleared-long cleared-range refl places held feeds once
       ∙ buffer-done f l e host i rack out h
 
 both-cancel : (x y : Elem) → x ≡ ops .add x (ops .add y y)
@@ -181,25 +215,25 @@ often (suc n) y = sum-suc ops n _ ∙ ap (λ x. ops .add x y) (often n y) ∙ go
     go false = zero-add ops (gf256-laws .laws) y
 
 -- among bytes, after any feeds, the trays fed an odd number of times are in the shares, once each, and those fed an even number of times have cancelled
-pub feeds-cancel : (l : Layout) (e : ℕ) → Admissible l → (host i : ℕ) → host < l .racks → i < l .racks → 0 < e → e + l .dimension % l .size ≤ l .size → ¬ (host ≡ i) →
-    (rack : List ℕ) → length rack ≡ l .size * layers l → (start : List ℕ) → length start ≡ e * groups l → InRange (gf256 .coding) start →
+pub feeds-cancel : (l : Layout) (e : ℕ) → Admissible (gf256 .order) l → (host i : ℕ) → host < l .racks → i < l .racks → 0 < e → e + l .dimension % l .size ≤ l .size → ¬ (host ≡ i) →
+    (rack : List ℕ) → length rack ≡ l .size * layers l → InRange (gf256 .coding) rack → (start : List ℕ) → length start ≡ e * groups l → InRange (gf256 .coding) start →
     (places held : List ℕ) → Feeds gf256 l e host i rack start places held →
     held ≡ table (λ n. gf256 .coding .val (ops .add (gf256 .coding .elem (getD start n 0))
     (sum ops (l .size) (λ g. choose (odd (count g places)) (partAt gf256 l host (i * l .size + g) (trayPart l rack g) n) (ops .zero))))) (e * groups l)
-feeds-cancel l e a host i hh hi some few differ rack long start room range places held feeds =
-    feeds-sum gf256 gf256-laws l e a host i hh hi some few differ rack long start room range places held feeds
+feeds-cancel l e a host i hh hi some few differ rack long given start room range places held feeds =
+    feeds-sum working l e a host i hh hi some few differ rack long given start room range places held feeds
     ∙ table-same _ _ (e * groups l) (λ n k.
     ap (λ y. gf256 .coding .val (ops .add (gf256 .coding .elem (getD start n 0)) y)) (sum-congr ops (l .size) _ _ (λ g h. often (count g places) _)))
 
 -- so the same call twice leaves the buffer as it was, refused or done
 pub twice-cancels : (l : Layout) (e host x : ℕ) (symbols held : List ℕ) → InRange (gf256 .coding) held →
     addManyBuffer gf256 l e host x symbols (addManyBuffer gf256 l e host x symbols held) ≡ held
-twice-cancels l e host x symbols held range = go (ℕ-discrete (addManyRefusal l e host x (length symbols) (length held)) 0)
+twice-cancels l e host x symbols held range = go (ℕ-discrete (addManyRefusal gf256 l e host x symbols held) 0)
   where
-    go : Dec (addManyRefusal l e host x (length symbols) (length held) ≡ 0) → addManyBuffer gf256 l e host x symbols (addManyBuffer gf256 l e host x symbols held) ≡ held
+    go : Dec (addManyRefusal gf256 l e host x symbols held ≡ 0) → addManyBuffer gf256 l e host x symbols (addManyBuffer gf256 l e host x symbols held) ≡ held
     go (yes q) =
-        let room : length held ≡ e * groups l = tray-shareable l e host x _ _ q .room-long in
-        fed-twice gf256 gf256-laws l e host x symbols held q
+        let room : length held ≡ e * groups l = tray-shareable working l e host x symbols held q .room-long in
+        fed-twice working l e host x symbols held q
         ∙ sym (is-table held _ (e * groups l) room (λ n k.
         sym (gf256-laws .coded .val-elem _ (range .at n (rw room k)))
         ∙ ap (λ y. y .val) (both-cancel (gf256 .coding .elem (getD held n 0)) (partAt gf256 l host x symbols n))))

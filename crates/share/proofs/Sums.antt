@@ -12,19 +12,20 @@ use Rattle.algebra.specs.Sum.{sum}
 use Rattle.algebra.specs.Layers.{layerOf}
 use Rattle.algebra.proofs.Layers.{power-pos}
 use Rattle.algebra.proofs.Cabinet.{group-sum}
-use Rattle.symbol.specs.Elem.{elem, ops, gf256}
+use Rattle.algebra.specs.Shape.{Field}
+use Rattle.algebra.specs.Plain.{Working}
 use Rattle.layout.specs.declared.Layout.{Layout}
-use Rattle.layout.specs.Layout.{digits, layers, groups, layerLimit, Admissible}
+use Rattle.layout.specs.Layout.{digits, layers, groups, layerLimit, Cabinet, Admissible}
 use Rattle.layout.proofs.Facts.{bounds, power-in}
 use Rattle.layout.proofs.Numbers.{groups-are}
 use Rattle.codeword.specs.Codeword.{shapeOf}
 use Rattle.codeword.proofs.Usable.{usable}
 use Rattle.share.specs.Inner.{RunsOf, InRuns, DigitsAdded, sumAt, Summing, Summed}
 
-pub groups-pos : (l : Layout) → Admissible l → 0 < groups l
+pub groups-pos : (l : Layout) → Cabinet l → 0 < groups l
 groups-pos l a = rw (groups-are l a) (power-pos (digits l) (l .racks - 1) (bounds l a .digits-low))
 
-pub runs-are : (l : Layout) (h s run count : ℕ) → Admissible l → h < l .racks → s ≡ digits l → run ≡ min (s ^ h) (layerLimit + 1) →
+pub runs-are : (l : Layout) (h s run count : ℕ) → Cabinet l → h < l .racks → s ≡ digits l → run ≡ min (s ^ h) (layerLimit + 1) →
     count ≡ min (s ^ (l .racks - 1 - h)) (layerLimit + 1) → RunsOf l h s run count
 runs-are l h s run count a host es er ec = record {
   digits-are = es;
@@ -32,7 +33,7 @@ runs-are l h s run count a host es er ec = record {
   count-is = ec ∙ ap (λ b. min (b ^ (l .racks - 1 - h)) (layerLimit + 1)) es ∙ omega (arith, power-in l a (l .racks - 1 - h) (omega arith));
 }
 
-module _ (l : Layout) (h s run count : ℕ) (a : Admissible l) (host : h < l .racks) (r : RunsOf l h s run count) where
+module _ (l : Layout) (h s run count : ℕ) (a : Cabinet l) (host : h < l .racks) (r : RunsOf l h s run count) where
   run-pos : 0 < run
   run-pos = rw (r .run-is) (power-pos (digits l) h (bounds l a .digits-low))
 
@@ -51,8 +52,8 @@ module _ (l : Layout) (h s run count : ℕ) (a : Admissible l) (host : h < l .ra
       ∙ ap₂ _*_ (sym (groups-are l a) ∙ sym count-whole) (sym (r .digits-are))
       ∙ mul-assoc count run s ∙ ap (λ n. count * n) (mul-comm run s) ∙ sym (mul-assoc count s run)
 
-  pub runs-of : (symbols sums : List ℕ) → Summing l h symbols sums → InRuns s run count 0 symbols sums
-  runs-of symbols sums t = record {
+  pub runs-of : (N : ℕ) (symbols sums : List ℕ) → Summing N l h symbols sums → InRuns s run count 0 symbols sums
+  runs-of N symbols sums t = record {
     some = run-pos;
     some-runs = rw (r .count-is) (power-pos (digits l) (l .racks - 1 - h) (bounds l a .digits-low));
     digit-in = omega (arith, r .digits-are, bounds l a .digits-low);
@@ -61,16 +62,21 @@ module _ (l : Layout) (h s run count : ℕ) (a : Admissible l) (host : h < l .ra
   }
 
   -- number i of run q is group q·s^h + i, and its layers are those added
-  pub summed : (symbols was is : List ℕ) → DigitsAdded s run count s symbols was is → Summed l h symbols was is
-  summed symbols was is d = record { same = d .same; done = at; rest = λ p k. d .rest p (rw count-whole k) }
+  pub summed : {A : Type 0} {f : Field A} (W : Working f) → Admissible (f .order) l → (symbols was is : List ℕ) → DigitsAdded f s run count s symbols was is → Summed f l h symbols was is
+  summed {A} {f} W adm symbols was is d = record { same = d .same; done = at; small = low; rest = λ p k. d .rest p (rw count-whole k) }
     where
-      at : (p : ℕ) → p < groups l → elem (getD is p 0) ≡ ops .add (elem (getD was p 0)) (sumAt l h symbols p)
+      low : (p : ℕ) → p < groups l → getD is p 0 < f .coding .size
+      low p k =
+          subst (λ n. getD is n 0 < f .coding .size) (div-add-mod' p run)
+          (d .small (omega (arith, r .digits-are, bounds l a .digits-low)) (p / run) (p % run) (div-lt-iff-lt-mul run-pos .1 (rw count-whole k)) (mod-lt p run-pos))
+
+      at : (p : ℕ) → p < groups l → f .coding .elem (getD is p 0) ≡ f .ops .add (f .coding .elem (getD was p 0)) (sumAt f l h symbols p)
       at p k =
-          subst (λ n. elem (getD is n 0) ≡ ops .add (elem (getD was n 0)) (sum ops s (λ b. elem (getD symbols ((p / run * s + b) * run + p % run) 0)))) (div-add-mod' p run)
+          subst (λ n. f .coding .elem (getD is n 0) ≡ f .ops .add (f .coding .elem (getD was n 0)) (sum (f .ops) s (λ b. f .coding .elem (getD symbols ((p / run * s + b) * run + p % run) 0)))) (div-add-mod' p run)
           (d .done (p / run) (p % run) (div-lt-iff-lt-mul run-pos .1 (rw count-whole k)) (mod-lt p run-pos))
-          ∙ ap (ops .add (elem (getD was p 0))) layered
+          ∙ ap (f .ops .add (f .coding .elem (getD was p 0))) layered
         where
-          layered : sum ops s (λ b. elem (getD symbols ((p / run * s + b) * run + p % run) 0)) ≡ sumAt l h symbols p
+          layered : sum (f .ops) s (λ b. f .coding .elem (getD symbols ((p / run * s + b) * run + p % run) 0)) ≡ sumAt f l h symbols p
           layered = unfold layerOf in
-              ap₂ (λ n w. sum ops n (λ b. elem (getD symbols ((p / w * n + b) * w + p % w) 0))) (r .digits-are) (r .run-is)
-              ∙ sym (group-sum (shapeOf gf256 l) (usable l a .fits) h host p (rw (usable l a .groups-are) at k) (λ j. elem (getD symbols j 0)))
+              ap₂ (λ n w. sum (f .ops) n (λ b. f .coding .elem (getD symbols ((p / w * n + b) * w + p % w) 0))) (r .digits-are) (r .run-is)
+              ∙ sym (group-sum (shapeOf f l) (usable W l adm .fits) h host p (rw (usable W l adm .groups-are) at k) (λ j. f .coding .elem (getD symbols j 0)))

@@ -17,6 +17,7 @@ use Rattle.lists.proofs.Tables.{table-at, table-length, is-table}
 use Rattle.algebra.specs.Field.{Ops}
 use Rattle.algebra.specs.Sum.{pow}
 use Rattle.algebra.specs.Shape.{Field, FieldLaws}
+use Rattle.algebra.specs.Plain.{Working}
 use Rattle.algebra.specs.Points.{place}
 use Rattle.algebra.proofs.Pow.{pow-mul}
 use Rattle.layout.specs.declared.Layout.{Layout}
@@ -43,7 +44,7 @@ one-row F G n same = is-table _ G n (table-length F (1 * n) ∙ one-mul n) (λ p
 module _ {A : Type 0} (f : Field A) (l : Layout) where
   open Ops (f .ops) using (add)
 
-  -- the tray at place g counts times z to the power g·m·(255/u)
+  -- the tray at place g counts times z to the power g·m·(N/u), where N is 255 for bytes
   pub weight-is : FieldLaws f → (g m : ℕ) → pow (f .ops) (place (shapeOf f l) g) m ≡ pow (f .ops) (f .root) (g * m * (f .order / l .size))
   unfolding place
   weight-is laws g m =
@@ -66,7 +67,7 @@ module _ {A : Type 0} (f : Field A) (l : Layout) where
       (ap (f .coding .elem) (sym (getD-take (groups l) (drop (m * groups l) held) p 0 q ∙ getD-drop (m * groups l) held p 0)))
       (ap₂ (λ y z. partSymbol f l y h x symbols z) (digits-div m q) (digits-mod m q))))
 
-  -- with e = 1 the bytes are those of the calls for one share
+  -- with e = 1 the symbols are those of the calls for one share
   pub one-shares : (h : ℕ) (rack : List ℕ) → sharesOf f l 1 h rack ≡ shareOf f l 0 h rack
   unfolding sharesOf shareOf
   one-shares h rack = one-row _ _ (groups l) (λ p q. ap₂ (λ y z. f .coding .val (shareSymbol f l y h rack z)) (div-eq-of-lt q) (mod-eq-of-lt q))
@@ -76,10 +77,10 @@ module _ {A : Type 0} (f : Field A) (l : Layout) where
   one-fed h x symbols held = one-row _ _ (groups l) (λ p q.
       ap (λ y. f .coding .val (add (f .coding .elem (getD held p 0)) y)) (ap₂ (λ y z. partSymbol f l y h x symbols z) (div-eq-of-lt q) (mod-eq-of-lt q)))
 
-  pub one-buffer : (host helper : ℕ) (rack out : List ℕ) → manyBuffer f l 1 host helper rack out ≡ shareBuffer f l host helper rack out
+  pub one-buffer : Working f → (host helper : ℕ) (rack out : List ℕ) → manyBuffer f l 1 host helper rack out ≡ shareBuffer f l host helper rack out
   unfolding manyBuffer shareBuffer
-  one-buffer host helper rack out = ap₂ (λ n s. cond (eqb n 0) s out) (one-refusal l host helper (length rack) (length out)) (one-shares host rack)
+  one-buffer W host helper rack out = ap₂ (λ n s. cond (eqb n 0) s out) (one-refusal W l host helper rack (length out)) (one-shares host rack)
 
-  pub one-add-buffer : (host x : ℕ) (symbols held : List ℕ) → addManyBuffer f l 1 host x symbols held ≡ addBuffer f l host x symbols held
+  pub one-add-buffer : Working f → (host x : ℕ) (symbols held : List ℕ) → addManyBuffer f l 1 host x symbols held ≡ addBuffer f l host x symbols held
   unfolding addManyBuffer addBuffer
-  one-add-buffer host x symbols held = ap₂ (λ n s. cond (eqb n 0) s held) (one-add-refusal l host x (length symbols) (length held)) (one-fed host x symbols held)
+  one-add-buffer W host x symbols held = ap₂ (λ n s. cond (eqb n 0) s held) (one-add-refusal W l host x symbols held) (one-fed host x symbols held)

@@ -5,7 +5,6 @@ use mathlib.Core.Path.{_≡_}
 use mathlib.Core.List.{List, [], _∷_}
 use Prim.Native.Nat.{ℕ, zero, suc, _+_, _*_, _<_}
 use lib.Dec.{eqb}
-use lib.ListN.{length}
 use Rattle.lists.specs.Lists.{table}
 use Rattle.algebra.specs.Shape.{Field}
 use Rattle.layout.specs.declared.Layout.{Layout}
@@ -36,4 +35,4 @@ module _ {A : Type 0} (f : Field A) (l : Layout) (e : ℕ) where
         Feeds host i rack start (g ∷ places) (addManyBuffer f l e host (i * l .size + g) (trayPart l rack g) held)
     -- a refused call is given anything besides the buffer
     refused : {places held : List ℕ} → Feeds host i rack start places held → (l′ : Layout) (e′ host′ x : ℕ) (symbols : List ℕ) →
-        ¬ (addManyRefusal l′ e′ host′ x (length symbols) (length held) ≡ 0) → Feeds host i rack start places (addManyBuffer f l′ e′ host′ x symbols held)
+        ¬ (addManyRefusal f l′ e′ host′ x symbols held ≡ 0) → Feeds host i rack start places (addManyBuffer f l′ e′ host′ x symbols held)

@@ -1,7 +1,7 @@
 -- The calls with several weights: the e shares of weight m = 0 .. e - 1 lie one after another in order of m, so number n of the buffer is symbol n mod L/s
 -- of the share of weight n / (L/s). With e = 1 they are document 01's calls (proofs/Weights.antt).
 -- Assumes nothing.
-use mathlib.Core.Bool.{Bool, not, cond, _&&_}
+use mathlib.Core.Bool.{Bool, true, not, cond, _&&_}
 use mathlib.Core.List.{List}
 use Prim.Native.Nat.{ℕ, _*_, _/_, _%_}
 use lib.Dec.{eqb, ltb}
@@ -11,32 +11,35 @@ use Rattle.algebra.specs.Field.{Ops}
 use Rattle.algebra.specs.Shape.{Field}
 use Rattle.layout.specs.declared.Layout.{Layout}
 use Rattle.layout.specs.Layout.{trays, layers, groups, admissible, lostCountFits}
+use Rattle.range.specs.Range.{symbolsFrom}
 use Rattle.rule.specs.Rule.{shareSymbol}
 use Rattle.share.specs.Share.{partSymbol}
 
--- the grounds of both calls in their order, 12 right after where 5 would stand: whether the lengths are right, the numbers inside the layout and the host
--- another rack
-abbrev pub manyGrounds : Layout → ℕ → Bool → Bool → Bool → ℕ
-manyGrounds l e lengths inside other =
-    unless (admissible l) 1
+-- the grounds of both calls in their order, 12 right after where 5 would stand: whether the lengths are right, the numbers inside the layout, what is looked
+-- at symbols of the field and the host another rack; with e = 0 nothing is looked at. N is the number of powers of the field's root
+abbrev pub manyGrounds : ℕ → Layout → ℕ → Bool → Bool → Bool → Bool → ℕ
+manyGrounds N l e lengths inside symbols other =
+    unless (admissible N l) 1
     (unless lengths 2
-    (unless inside 3
+    (unless (inside && cond (eqb e 0) true symbols) 3
     (unless (lostCountFits l e) 12
     (unless other 6
     0))))
 
--- the refusal of e shares, given the lengths of the rack and of the room for the shares; 0 for none
-unfoldable pub manyRefusal : Layout → ℕ → ℕ → ℕ → ℕ → ℕ → ℕ
-manyRefusal l e host helper given room =
-    manyGrounds l e (eqb given (l .size * layers l) && eqb room (e * groups l)) (ltb host (l .racks) && ltb helper (l .racks)) (not (eqb host helper))
-
--- the refusal of adding tray x's parts to e shares, given the lengths of the tray and of the shares; 0 for none
-unfoldable pub addManyRefusal : Layout → ℕ → ℕ → ℕ → ℕ → ℕ → ℕ
-addManyRefusal l e host x given room =
-    manyGrounds l e (eqb given (layers l) && eqb room (e * groups l)) (ltb host (l .racks) && ltb x (trays l)) (not (eqb host (x / l .size)))
-
 module _ {A : Type 0} (f : Field A) (l : Layout) where
   open Ops (f .ops) using (add)
+
+  -- the refusal of e shares, given the rack and the length of the room for the shares; 0 for none
+  unfoldable pub manyRefusal : ℕ → ℕ → ℕ → List ℕ → ℕ → ℕ
+  manyRefusal e host helper rack room =
+      manyGrounds (f .order) l e (eqb (length rack) (l .size * layers l) && eqb room (e * groups l)) (ltb host (l .racks) && ltb helper (l .racks))
+      (symbolsFrom f rack 0 (length rack)) (not (eqb host helper))
+
+  -- the refusal of adding tray x's parts to e shares, given the tray and what the shares hold; 0 for none
+  unfoldable pub addManyRefusal : ℕ → ℕ → ℕ → List ℕ → List ℕ → ℕ
+  addManyRefusal e host x symbols held =
+      manyGrounds (f .order) l e (eqb (length symbols) (layers l) && eqb (length held) (e * groups l)) (ltb host (l .racks) && ltb x (trays l))
+      (symbolsFrom f symbols 0 (length symbols) && symbolsFrom f held 0 (length held)) (not (eqb host (x / l .size)))
 
   -- a helper's e shares for the host rack h
   unfoldable pub sharesOf : ℕ → ℕ → List ℕ → List ℕ
@@ -44,7 +47,7 @@ module _ {A : Type 0} (f : Field A) (l : Layout) where
 
   -- what the room for the shares holds after the call
   unfoldable pub manyBuffer : ℕ → ℕ → ℕ → List ℕ → List ℕ → List ℕ
-  manyBuffer e host helper rack out = cond (eqb (manyRefusal l e host helper (length rack) (length out)) 0) (sharesOf e host rack) out
+  manyBuffer e host helper rack out = cond (eqb (manyRefusal e host helper rack (length out)) 0) (sharesOf e host rack) out
 
   -- number n of tray x's parts in the order of the shares
   unfoldable pub partAt : ℕ → ℕ → List ℕ → ℕ → A
@@ -56,4 +59,4 @@ module _ {A : Type 0} (f : Field A) (l : Layout) where
 
   -- what it holds after the call
   unfoldable pub addManyBuffer : ℕ → ℕ → ℕ → List ℕ → List ℕ → List ℕ
-  addManyBuffer e host x symbols held = cond (eqb (addManyRefusal l e host x (length symbols) (length held)) 0) (fedMany e host x symbols held) held
+  addManyBuffer e host x symbols held = cond (eqb (addManyRefusal e host x symbols held) 0) (fedMany e host x symbols held) held

@@ -13,29 +13,30 @@ use Rattle.algebra.specs.Points.{place}
 use Rattle.algebra.specs.Cabinet.{groupSum}
 use Rattle.layout.specs.declared.Layout.{Layout}
 use Rattle.layout.specs.Layout.{trays, layers, groups, admissible}
+use Rattle.range.specs.Range.{symbolsFrom}
 use Rattle.codeword.specs.Codeword.{shapeOf}
 use Rattle.rule.specs.Rule.{shareSymbol}
 
--- the refusal of a share, given the lengths of the rack and of the room for the share; 0 for none
-unfoldable pub shareRefusal : Layout → ℕ → ℕ → ℕ → ℕ → ℕ
-shareRefusal l host helper given room =
-    unless (admissible l) 1
-    (unless (eqb given (l .size * layers l) && eqb room (groups l)) 2
-    (unless (ltb host (l .racks) && ltb helper (l .racks)) 3
-    (unless (not (eqb host helper)) 6
-    0)))
-
--- the refusal of adding tray x's part to a share, given the lengths of the tray and of the share; 0 for none
-unfoldable pub addRefusal : Layout → ℕ → ℕ → ℕ → ℕ → ℕ
-addRefusal l host x given room =
-    unless (admissible l) 1
-    (unless (eqb given (layers l) && eqb room (groups l)) 2
-    (unless (ltb host (l .racks) && ltb x (trays l)) 3
-    (unless (not (eqb host (x / l .size))) 6
-    0)))
-
 module _ {A : Type 0} (f : Field A) (l : Layout) where
   open Ops (f .ops) using (add, mul)
+
+  -- the refusal of a share, given the rack and the length of the room for the share; 0 for none. Every symbol of the rack is looked at
+  unfoldable pub shareRefusal : ℕ → ℕ → List ℕ → ℕ → ℕ
+  shareRefusal host helper rack room =
+      unless (admissible (f .order) l) 1
+      (unless (eqb (length rack) (l .size * layers l) && eqb room (groups l)) 2
+      (unless (ltb host (l .racks) && ltb helper (l .racks) && symbolsFrom f rack 0 (length rack)) 3
+      (unless (not (eqb host helper)) 6
+      0)))
+
+  -- the refusal of adding tray x's part to a share, given the tray and what the share holds; 0 for none. Every symbol of both is looked at
+  unfoldable pub addRefusal : ℕ → ℕ → List ℕ → List ℕ → ℕ
+  addRefusal host x symbols held =
+      unless (admissible (f .order) l) 1
+      (unless (eqb (length symbols) (layers l) && eqb (length held) (groups l)) 2
+      (unless (ltb host (l .racks) && ltb x (trays l) && (symbolsFrom f symbols 0 (length symbols) && symbolsFrom f held 0 (length held))) 3
+      (unless (not (eqb host (x / l .size))) 6
+      0)))
 
   -- a helper's share of weight m for the host rack h; document 01's has m = 0
   unfoldable pub shareOf : ℕ → ℕ → List ℕ → List ℕ
@@ -43,7 +44,7 @@ module _ {A : Type 0} (f : Field A) (l : Layout) where
 
   -- what the room for the share holds after the call
   unfoldable pub shareBuffer : ℕ → ℕ → List ℕ → List ℕ → List ℕ
-  shareBuffer host helper rack out = cond (eqb (shareRefusal l host helper (length rack) (length out)) 0) (shareOf 0 host rack) out
+  shareBuffer host helper rack out = cond (eqb (shareRefusal host helper rack (length out)) 0) (shareOf 0 host rack) out
 
   -- symbol p of tray x's part in its rack's share for the host rack h: the sum over the layers of group p of the tray's symbols, each times the m-th power
   -- of its place's factor; document 01's share has m = 0
@@ -56,4 +57,4 @@ module _ {A : Type 0} (f : Field A) (l : Layout) where
 
   -- what it holds after the call
   unfoldable pub addBuffer : ℕ → ℕ → List ℕ → List ℕ → List ℕ
-  addBuffer host x symbols held = cond (eqb (addRefusal l host x (length symbols) (length held)) 0) (fed 0 host x symbols held) held
+  addBuffer host x symbols held = cond (eqb (addRefusal host x symbols held) 0) (fed 0 host x symbols held) held

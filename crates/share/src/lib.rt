@@ -1,17 +1,21 @@
 // A helper's shares for a host rack. A share of weight m has L/s symbols, each the sum over the layers of a group of the helper's rack sums, in which the tray at
 // place g counts times the m-th power of its place's factor; document 01's share has m = 0, and e lost trays of one rack need those of m = 0 .. e - 1. Shares
 // are built up tray by tray, or worked out from a whole rack. Promises, for every layout, number of shares, racks, tray and buffers, the first ground of refusal
-// that applies, or the shares; a refused call changes no byte.
+// that applies, or the shares; a refused call changes no symbol.
 use layout::Layout;
 use layout::Rack;
 use layout::Tray;
 use layout::power::capped_power;
+use symbol::plain::ORDER;
 ghost use mathlib.Core.Path.{_≡_};
+ghost use mathlib.Core.Bool.{true, cond, _&&_};
 ghost use mathlib.Core.List.{List};
 ghost use Prim.Native.Nat.{ℕ, _<_};
+ghost use lib.Dec.{eqb};
 ghost use lib.ListN.{length, getD};
-ghost use Rattle.symbol.specs.Elem.{elem, gf256};
-ghost use Rattle.layout.specs.Layout.{groups, Admissible};
+ghost use Rattle.symbol.specs.Elem.{gf256};
+ghost use Rattle.layout.specs.Layout.{groups, Cabinet};
+ghost use Rattle.range.specs.Range.{symbolsFrom};
 ghost use Rattle.share.specs.Share.{shareRefusal, shareBuffer, addRefusal, addBuffer};
 ghost use Rattle.share.specs.Many.{sharesOf, manyRefusal, manyBuffer, addManyRefusal, addManyBuffer};
 ghost use Rattle.share.specs.Inner.{grounds, RunsOf, InRuns, DigitAdded, DigitsAdded, Summing, sumAt, Summed, Added, Weighing, Feeding, Gathering};
@@ -28,7 +32,7 @@ struct HostRuns {
 
 // The layers of s^h consecutive groups with the same digit are consecutive.
 fn runs_of(l: Layout, h: u32) -> HostRuns
-    requires { ⌜ Admissible l × (h < l .racks) ⌝ }
+    requires { ⌜ Cabinet l × (h < l .racks) ⌝ }
     ensures { λ r. ⌜ RunsOf l h (r .digits) (r .length) (r .count) ⌝ }
 {
     let b = l.racks;
@@ -45,7 +49,7 @@ fn runs_of(l: Layout, h: u32) -> HostRuns
 // Adds a tray's symbols with the digits 0 .. s - 1, run after run of the sums.
 fn add_runs(s: usize, run: usize, count: usize, symbols: &[u8], sums: &mut [u8])
     requires { ⌜ InRuns s run count 0 (now symbols) (now sums) ⌝ }
-    ensures { λ _. ⌜ DigitsAdded s run count s (now (symbols .entry)) (now (sums .entry)) (now (sums .exit)) ⌝ }
+    ensures { λ _. ⌜ DigitsAdded gf256 s run count s (now (symbols .entry)) (now (sums .entry)) (now (sums .exit)) ⌝ }
 {
     let mut q = 0usize;
     while q < count {
@@ -57,7 +61,7 @@ fn add_runs(s: usize, run: usize, count: usize, symbols: &[u8], sums: &mut [u8])
 // The same, with the numbers of digits that layouts have written out: for each the compiler makes a loop in which a run's digits are added at once.
 fn add_long(s: usize, run: usize, count: usize, symbols: &[u8], sums: &mut [u8])
     requires { ⌜ InRuns s run count 0 (now symbols) (now sums) ⌝ }
-    ensures { λ _. ⌜ DigitsAdded s run count s (now (symbols .entry)) (now (sums .entry)) (now (sums .exit)) ⌝ }
+    ensures { λ _. ⌜ DigitsAdded gf256 s run count s (now (symbols .entry)) (now (sums .entry)) (now (sums .exit)) ⌝ }
 {
     if s == 2 {
         add_runs(2, run, count, symbols, sums);
@@ -77,7 +81,7 @@ fn add_long(s: usize, run: usize, count: usize, symbols: &[u8], sums: &mut [u8])
 // Adds the symbols with digit a across the runs: what stands first in each of them, then what stands second, and so on.
 fn add_digit(s: usize, run: usize, count: usize, a: usize, symbols: &[u8], sums: &mut [u8])
     requires { ⌜ InRuns s run count a (now symbols) (now sums) ⌝ }
-    ensures { λ _. ⌜ DigitAdded s run count a (now (symbols .entry)) (now (sums .entry)) (now (sums .exit)) ⌝ }
+    ensures { λ _. ⌜ DigitAdded gf256 s run count a (now (symbols .entry)) (now (sums .entry)) (now (sums .exit)) ⌝ }
 {
     let mut i = 0usize;
     while i < run {
@@ -89,7 +93,7 @@ fn add_digit(s: usize, run: usize, count: usize, a: usize, symbols: &[u8], sums:
 // The digits 0 .. s - 1, across the runs.
 fn add_across(s: usize, run: usize, count: usize, symbols: &[u8], sums: &mut [u8])
     requires { ⌜ InRuns s run count 0 (now symbols) (now sums) ⌝ }
-    ensures { λ _. ⌜ DigitsAdded s run count s (now (symbols .entry)) (now (sums .entry)) (now (sums .exit)) ⌝ }
+    ensures { λ _. ⌜ DigitsAdded gf256 s run count s (now (symbols .entry)) (now (sums .entry)) (now (sums .exit)) ⌝ }
 {
     let mut a = 0usize;
     while a < s {
@@ -100,8 +104,8 @@ fn add_across(s: usize, run: usize, count: usize, symbols: &[u8], sums: &mut [u8
 
 // Adds the sums of a tray's symbols over the groups.
 fn add_sums(l: Layout, h: u32, r: HostRuns, symbols: &[u8], sums: &mut [u8])
-    requires { ⌜ Summing l h (now symbols) (now sums) × RunsOf l h (r .digits) (r .length) (r .count) ⌝ }
-    ensures { λ _. ⌜ Summed l h (now (symbols .entry)) (now (sums .entry)) (now (sums .exit)) ⌝ }
+    requires { ⌜ Summing (gf256 .order) l h (now symbols) (now sums) × RunsOf l h (r .digits) (r .length) (r .count) ⌝ }
+    ensures { λ _. ⌜ Summed gf256 l h (now (symbols .entry)) (now (sums .entry)) (now (sums .exit)) ⌝ }
 {
     let s = r.digits;
     let run = r.length;
@@ -116,23 +120,23 @@ fn add_sums(l: Layout, h: u32, r: HostRuns, symbols: &[u8], sums: &mut [u8])
 // Adds tray x's parts of the weights from 1 on, worked out from its sums; those of weight 0 are the sums themselves.
 fn add_weighted(l: Layout, count: u32, x: u32, sums: &[u8], shares: &mut [u8])
     requires { ⌜ Weighing l count (now sums) (now shares) ⌝ }
-    ensures { λ _. ⌜ ((h : ℕ) (symbols held : List ℕ) → ((p : ℕ) → p < groups l → elem (getD (now (sums .entry)) p 0) ≡ sumAt l h symbols p) → Added l h x symbols held (now (shares .entry)) 1 → Added l h x symbols held (now (shares .exit)) count) ⌝ }
+    ensures { λ _. ⌜ ((h : ℕ) (symbols held : List ℕ) → ((p : ℕ) → p < groups l → gf256 .coding .elem (getD (now (sums .entry)) p 0) ≡ sumAt gf256 l h symbols p) → Added gf256 l h x symbols held (now (shares .entry)) 1 → Added gf256 l h x symbols held (now (shares .exit)) count) ⌝ }
 {
     let u = l.size;
     let total = layout::group_count(l);
     let mut m = 1u32;
     while m < count {
-        let weight = codeword::place_power(l, x % u, m);
+        let weight = points::place_power(l, x % u, m);
         let to = codeword::cell(total, m, 0);
-        kernel::add_multiple(shares, to, total as usize, sums, 0, weight.0);
+        kernel::add_multiple(shares, to, total as usize, sums, 0, weight);
         m += 1;
     }
 }
 
 // The same from its symbols, with room for the sums.
 fn add_later(l: Layout, count: u32, h: u32, x: u32, r: HostRuns, symbols: &[u8], shares: &mut [u8])
-    requires { ⌜ Feeding l count h (now symbols) (now shares) × RunsOf l h (r .digits) (r .length) (r .count) ⌝ }
-    ensures { λ _. ⌜ ((held : List ℕ) → Added l h x (now (symbols .entry)) held (now (shares .entry)) 1 → Added l h x (now (symbols .entry)) held (now (shares .exit)) count) ⌝ }
+    requires { ⌜ Feeding (gf256 .order) l count h (now symbols) (now shares) × RunsOf l h (r .digits) (r .length) (r .count) ⌝ }
+    ensures { λ _. ⌜ ((held : List ℕ) → Added gf256 l h x (now (symbols .entry)) held (now (shares .entry)) 1 → Added gf256 l h x (now (symbols .entry)) held (now (shares .exit)) count) ⌝ }
 {
     let mut sums = [0u8; layout::LAYERS as usize];
     add_sums(l, h, r, symbols, &mut sums);
@@ -141,8 +145,8 @@ fn add_later(l: Layout, count: u32, h: u32, x: u32, r: HostRuns, symbols: &[u8],
 
 // The same where there are such weights. It is small, so that the compiler puts it into the loop over a rack's trays, and one share pays for no room.
 fn add_others(l: Layout, count: u32, h: u32, x: u32, r: HostRuns, symbols: &[u8], shares: &mut [u8])
-    requires { ⌜ Feeding l count h (now symbols) (now shares) × RunsOf l h (r .digits) (r .length) (r .count) ⌝ }
-    ensures { λ _. ⌜ ((held : List ℕ) → Added l h x (now (symbols .entry)) held (now (shares .entry)) 1 → Added l h x (now (symbols .entry)) held (now (shares .exit)) count) ⌝ }
+    requires { ⌜ Feeding (gf256 .order) l count h (now symbols) (now shares) × RunsOf l h (r .digits) (r .length) (r .count) ⌝ }
+    ensures { λ _. ⌜ ((held : List ℕ) → Added gf256 l h x (now (symbols .entry)) held (now (shares .entry)) 1 → Added gf256 l h x (now (symbols .entry)) held (now (shares .exit)) count) ⌝ }
 {
     if count < 2 {
         return;
@@ -150,7 +154,27 @@ fn add_others(l: Layout, count: u32, h: u32, x: u32, r: HostRuns, symbols: &[u8]
     add_later(l, count, h, x, r, symbols, shares);
 }
 
-// The first ground for refusing so many shares where so many trays of the helper's rack are lent, 0 for none.
+// Whether all numbers of two buffers are symbols.
+fn both_symbols(a: &[u8], b: &[u8]) -> bool
+    ensures { λ r. ⌜ r ≡ symbolsFrom gf256 (now (a .entry)) 0 (length (now (a .entry))) && symbolsFrom gf256 (now (b .entry)) 0 (length (now (b .entry))) ⌝ }
+{
+    if !range::are_symbols(a, 0, a.len()) {
+        return false;
+    }
+    range::are_symbols(b, 0, b.len())
+}
+
+// With no share asked for nothing is looked at.
+fn looked(count: u32, symbols: bool) -> bool
+    ensures { λ r. ⌜ r ≡ cond (eqb count 0) true symbols ⌝ }
+{
+    if count == 0 {
+        return true;
+    }
+    symbols
+}
+
+// The first ground for refusing so many shares where so many trays of the helper's rack are lent, 0 for none; `symbols` says whether what is lent are symbols.
 fn refusal(
     l: Layout,
     count: u32,
@@ -159,11 +183,12 @@ fn refusal(
     helper: u32,
     given: usize,
     room: usize,
+    symbols: bool,
 ) -> u8
-    ensures { λ r. ⌜ r ≡ grounds l count lent host helper given room ⌝ }
+    ensures { λ r. ⌜ r ≡ grounds (gf256 .order) l count lent host helper given room symbols ⌝ }
 {
     let b = l.racks;
-    if !layout::admitted(l) {
+    if !layout::admitted(ORDER as u32, l) {
         return 1;
     }
     if given != lent as usize * layout::layer_count(l) as usize {
@@ -178,6 +203,9 @@ fn refusal(
     if b <= helper {
         return 3;
     }
+    if !looked(count, symbols) {
+        return 3;
+    }
     if !layout::lost_count_fits(l, count as usize) {
         return 12;
     }
@@ -188,14 +216,15 @@ fn refusal(
 }
 
 // The first ground for refusing tray x, 0 for none.
-fn tray_refusal(l: Layout, count: u32, host: u32, x: u32, given: usize, room: usize) -> u8
-    ensures { λ r. ⌜ r ≡ addManyRefusal l count host x given room ⌝ }
+fn tray_refusal(l: Layout, count: u32, host: u32, x: u32, symbols: &[u8], shares: &[u8]) -> u8
+    ensures { λ r. ⌜ r ≡ addManyRefusal gf256 l count host x (now (symbols .entry)) (now (shares .entry)) ⌝ }
 {
     let u = l.size;
-    if !layout::admitted(l) {
+    if !layout::admitted(ORDER as u32, l) {
         return 1;
     }
-    refusal(l, count, 1, host, x / u, given, room)
+    let both = both_symbols(symbols, shares);
+    refusal(l, count, 1, host, x / u, symbols.len(), shares.len(), both)
 }
 
 // Adds this tray's parts to what so many shares, in order of m, hold, or refuses and writes nothing. Answers the ground, 0 for done. Whoever calls it clears
@@ -208,12 +237,12 @@ pub fn share_add_many(
     symbols: &[u8],
     shares: &mut [u8],
 ) -> u8
-    ensures answer { λ r. ⌜ r ≡ addManyRefusal l count (host .0) (tray .0) (length (now (symbols .entry))) (length (now (shares .entry))) ⌝ }
+    ensures answer { λ r. ⌜ r ≡ addManyRefusal gf256 l count (host .0) (tray .0) (now (symbols .entry)) (now (shares .entry)) ⌝ }
     ensures buffer { λ _. ⌜ now (shares .exit) ≡ addManyBuffer gf256 l count (host .0) (tray .0) (now (symbols .entry)) (now (shares .entry)) ⌝ }
 {
     let h = host.number();
     let x = tray.number();
-    let ground = tray_refusal(l, count, h, x, symbols.len(), shares.len());
+    let ground = tray_refusal(l, count, h, x, symbols, shares);
     if ground != 0 {
         return ground;
     }
@@ -228,7 +257,7 @@ pub fn share_add_many(
 
 // The same for document 01's share: one share, of weight 0.
 pub fn share_add(l: Layout, host: Rack, tray: Tray, symbols: &[u8], share: &mut [u8]) -> u8
-    ensures answer { λ r. ⌜ r ≡ addRefusal l (host .0) (tray .0) (length (now (symbols .entry))) (length (now (share .entry))) ⌝ }
+    ensures answer { λ r. ⌜ r ≡ addRefusal gf256 l (host .0) (tray .0) (now (symbols .entry)) (now (share .entry)) ⌝ }
     ensures buffer { λ _. ⌜ now (share .exit) ≡ addBuffer gf256 l (host .0) (tray .0) (now (symbols .entry)) (now (share .entry)) ⌝ }
 {
     share_add_many(l, 1, host, tray, symbols, share)
@@ -236,13 +265,13 @@ pub fn share_add(l: Layout, host: Rack, tray: Tray, symbols: &[u8], share: &mut 
 
 // Clears the shares and feeds the trays of the helper's rack, one after another.
 fn gather(l: Layout, count: u32, h: u32, helper: u32, rack: &[u8], out: &mut [u8])
-    requires { ⌜ Gathering l count h helper (now rack) (now out) ⌝ }
+    requires { ⌜ Gathering (gf256 .order) l count h helper (now rack) (now out) ⌝ }
     ensures { λ _. ⌜ now (out .exit) ≡ sharesOf gf256 l count h (now (rack .entry)) ⌝ }
 {
     let u = l.size;
     let total = layout::layer_count(l);
     let r = runs_of(l, h);
-    lists::clear(out);
+    kernel::fill(out, 0, out.len(), 0);
     let mut g = 0u32;
     while g < u {
         let from = codeword::cell(total, g, 0);
@@ -264,12 +293,13 @@ pub fn share_many(
     rack: &[u8],
     out: &mut [u8],
 ) -> u8
-    ensures answer { λ r. ⌜ r ≡ manyRefusal l count (host .0) (helper .0) (length (now (rack .entry))) (length (now (out .entry))) ⌝ }
+    ensures answer { λ r. ⌜ r ≡ manyRefusal gf256 l count (host .0) (helper .0) (now (rack .entry)) (length (now (out .entry))) ⌝ }
     ensures buffer { λ _. ⌜ now (out .exit) ≡ manyBuffer gf256 l count (host .0) (helper .0) (now (rack .entry)) (now (out .entry)) ⌝ }
 {
     let h = host.number();
     let i = helper.number();
-    let ground = refusal(l, count, l.size, h, i, rack.len(), out.len());
+    let symbols = range::are_symbols(rack, 0, rack.len());
+    let ground = refusal(l, count, l.size, h, i, rack.len(), out.len(), symbols);
     if ground != 0 {
         return ground;
     }
@@ -279,7 +309,7 @@ pub fn share_many(
 
 // The same for document 01's share: one share, of weight 0.
 pub fn share(l: Layout, host: Rack, helper: Rack, rack: &[u8], out: &mut [u8]) -> u8
-    ensures answer { λ r. ⌜ r ≡ shareRefusal l (host .0) (helper .0) (length (now (rack .entry))) (length (now (out .entry))) ⌝ }
+    ensures answer { λ r. ⌜ r ≡ shareRefusal gf256 l (host .0) (helper .0) (now (rack .entry)) (length (now (out .entry))) ⌝ }
     ensures buffer { λ _. ⌜ now (out .exit) ≡ shareBuffer gf256 l (host .0) (helper .0) (now (rack .entry)) (now (out .entry)) ⌝ }
 {
     share_many(l, 1, host, helper, rack, out)

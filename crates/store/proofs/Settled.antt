@@ -16,7 +16,7 @@ module _ {A : Type 0} (f : Field A) (l : Layout) (given : List ℕ) where
   old-bytes-unread c c′ d d′ n n′ p p′ e = (same, λ z. let w = p .done z in p′ .done (sym same ∙ z) .only d (w .codeword) (w .begins))
     where
       same : n ≡ n′
-      same = p .answer ∙ ap (storeRefusal l (length given)) e ∙ sym (p′ .answer)
+      same = p .answer ∙ ap (storeRefusal f l given) e ∙ sym (p′ .answer)
 
   -- the contract settles the answer and every byte
   pub answer-unique : (c d d′ : List ℕ) (n n′ : ℕ) → StoreAnswer f l given c d n → StoreAnswer f l given c d′ n′ → (n ≡ n′) × (d ≡ d′)

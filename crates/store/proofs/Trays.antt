@@ -3,17 +3,18 @@
 use mathlib.Core.Path.{_≡_, sym, _∙_, subst}
 use mathlib.Core.List.{List}
 use Prim.Native.Nat.{ℕ, _+_, _-_, _*_, _/_, _%_, _<_, _≤_}
-use native.Mathlib.Nat.{mod-lt, div-add-mod', div-lt-iff-lt-mul, le-of-eq, mul-le-mul-right}
+use native.Mathlib.Nat.{zero-add, mod-lt, div-add-mod', div-lt-iff-lt-mul, le-of-eq, mul-le-mul-right}
 use native.Mathlib.Decide.{decLt}
 use native.Mathlib.Omega.{arith}
 use lib.ListN.{length, take, replicate, getD, List·getD-eq-default}
 use lib.Seq.{length-take-le}
 use Rattle.lists.specs.Lists.{table}
-use Rattle.lists.proofs.Numbers.{cell-in}
+use Rattle.lists.proofs.Numbers.{cell-in, cell-read}
 use Rattle.lists.proofs.Tables.{table-length, table-at}
-use Rattle.algebra.specs.Coding.{InRange}
+use Rattle.algebra.specs.Coding.{Coding, InRange}
 use Rattle.algebra.specs.Shape.{Field}
-use Rattle.symbol.specs.Elem.{coding, gf256}
+use Rattle.algebra.specs.Plain.{Working}
+use Rattle.kernel.specs.Runs.{Run, copied}
 use Rattle.layout.specs.declared.Layout.{Layout}
 use Rattle.layout.specs.Layout.{trays, checks, layers, trayLimit, Admissible}
 use Rattle.layout.proofs.Facts.{dimension-in}
@@ -23,7 +24,7 @@ use Rattle.codeword.proofs.Buffers.{layers-pos}
 use Rattle.recover.specs.Recover.{Kept, Survivors, Restores}
 use Rattle.syndrome.specs.Syndrome.{Listed}
 use Rattle.restore.specs.Restored.{LayerFits, Erasing, RestoredTo}
-use Rattle.recover.proofs.Restored.{low-checks, restores, restores-exists}
+use Rattle.recover.proofs.Restored.{low-checks, restores, restores-exists, restored-range}
 use Rattle.store.specs.Store.{Begins, Stores}
 use Rattle.store.specs.Inner.{parityTrays, Writable}
 
@@ -94,7 +95,7 @@ module _ {A : Type 0} (f : Field A) (l : Layout) (ok : Usable f l) (few : l .dim
   -- there is exactly one codeword that begins with the data
   pub one-codeword : InRange (f .coding) given → (d : List ℕ) × Stores f l given d
   one-codeword range =
-      let d = restores-exists f l ok (parityTrays l) padded (parity-listed l few) long (record { at = within }) (fits padded) in
+      let d = restores-exists f l ok (parityTrays l) padded (parity-listed l few) long (λ x j hx hj kept. within _ (cell-read padded _ _ x j long hx hj)) (fits padded) in
       (d .0, begin padded long (record { at = λ i h. table-at number (trays l * layers l) i (omega (arith, given-long, mul-le-mul-right (layers l) few, h)) }) (d .0) (d .1))
     where
       -- the data, and zeros after it
@@ -117,13 +118,31 @@ module _ {A : Type 0} (f : Field A) (l : Layout) (ok : Usable f l) (few : l .dim
       within : (i : ℕ) → i < length padded → getD padded i 0 < f .coding .size
       within i h = subst (λ n. n < f .coding .size) (sym (table-at number (trays l * layers l) i (subst (λ n. i < n) long h))) (byte i (decLt i (length given)))
 
--- the same for the field of 256, and what the code leaves
-module _ (l : Layout) (a : Admissible l) (given : List ℕ) (given-long : length given ≡ l .dimension * layers l) where
-  pub store-exists : InRange coding given → (d : List ℕ) × Stores gf256 l given d
-  store-exists = one-codeword gf256 l (usable l a) (dimension-in l a) given given-long
+-- the copy begins with the data
+pub begins-of : (given was is : List ℕ) (n : ℕ) → n ≡ length given → Run (copied given 0) was is 0 n → Begins given is
+unfolding copied
+begins-of given was is n e r = record { at = λ i h. subst (λ k. getD is k 0 ≡ getD given k 0) (zero-add i) (r .done i (omega arith)) }
 
-  pub stores : (c d : List ℕ) → length c ≡ trays l * layers l → Begins given c → InRange coding c → InRange coding d → RestoredTo l (parityTrays l) c (layers l) d → Stores gf256 l given d
-  stores c d room front old new r =
-      begin gf256 l (usable l a) (dimension-in l a) given given-long c room front d
-      (restores gf256 l (usable l a) (parityTrays l) c (parity-listed l (dimension-in l a)) d room old (r .long) new (r .done)
-      (fits gf256 l (usable l a) (dimension-in l a) given given-long c))
+-- what the code leaves
+module _ {A : Type 0} {f : Field A} (W : Working f) (l : Layout) (a : Admissible (f .order) l) (given : List ℕ) (given-long : length given ≡ l .dimension * layers l) (range : InRange (f .coding) given) where
+  few : l .dimension ≤ trays l
+  few = dimension-in l (a .cabinet)
+
+  u : Usable f l
+  u = usable W l a
+
+  pub store-exists : (d : List ℕ) × Stores f l given d
+  store-exists = one-codeword f l u few given given-long range
+
+  module _ (c d : List ℕ) (room : length c ≡ trays l * layers l) (front : Begins given c) where
+    -- the data's trays are in range, whatever the others held
+    old : (x j : ℕ) → x < trays l → j < layers l → Kept (parityTrays l) x → getD c (x * layers l + j) 0 < f .coding .size
+    old x j hx hj kept =
+        let i : x * layers l + j < length given = subst (λ n. x * layers l + j < n) (sym given-long) (cell-in (l .dimension) (layers l) x j (kept-data l few x hx kept) hj) in
+        rw (front .at (x * layers l + j) i) (range .at (x * layers l + j) i)
+
+    pub stores : RestoredTo f l (parityTrays l) c (layers l) d → Stores f l given d
+    stores r =
+        begin f l u few given given-long c room front d
+        (restores f l u (parityTrays l) c (parity-listed l few) d room (r .long) (restored-range f l (parityTrays l) c d (layers-pos f l u) room r old) (λ x j hx hj. r .kept x j hj) (r .done)
+        (fits f l u few given given-long c))

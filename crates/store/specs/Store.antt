@@ -10,14 +10,16 @@ use Rattle.lists.specs.Lists.{unless}
 use Rattle.algebra.specs.Shape.{Field}
 use Rattle.layout.specs.declared.Layout.{Layout}
 use Rattle.layout.specs.Layout.{trays, layers, admissible}
+use Rattle.range.specs.Range.{symbolsFrom}
 use Rattle.codeword.specs.Codeword.{Codeword}
 
--- the refusal of storing, given the lengths of the data and of the buffer for the codeword; 0 for none
-unfoldable pub storeRefusal : Layout → ℕ → ℕ → ℕ
-storeRefusal l given room =
-    unless (admissible l) 1
-    (unless (eqb given (l .dimension * layers l) && eqb room (trays l * layers l)) 2
-    0)
+-- the refusal of storing, given the data and the length of the buffer for the codeword; 0 for none. Ground 3 is a number that stands for no symbol, which no byte is
+unfoldable pub storeRefusal : {A : Type 0} → Field A → Layout → List ℕ → ℕ → ℕ
+storeRefusal f l given room =
+    unless (admissible (f .order) l) 1
+    (unless (eqb (length given) (l .dimension * layers l) && eqb room (trays l * layers l)) 2
+    (unless (symbolsFrom f given 0 (length given)) 3
+    0))
 
 -- d begins with the data: its first k trays, tray after tray
 pub record Begins (given d : List ℕ) : Type 0 where
@@ -31,6 +33,6 @@ pub record Stores {A : Type 0} (f : Field A) (l : Layout) (given d : List ℕ) :
 
 -- the contract of storing: the buffer is c before and d after, and the number is what it answers
 pub record StoreAnswer {A : Type 0} (f : Field A) (l : Layout) (given c d : List ℕ) (number : ℕ) : Type 0 where
-  pub answer : number ≡ storeRefusal l (length given) (length c)
+  pub answer : number ≡ storeRefusal f l given (length c)
   pub unchanged : ¬ (number ≡ 0) → d ≡ c
   pub done : number ≡ 0 → Stores f l given d

@@ -1,6 +1,7 @@
 // Storing. Promises that the buffer becomes the only codeword whose first k trays are the data, whatever it held before; a layout or length that does not
 // fit is refused and no byte changes.
 use layout::Layout;
+use symbol::plain::ORDER;
 ghost use mathlib.Core.Path.{_≡_};
 ghost use Prim.Native.Nat.{_+_, _≤_};
 ghost use lib.ListN.{length};
@@ -8,40 +9,31 @@ ghost use Rattle.lists.specs.Lists.{table};
 ghost use Rattle.symbol.specs.Elem.{gf256};
 ghost use Rattle.layout.specs.Layout.{checks, layers, trayLimit};
 ghost use Rattle.restore.specs.Restored.{RestoredTo};
-ghost use Rattle.store.specs.Store.{storeRefusal, StoreAnswer, Begins};
+ghost use Rattle.store.specs.Store.{storeRefusal, StoreAnswer};
 ghost use Rattle.store.specs.Inner.{parityTrays, Writable};
 
 // The most trays of a cabinet, for the list of those that are worked out.
 const TRAYS: usize = layout::TRAYS as usize;
 
 // The first ground for refusing, 0 for none.
-fn refusal(l: Layout, given: usize, room: usize) -> u8
-    ensures { λ r. ⌜ r ≡ storeRefusal l given room ⌝ }
+fn refusal(l: Layout, given: &[u8], room: usize) -> u8
+    ensures { λ r. ⌜ r ≡ storeRefusal gf256 l (now (given .entry)) room ⌝ }
 {
     let k = l.dimension;
-    if !layout::admitted(l) {
+    if !layout::admitted(ORDER as u32, l) {
         return 1;
     }
     let total = layout::layer_count(l) as usize;
-    if given != k as usize * total {
+    if given.len() != k as usize * total {
         return 2;
     }
     if room != layout::tray_count(l) as usize * total {
         return 2;
     }
-    0
-}
-
-// Copies the data to the front.
-fn copy(given: &[u8], out: &mut [u8])
-    requires { ⌜ length (now given) ≤ length (now out) ⌝ }
-    ensures { λ _. ⌜ Begins (now (given .entry)) (now (out .exit)) ⌝ }
-{
-    let mut i = 0usize;
-    while i < given.len() {
-        out[i] = given[i];
-        i += 1;
+    if !range::are_symbols(given, 0, given.len()) {
+        return 3;
     }
+    0
 }
 
 // Lists the trays first, first + 1, and so on.
@@ -59,7 +51,7 @@ fn count_from(first: u32, list: &mut [u32])
 // Works out the trays after the data, with room for their list.
 fn parity_in(l: Layout, out: &mut [u8], list: &mut [u32])
     requires { ⌜ Writable l (now out) × (length (now list) ≡ checks l) ⌝ }
-    ensures { λ _. ⌜ RestoredTo l (parityTrays l) (now (out .entry)) (layers l) (now (out .exit)) ⌝ }
+    ensures { λ _. ⌜ RestoredTo gf256 l (parityTrays l) (now (out .entry)) (layers l) (now (out .exit)) ⌝ }
 {
     let first = l.dimension;
     count_from(first, list);
@@ -69,7 +61,7 @@ fn parity_in(l: Layout, out: &mut [u8], list: &mut [u32])
 // Works out the trays after the data.
 fn parity(l: Layout, out: &mut [u8])
     requires { ⌜ Writable l (now out) ⌝ }
-    ensures { λ _. ⌜ RestoredTo l (parityTrays l) (now (out .entry)) (layers l) (now (out .exit)) ⌝ }
+    ensures { λ _. ⌜ RestoredTo gf256 l (parityTrays l) (now (out .entry)) (layers l) (now (out .exit)) ⌝ }
 {
     let r = layout::check_count(l) as usize;
     let mut list = [0u32; TRAYS];
@@ -80,11 +72,11 @@ fn parity(l: Layout, out: &mut [u8])
 pub fn store(l: Layout, given: &[u8], out: &mut [u8]) -> u8
     ensures { λ r. ⌜ StoreAnswer gf256 l (now (given .entry)) (now (out .entry)) (now (out .exit)) r ⌝ }
 {
-    let ground = refusal(l, given.len(), out.len());
+    let ground = refusal(l, given, out.len());
     if ground != 0 {
         return ground;
     }
-    copy(given, out);
+    kernel::copy(out, 0, given.len(), given, 0);
     parity(l, out);
     0
 }

@@ -3,3 +3,4 @@ pub mod Sides
 pub mod Points
 pub mod Formula
 pub mod Rows
+pub mod Reciprocal

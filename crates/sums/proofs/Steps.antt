@@ -23,16 +23,18 @@ use Rattle.algebra.proofs.Pow.{pow-add as power-add, pow-mul}
 use Rattle.algebra.proofs.Skip.{skip-below, unskip-low, unskip-high}
 use Rattle.algebra.proofs.Free.{free-below, unskip-below}
 use Rattle.algebra.proofs.Layers.{power-pos}
-use Rattle.symbol.specs.Arithmetic.{zpow}
-use Rattle.symbol.specs.Elem.{Elem, elem, ops, z, gf256}
-use Rattle.symbol.proofs.Elem.{laws, elem-zpow}
+use Rattle.algebra.specs.Coding.{Coding}
+use Rattle.algebra.specs.Shape.{Field, FieldLaws}
+use Rattle.algebra.specs.Plain.{rootPower, Working}
+use Rattle.algebra.proofs.Plain.{elem-rootPower}
 use Rattle.layout.specs.declared.Layout.{Layout}
-use Rattle.layout.specs.Layout.{trays, digits, groups, parityRacks, trayLimit, Admissible}
+use Rattle.layout.specs.Layout.{trays, digits, groups, parityRacks, trayLimit, Cabinet}
 use Rattle.layout.proofs.Facts.{bounds}
 use Rattle.layout.proofs.Numbers.{total, digits-small}
 use Rattle.codeword.specs.Codeword.{shapeOf, pointAt}
-use Rattle.syndrome.specs.Syndrome.{Block, DigitPowers}
-use Rattle.syndrome.proofs.Digits.{digit-low}
+use Rattle.blocks.specs.Blocks.{Block}
+use Rattle.blocks.proofs.Digits.{digit-low}
+use Rattle.syndrome.specs.Syndrome.{DigitPowers}
 use Rattle.sums.specs.Inner.{RackPowers}
 
 -- the unknowns' places, one helper after another
@@ -48,14 +50,14 @@ pub free-high : (h : ℕ → ℕ) (d i x : ℕ) → x ≡ free h d i → x < suc
 free-high h d i x e = rw e (free-below h (suc i) d i (omega arith))
 
 -- s is at most R
-pub digits-under : (l : Layout) → Admissible l → digits l ≤ parityRacks l
+pub digits-under : (l : Layout) → Cabinet l → digits l ≤ parityRacks l
 digits-under l a = omega (arith, total l a, a .helpers-high)
 
 -- R and the host's sums of every weight are few
-pub unknowns-high : (l : Layout) → Admissible l → parityRacks l ≤ trayLimit
+pub unknowns-high : (l : Layout) → Cabinet l → parityRacks l ≤ trayLimit
 unknowns-high l a = let b = bounds l a in omega (arith, b .racks-high)
 
-pub sums-high : (l : Layout) → Admissible l → (e : ℕ) → e + l .dimension % l .size ≤ l .size → e * digits l ≤ trayLimit
+pub sums-high : (l : Layout) → Cabinet l → (e : ℕ) → e + l .dimension % l .size ≤ l .size → e * digits l ≤ trayLimit
 sums-high l a e few =
     let h : e ≤ l .size = omega arith in
     omega (arith, mul-le-mul h (bounds l a .digits-high), mul-comm (l .size) (l .racks), a .trays-high)
@@ -103,15 +105,9 @@ module _ (s h p : ℕ) (pos : 0 < s) where
 pub digit-in : (h i n at : ℕ) → at ≡ unskip h i → h < n → i < n → ¬ (i ≡ h) → at < n
 digit-in h i n at e a b c = let q = unskip-below h i (n - 1) (omega arith) (omega arith) c in omega arith
 
-module _ (l : Layout) (a : Admissible l) where
+module _ (l : Layout) (a : Cabinet l) where
   pub tray-in : (i : ℕ) → i < l .racks → i * l .size < trays l
   tray-in i h = omega (arith, cell-in (l .racks) (l .size) i 0 h (bounds l a .size-low))
-
-  -- the point at place 0 of rack i in layer j
-  pub rack-point : (i j : ℕ) → pointAt gf256 l j (i * l .size) ≡ point (shapeOf gf256 l) i (digit (digits l) j i) 0
-  unfolding pointAt layerPoint trayPoint
-  rack-point i j =
-      ap₂ (λ r g. point (shapeOf gf256 l) r (digit (digits l) j r) g) (mul-div-cancel i (bounds l a .size-low)) (mul-mod-left i (l .size))
 
   pub other-in : (h x s i : ℕ) → s ≡ digits l → s ≤ x → x < digits l + (l .racks - 1) → i ≡ skip h (x - s) → i < l .racks
   other-in h x s i es k m ei = omega (arith, ei, a .racks-low, skip-below h (x - s) (l .racks - 1) (omega arith))
@@ -123,39 +119,50 @@ exponents a d q t =
     let f : a + d + 0 * q ≡ a + d = omega arith in
     ap (λ y. t * d + y * t) e ∙ (let c = mul-comm t d in let s = add-mul a d t in let r : t * d + a * t ≡ (a + d) * t = omega arith in r) ∙ ap (λ y. y * t) (sym f)
 
--- a point of a rack, and its points in a block, as they are worked out
-pub digit-power : (l : Layout) (i a t s r : ℕ) → s ≡ digits l → r ≡ zpow ((i * s + a) * t) → elem r ≡ pow ops (point (shapeOf gf256 l) i a 0) t
-unfolding point
-digit-power l i a t s r es er =
-    ap elem er ∙ elem-zpow ((i * s + a) * t) ∙ ap (λ n. pow ops z ((i * n + a) * t)) es ∙ ap (λ n. pow ops z (n * t)) (plain (i * digits l + a) (255 / l .size))
-    ∙ pow-mul ops laws z (i * digits l + a + 0 * (255 / l .size)) t
-  where
-    plain : (n q : ℕ) → n ≡ n + 0 * q
-    plain n q = let z = zero-mul q in omega arith
+module _ {A : Type 0} {f : Field A} (W : Working f) where
+  open Field f using (ops, root, order)
+  open Coding (f .coding) using (elem)
+  open FieldLaws (W .field) using (laws)
 
-pub powers-of : (l : Layout) (h w first i t at start zt : ℕ) (row : List ℕ) → Block l w first → ¬ (i ≡ h) → elem start ≡ pow ops (point (shapeOf gf256 l) i 0 0) t → zt ≡ zpow t →
-    at ≡ unskip h i → DigitPowers l w first at start zt row → RackPowers l h w first i t row
-unfolding point
-powers-of l h w first i t at start zt row b other e0 ez ea d = record { at = go }
-  where
-    go : (j : ℕ) → j < w → elem (getD row j 0) ≡ pow ops (pointAt gf256 l (layerOf (digits l) h (first + j) 0) (i * l .size)) t
-    go j k =
-        d .at j k
-        ∙ ap₂ (λ y x. ops .mul (pow ops y (digit (digits l) (first + j) at)) x) (ap elem ez ∙ elem-zpow t) (e0 ∙ sym (pow-mul ops laws z (i * digits l + 0 + 0 * (255 / l .size)) t))
-        ∙ ap (λ n. ops .mul (pow ops (pow ops z t) n) (pow ops z ((i * digits l + 0 + 0 * (255 / l .size)) * t)))
-        (ap (digit (digits l) (first + j)) ea ∙ sym (group-digit-is (digits l) h (first + j) (bounds l (b .adm) .digits-low) i other))
-        ∙ together (digit (digits l) (layerOf (digits l) h (first + j) 0) i)
-        ∙ ap (λ y. pow ops y t) (sym (rack-point l (b .adm) i (layerOf (digits l) h (first + j) 0)))
-      where
-        together : (n : ℕ) →
-            ops .mul (pow ops (pow ops z t) n) (pow ops z ((i * digits l + 0 + 0 * (255 / l .size)) * t)) ≡ pow ops (pow ops z (i * digits l + n + 0 * (255 / l .size))) t
-        together n =
-            ap (λ y. ops .mul y (pow ops z ((i * digits l + 0 + 0 * (255 / l .size)) * t))) (sym (pow-mul ops laws z t n))
-            ∙ sym (power-add ops laws z (t * n) ((i * digits l + 0 + 0 * (255 / l .size)) * t))
-            ∙ ap (pow ops z) (exponents (i * digits l) n (255 / l .size) t)
-            ∙ pow-mul ops laws z (i * digits l + n + 0 * (255 / l .size)) t
+  -- the point at place 0 of rack i in layer j
+  pub rack-point : (l : Layout) → Cabinet l → (i j : ℕ) → pointAt f l j (i * l .size) ≡ point (shapeOf f l) i (digit (digits l) j i) 0
+  unfolding pointAt layerPoint trayPoint
+  rack-point l a i j =
+      ap₂ (λ r g. point (shapeOf f l) r (digit (digits l) j r) g) (mul-div-cancel i (bounds l a .size-low)) (mul-mod-left i (l .size))
 
-pub block-layout : (l : Layout) (w first : ℕ) → Block l w first → Admissible l
+  -- a point of a rack, and its points in a block, as they are worked out
+  pub digit-power : (l : Layout) (i a t s r : ℕ) → s ≡ digits l → r ≡ rootPower f ((i * s + a) * t) → elem r ≡ pow ops (point (shapeOf f l) i a 0) t
+  unfolding point
+  digit-power l i a t s r es er =
+      ap elem er ∙ elem-rootPower W ((i * s + a) * t) ∙ ap (λ n. pow ops root ((i * n + a) * t)) es ∙ ap (λ n. pow ops root (n * t)) (plain (i * digits l + a) (order / l .size))
+      ∙ pow-mul ops laws root (i * digits l + a + 0 * (order / l .size)) t
+    where
+      plain : (n q : ℕ) → n ≡ n + 0 * q
+      plain n q = let u = zero-mul q in omega arith
+
+  pub powers-of : (l : Layout) (h w first i t at start zt : ℕ) (row : List ℕ) → Block l w first → ¬ (i ≡ h) → elem start ≡ pow ops (point (shapeOf f l) i 0 0) t → zt ≡ rootPower f t →
+      at ≡ unskip h i → DigitPowers f l w first at start zt row → RackPowers f l h w first i t row
+  unfolding point
+  powers-of l h w first i t at start zt row b other e0 ez ea d = record { at = go }
+    where
+      go : (j : ℕ) → j < w → elem (getD row j 0) ≡ pow ops (pointAt f l (layerOf (digits l) h (first + j) 0) (i * l .size)) t
+      go j k =
+          d .at j k
+          ∙ ap₂ (λ y x. ops .mul (pow ops y (digit (digits l) (first + j) at)) x) (ap elem ez ∙ elem-rootPower W t) (e0 ∙ sym (pow-mul ops laws root (i * digits l + 0 + 0 * (order / l .size)) t))
+          ∙ ap (λ n. ops .mul (pow ops (pow ops root t) n) (pow ops root ((i * digits l + 0 + 0 * (order / l .size)) * t)))
+          (ap (digit (digits l) (first + j)) ea ∙ sym (group-digit-is (digits l) h (first + j) (bounds l (b .adm) .digits-low) i other))
+          ∙ together (digit (digits l) (layerOf (digits l) h (first + j) 0) i)
+          ∙ ap (λ y. pow ops y t) (sym (rack-point l (b .adm) i (layerOf (digits l) h (first + j) 0)))
+        where
+          together : (n : ℕ) →
+              ops .mul (pow ops (pow ops root t) n) (pow ops root ((i * digits l + 0 + 0 * (order / l .size)) * t)) ≡ pow ops (pow ops root (i * digits l + n + 0 * (order / l .size))) t
+          together n =
+              ap (λ y. ops .mul y (pow ops root ((i * digits l + 0 + 0 * (order / l .size)) * t))) (sym (pow-mul ops laws root t n))
+              ∙ sym (power-add ops laws root (t * n) ((i * digits l + 0 + 0 * (order / l .size)) * t))
+              ∙ ap (pow ops root) (exponents (i * digits l) n (order / l .size) t)
+              ∙ pow-mul ops laws root (i * digits l + n + 0 * (order / l .size)) t
+
+pub block-layout : (l : Layout) (w first : ℕ) → Block l w first → Cabinet l
 block-layout l w first b = b .adm
 
 pub digits-some : (l : Layout) (w first : ℕ) → Block l w first → 0 < digits l
@@ -172,7 +179,7 @@ place-fits s h i r a b c e = record { fits = omega (arith, digit-small) }
         go (no k) = let q = digit-above-host h i c (omega arith) in omega arith
 
 -- the exponents are small
-module _ (l : Layout) (adm : Admissible l) (i a s : ℕ) (inside : i < l .racks) (digit-in : a < digits l) (es : s ≡ digits l) where
+module _ (l : Layout) (adm : Cabinet l) (i a s : ℕ) (inside : i < l .racks) (digit-in : a < digits l) (es : s ≡ digits l) where
   bound : i * s < 241
   bound = let d = digits-small l adm in let r = bounds l adm .racks-high in mul-below 60 4 (omega arith) (omega arith) tt
 
@@ -192,11 +199,11 @@ module _ (l : Layout) (adm : Admissible l) (i a s : ℕ) (inside : i < l .racks)
   power-wide t h = record { fits = omega (arith, power-high t h) }
 
 -- where the k-th helper's share of weight m stands
-module _ (l : Layout) (a : Admissible l) (e m k : ℕ) (few : e + l .dimension % l .size ≤ l .size) (weight : m < e) (helper : k < l .helpers) where
+module _ (l : Layout) (a : Cabinet l) (e m k : ℕ) (few : e + l .dimension % l .size ≤ l .size) (weight : m < e) (helper : k < l .helpers) where
   pub row-in : k * e + m < trayLimit
   row-in = omega (arith, cell-in (l .helpers) e k m helper weight, mul-le-mul (helpers-under l a) (size-over e few), a .trays-high)
     where
-      helpers-under : (l : Layout) → Admissible l → l .helpers ≤ l .racks
+      helpers-under : (l : Layout) → Cabinet l → l .helpers ≤ l .racks
       helpers-under l a = omega (arith, a .helpers-high)
 
       size-over : (e : ℕ) → e + l .dimension % l .size ≤ l .size → e ≤ l .size

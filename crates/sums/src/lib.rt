@@ -2,7 +2,10 @@
 // for the s host rack sums and the group sums of the racks that are neither host nor helper; crate columns solves the systems of all groups of the block at
 // a time. Promises these sums, weight after weight.
 use layout::Layout;
-use symbol::Symbol;
+use symbol::plain::ORDER;
+use symbol::plain::difference;
+use symbol::plain::power;
+use symbol::plain::root_power;
 ghost use mathlib.Core.Path.{_≡_};
 ghost use Prim.Native.Nat.{_+_, _-_, _*_, _<_, _≤_};
 ghost use lib.ListN.{length};
@@ -10,17 +13,17 @@ ghost use Rattle.algebra.specs.Sum.{pow};
 ghost use Rattle.algebra.specs.Points.{point};
 ghost use Rattle.algebra.specs.Group.{skip, unskip, free};
 ghost use Rattle.algebra.specs.Repair.{helperPlace};
-ghost use Rattle.symbol.specs.Elem.{elem, ops, gf256};
+ghost use Rattle.symbol.specs.Elem.{gf256};
 ghost use Rattle.kernel.specs.Runs.{Inverses};
-ghost use Rattle.layout.specs.Layout.{digits, parityRacks, trayLimit, Admissible};
+ghost use Rattle.layout.specs.Layout.{digits, parityRacks, trayLimit, Cabinet};
 ghost use Rattle.codeword.specs.Codeword.{shapeOf};
-ghost use Rattle.syndrome.specs.Syndrome.{Block};
+ghost use Rattle.blocks.specs.Blocks.{Block};
 ghost use Rattle.sums.specs.Inner.{helperAt, Choosing, Chosen, Groups, RackPowers, Sharing, ShareTerms, ShareAdded, SidesTo, Pointed, PointRow, PointsTo, Cycle};
 ghost use Rattle.sums.specs.Inner.{Workspace, FoundSums, RowTimes, Weighing, Weighed, Summing, SumsTo};
 
 // R, the number of unknowns of a group.
 pub fn unknown_count(l: Layout) -> u32
-    requires { ⌜ Admissible l ⌝ }
+    requires { ⌜ Cabinet l ⌝ }
     ensures { λ r. ⌜ r ≡ parityRacks l ⌝ }
 {
     l.racks - l.dimension / l.size
@@ -72,23 +75,23 @@ fn free_place(s: u32, h: u32, helpers: &[u32], i: u32) -> u32
 }
 
 // The point at place 0 of rack i for its digit a, to the power t.
-fn digit_point(l: Layout, i: u32, a: u32, t: u32) -> Symbol
-    requires { ⌜ Admissible l × (i < l .racks) × (a < digits l) × (t ≤ trayLimit) ⌝ }
-    ensures { λ r. ⌜ elem (r .0) ≡ pow ops (point (shapeOf gf256 l) i a 0) t ⌝ }
+fn digit_point(l: Layout, i: u32, a: u32, t: u32) -> u8
+    requires { ⌜ Cabinet l × (i < l .racks) × (a < digits l) × (t ≤ trayLimit) ⌝ }
+    ensures { λ r. ⌜ gf256 .coding .elem r ≡ pow (gf256 .ops) (point (shapeOf gf256 l) i a 0) t ⌝ }
 {
     let s = layout::digit_count(l);
-    Symbol::root_power(((i * s + a) * t) as usize)
+    root_power(((i * s + a) * t) as usize)
 }
 
 // The points at place 0 of rack i to the power t, one for each group of a block.
 fn rack_powers(row: &mut [u8], l: Layout, h: u32, w: usize, first: usize, i: u32, t: u32)
     requires { ⌜ Block l w first × (h < l .racks) × (i < l .racks) × ¬ (i ≡ h) × (t ≤ trayLimit) × (w ≤ length (now row)) ⌝ }
-    ensures { λ _. ⌜ RackPowers l h w first i t (now (row .exit)) ⌝ }
+    ensures { λ _. ⌜ RackPowers gf256 l h w first i t (now (row .exit)) ⌝ }
 {
     let start = digit_point(l, i, 0, t);
-    let z = Symbol::root_power(t as usize);
+    let z = root_power(t as usize);
     let at = group_digit(h, i);
-    syndrome::digit_powers(row, l, w, first, at, start.0, z.0);
+    syndrome::digit_powers(row, l, w, first, at, start, z);
 }
 
 // Helper k's share of weight m in a block, each symbol times the m-th power of the helper's point, which is 1 where m is 0.
@@ -106,7 +109,7 @@ fn share_terms(
     row: &mut [u8],
 )
     requires { ⌜ Sharing l h w first (now helpers) (now shares) e m (now cur) (now row) × (k < l .helpers) ⌝ }
-    ensures { λ _. ⌜ ShareTerms l h w first (now (helpers .entry)) (now (shares .entry)) e m k (now (cur .exit)) ⌝ }
+    ensures { λ _. ⌜ ShareTerms gf256 l h w first (now (helpers .entry)) (now (shares .entry)) e m k (now (cur .exit)) ⌝ }
 {
     let at = codeword::cell(layout::group_count(l), k as u32 * e + m, first as u32);
     if m == 0 {
@@ -134,7 +137,7 @@ fn add_share(
     row: &mut [u8],
 )
     requires { ⌜ Sharing l h w first (now helpers) (now shares) e m (now cur) (now row) × (k < l .helpers) × (parityRacks l * w ≤ length (now sides)) ⌝ }
-    ensures { λ _. ⌜ ShareAdded l h w first (now (helpers .entry)) (now (shares .entry)) e m k (now (sides .entry)) (now (sides .exit)) ⌝ }
+    ensures { λ _. ⌜ ShareAdded gf256 l h w first (now (helpers .entry)) (now (shares .entry)) e m k (now (sides .entry)) (now (sides .exit)) ⌝ }
 {
     let u = l.size;
     let r = unknown_count(l) as usize;
@@ -158,7 +161,7 @@ fn block_sides(
     row: &mut [u8],
 )
     requires { ⌜ Sharing l h w first (now helpers) (now shares) e m (now cur) (now row) × (parityRacks l * w ≤ length (now sides)) ⌝ }
-    ensures { λ _. ⌜ SidesTo l h w first (now (helpers .entry)) (now (shares .entry)) e m (l .helpers) (now (sides .exit)) ⌝ }
+    ensures { λ _. ⌜ SidesTo gf256 l h w first (now (helpers .entry)) (now (shares .entry)) e m (l .helpers) (now (sides .exit)) ⌝ }
 {
     kernel::fill(sides, 0, unknown_count(l) as usize * w, 0);
     let mut k = 0usize;
@@ -182,14 +185,14 @@ fn unknown_row(
     row: &mut [u8],
 )
     requires { ⌜ Pointed l h w first (now helpers) v run (now points) (now row) × (i < parityRacks l) ⌝ }
-    ensures { λ _. ⌜ PointRow l h first (now (helpers .entry)) v run i (now (points .entry)) (now (points .exit)) ⌝ }
+    ensures { λ _. ⌜ PointRow gf256 l h first (now (helpers .entry)) v run i (now (points .entry)) (now (points .exit)) ⌝ }
 {
     let u = l.size;
     let s = layout::digit_count(l);
     let x = free_place(s, h, helpers, i as u32);
     if x < s {
         let p = digit_point(l, h, x, u);
-        kernel::fill(points, i * v, v, p.0);
+        kernel::fill(points, i * v, v, p);
         return;
     }
     rack_powers(row, l, h, w, first, skipped(h, x - s), u);
@@ -209,7 +212,7 @@ fn unknown_points(
     row: &mut [u8],
 )
     requires { ⌜ Pointed l h w first (now helpers) v run (now points) (now row) ⌝ }
-    ensures { λ _. ⌜ PointsTo l h first (now (helpers .entry)) v run (parityRacks l) (now (points .exit)) ⌝ }
+    ensures { λ _. ⌜ PointsTo gf256 l h first (now (helpers .entry)) v run (parityRacks l) (now (points .exit)) ⌝ }
 {
     let n = unknown_count(l) as usize;
     let mut i = 0usize;
@@ -235,8 +238,8 @@ fn solve_columns(
     row: &mut [u8],
     table: &[u8],
 )
-    requires { ⌜ Chosen l h (now helpers) × Groups l w first × Cycle l h w first (now helpers) v run × Workspace l w (now sides) (now found) (now points) (now coefs) (now row) × Inverses (now table) ⌝ }
-    ensures { λ _. ⌜ FoundSums l h w first (now (helpers .entry)) (now (sides .entry)) (now (found .exit)) ⌝ }
+    requires { ⌜ Chosen l h (now helpers) × Groups l w first × Cycle gf256 l h w first (now helpers) v run × Workspace l w (now sides) (now found) (now points) (now coefs) (now row) × Inverses gf256 (now table) ⌝ }
+    ensures { λ _. ⌜ FoundSums gf256 l h w first (now (helpers .entry)) (now (sides .entry)) (now (found .exit)) ⌝ }
 {
     let n = unknown_count(l) as usize;
     let s = layout::digit_count(l) as usize;
@@ -258,8 +261,8 @@ fn solve_sides(
     row: &mut [u8],
     table: &[u8],
 )
-    requires { ⌜ Chosen l h (now helpers) × Groups l w first × Workspace l w (now sides) (now found) (now points) (now coefs) (now row) × Inverses (now table) ⌝ }
-    ensures { λ _. ⌜ FoundSums l h w first (now (helpers .entry)) (now (sides .entry)) (now (found .exit)) ⌝ }
+    requires { ⌜ Chosen l h (now helpers) × Groups l w first × Workspace l w (now sides) (now found) (now points) (now coefs) (now row) × Inverses gf256 (now table) ⌝ }
+    ensures { λ _. ⌜ FoundSums gf256 l h w first (now (helpers .entry)) (now (sides .entry)) (now (found .exit)) ⌝ }
 {
     let b = l.racks;
     let d = l.helpers;
@@ -298,25 +301,32 @@ fn solve_sides(
     );
 }
 
-// Row q of the sums: row a of what was found, times f.
-fn times_row(sums: &mut [u8], w: usize, q: usize, found: &[u8], a: usize, f: u8)
-    requires { ⌜ (q * w + w ≤ length (now sums)) × (a * w + w ≤ length (now found)) ⌝ }
-    ensures { λ _. ⌜ RowTimes w q a f (now (found .entry)) (now (sums .entry)) (now (sums .exit)) ⌝ }
+// The inverse of a symbol; of zero, zero.
+fn inverse(x: u8) -> u8
+    ensures { λ r. ⌜ gf256 .coding .elem r ≡ gf256 .ops .inv (gf256 .coding .elem x) ⌝ }
 {
-    kernel::fill(sums, q * w, w, 0);
-    kernel::add_multiple(sums, q * w, w, found, a * w, f);
+    power(x, ORDER as u32 - 1)
 }
 
-// The host's sums of weight m: what was found, divided by the m-th powers of the host's points.
+// Row q of the sums: row a of what was found, times v.
+fn times_row(sums: &mut [u8], w: usize, q: usize, found: &[u8], a: usize, v: u8)
+    requires { ⌜ (q * w + w ≤ length (now sums)) × (a * w + w ≤ length (now found)) ⌝ }
+    ensures { λ _. ⌜ RowTimes gf256 w q a v (now (found .entry)) (now (sums .entry)) (now (sums .exit)) ⌝ }
+{
+    kernel::fill(sums, q * w, w, 0);
+    kernel::add_multiple(sums, q * w, w, found, a * w, v);
+}
+
+// Less the host's sums of weight m: what was found, divided by the m-th powers of the host's points.
 fn weigh_sums(sums: &mut [u8], l: Layout, h: u32, w: usize, e: u32, m: u32, found: &[u8])
     requires { ⌜ Weighing l h w e m (now found) (now sums) ⌝ }
-    ensures { λ _. ⌜ Weighed l h w m (digits l) (now (found .entry)) (now (sums .entry)) (now (sums .exit)) ⌝ }
+    ensures { λ _. ⌜ Weighed gf256 l h w m (digits l) (now (found .entry)) (now (sums .entry)) (now (sums .exit)) ⌝ }
 {
     let s = layout::digit_count(l);
     let mut a = 0u32;
     while a < s {
-        let f = digit_point(l, h, a, m).inverse();
-        times_row(sums, w, (m * s + a) as usize, found, a as usize, f.0);
+        let v = difference(0, inverse(digit_point(l, h, a, m)));
+        times_row(sums, w, (m * s + a) as usize, found, a as usize, v);
         a += 1;
     }
 }
@@ -340,8 +350,8 @@ fn weight_sums(
     cur: &mut [u8],
     table: &[u8],
 )
-    requires { ⌜ Summing l h w first (now helpers) (now shares) e (now sums) (now sides) (now found) (now points) (now coefs) (now row) (now cur) × (m < e) × SumsTo l h w first (now helpers) (now shares) e m (now sums) × Inverses (now table) ⌝ }
-    ensures { λ _. ⌜ SumsTo l h w first (now (helpers .entry)) (now (shares .entry)) e (m + 1) (now (sums .exit)) ⌝ }
+    requires { ⌜ Summing l h w first (now helpers) (now shares) e (now sums) (now sides) (now found) (now points) (now coefs) (now row) (now cur) × (m < e) × SumsTo gf256 l h w first (now helpers) (now shares) e m (now sums) × Inverses gf256 (now table) ⌝ }
+    ensures { λ _. ⌜ SumsTo gf256 l h w first (now (helpers .entry)) (now (shares .entry)) e (m + 1) (now (sums .exit)) ⌝ }
 {
     block_sides(sides, l, h, w, first, helpers, shares, e, m, cur, row);
     solve_sides(
@@ -378,8 +388,8 @@ pub fn block_sums(
     cur: &mut [u8],
     table: &[u8],
 )
-    requires { ⌜ Summing l h w first (now helpers) (now shares) e (now sums) (now sides) (now found) (now points) (now coefs) (now row) (now cur) × Inverses (now table) ⌝ }
-    ensures { λ _. ⌜ SumsTo l h w first (now (helpers .entry)) (now (shares .entry)) e e (now (sums .exit)) ⌝ }
+    requires { ⌜ Summing l h w first (now helpers) (now shares) e (now sums) (now sides) (now found) (now points) (now coefs) (now row) (now cur) × Inverses gf256 (now table) ⌝ }
+    ensures { λ _. ⌜ SumsTo gf256 l h w first (now (helpers .entry)) (now (shares .entry)) e e (now (sums .exit)) ⌝ }
 {
     let mut m = 0u32;
     while m < e {

@@ -5,3 +5,4 @@ pub mod Ring
 pub mod Power
 pub mod Tables
 pub mod Elem
+pub mod Working

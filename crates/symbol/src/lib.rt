@@ -3,6 +3,7 @@
 // (proofs/Elem.antt).
 pub mod ladder;
 mod logs;
+pub mod plain;
 pub mod powers;
 
 use ladder::product;

@@ -1,8 +1,8 @@
 -- The points of a tray in the layers of a block: stairs, repeated, or one point.
 -- Assumes nothing.
-use mathlib.Core.Path.{_≡_, sym, ap, ap₂, _∙_, subst}
+use mathlib.Core.Path.{_≡_, refl, sym, ap, ap₂, _∙_, subst}
 use mathlib.Core.List.{List}
-use Prim.Native.Nat.{ℕ, _+_, _-_, _*_, _/_, _%_, _^_, _<_, _≤_}
+use Prim.Native.Nat.{ℕ, zero, suc, _+_, _*_, _/_, _%_, _^_, _<_, _≤_}
 use native.Mathlib.Nat.{zero-add, zero-mul, mod-lt, mul-pos}
 use native.Mathlib.Numerals.{add-one}
 use native.Mathlib.Omega.{arith}
@@ -10,15 +10,15 @@ use mir.Val.{Fits}
 use mir.Syntax.{w32, w64}
 use lib.Arith.{mod-mul, digits-div}
 use lib.ListN.{length, getD}
-use Rattle.algebra.specs.Field.{Ops}
+use Rattle.algebra.specs.Field.{Ops, Laws}
 use Rattle.algebra.specs.Sum.{pow}
 use Rattle.algebra.specs.Layers.{digit}
-use Rattle.algebra.proofs.Pow.{pow-one}
-use Rattle.symbol.specs.Arithmetic.{_⊗_, power}
-use Rattle.symbol.specs.Elem.{Elem, elem, ops, z, gf256}
-use Rattle.symbol.proofs.Laws.{⊗-comm, ⊗-assoc, one-⊗}
-use Rattle.symbol.proofs.Power.{power-zero, power-suc}
-use Rattle.symbol.proofs.Elem.{laws, elem-⊗, elem-power}
+use Rattle.algebra.proofs.Ring.{ring, one-mul}
+use Rattle.algebra.proofs.Pow.{pow-zero, pow-suc, pow-one}
+use Rattle.algebra.specs.Coding.{Coding}
+use Rattle.algebra.specs.Shape.{Field, FieldLaws}
+use Rattle.algebra.specs.Plain.{times, raised, Working}
+use Rattle.algebra.proofs.Plain.{elem-times, elem-raised}
 use Rattle.kernel.specs.Runs.{Run, filled, repeated}
 use Rattle.kernel.proofs.Runs.{run-none, run-append}
 use Rattle.kernel.proofs.Rows.{row-end, row-before}
@@ -26,68 +26,108 @@ use Rattle.layout.specs.declared.Layout.{Layout}
 use Rattle.layout.specs.Layout.{trays, digits, layerLimit}
 use Rattle.layout.proofs.Facts.{bounds, size-pos, rack-in, power-in}
 use Rattle.codeword.specs.Codeword.{pointAt}
-use Rattle.syndrome.specs.Syndrome.{Block, stair, DigitPowers, TrayPoints}
-use Rattle.syndrome.proofs.Digits.{run-pos, point-digit, digit-stays, digit-repeats, count-whole, count-pos, period-in}
+use Rattle.blocks.specs.Blocks.{Block}
+use Rattle.blocks.proofs.Digits.{run-pos, digit-stays, digit-repeats, count-whole, count-pos, period-in}
+use Rattle.syndrome.specs.Syndrome.{climb, stair, DigitPowers, TrayPoints}
+use Rattle.syndrome.proofs.Digits.{point-digit}
 
--- ---- stairs
-pub stair-start : (z first : ℕ) → first < 256 → first ≡ power z 0 ⊗ first
-stair-start z first h = sym (ap (λ y. y ⊗ first) (power-zero z) ∙ one-⊗ h)
+module _ {A : Type 0} {f : Field A} (W : Working f) where
+  open Field f using (ops, root)
+  open Coding (f .coding) using (elem)
+  open FieldLaws (W .field) using (laws)
 
-pub stair-value : (z first a v n : ℕ) → v ≡ power z a ⊗ first → n ≡ v ⊗ z → n ≡ power z (a + 1) ⊗ first
-stair-value z first a v n e q =
-    q ∙ ⊗-comm v z ∙ ap (λ y. z ⊗ y) e ∙ sym (⊗-assoc z (power z a) first) ∙ ap (λ y. y ⊗ first) (sym (power-suc z a) ∙ ap (power z) (sym (add-one a)))
+  -- ---- stairs
+  pub stair-start : (z first : ℕ) → first ≡ climb f z first 0
+  unfolding climb
+  stair-start z first = refl
 
-pub stair-none : (z first run : ℕ) (was : List ℕ) → Run (stair z first run) was was 0 (0 * run)
-stair-none z first run was = rw (zero-mul run) (run-none (stair z first run) was 0)
+  climb-suc : (z first a : ℕ) → climb f z first (suc a) ≡ times f (climb f z first a) z
+  unfolding climb
+  climb-suc z first a = refl
 
-pub stair-more : (z first run a v : ℕ) (was is new : List ℕ) → 0 < run → v ≡ power z a ⊗ first → Run (stair z first run) was is 0 (a * run) → Run (filled v) is new (a * run) run →
-    Run (stair z first run) was new 0 ((a + 1) * run)
-unfolding stair filled
-stair-more z first run a v was is new p e r n =
-    rw (row-end a run)
-    (run-append (stair z first run) (filled v) was is new 0 (a * run) run r (subst (λ k. Run (filled v) is new k run) (sym (zero-add (a * run))) n)
-    (λ i h. e ∙ ap (λ k. power z k ⊗ first) (sym (digits-div a h))))
+  pub stair-value : (z first a v n : ℕ) → v ≡ climb f z first a → n ≡ times f v z → n ≡ climb f z first (a + 1)
+  stair-value z first a v n e q = q ∙ ap (λ (y : ℕ). times f y z) e ∙ sym (climb-suc z first a) ∙ ap (climb f z first) (sym (add-one a))
 
-pub stair-end : (z first run a s : ℕ) (was is : List ℕ) → Run (stair z first run) was is 0 (a * run) → a ≤ s → s ≤ a → Run (stair z first run) was is 0 (s * run)
-stair-end z first run a s was is r h l = let e : a ≡ s = omega arith in subst (λ n. Run (stair z first run) was is 0 (n * run)) e r
+  swap : (a b c : A) → ops .mul (ops .mul a b) c ≡ ops .mul (ops .mul c a) b
+  swap a b c = let L : Laws ops = laws in simp (ring, L)
+
+  elem-climb : (z first a : ℕ) → elem (climb f z first a) ≡ ops .mul (pow ops (elem z) a) (elem first)
+  elem-climb z first zero = ap elem (sym (stair-start z first)) ∙ sym (ap (λ y. ops .mul y (elem first)) (pow-zero ops (elem z)) ∙ one-mul ops laws (elem first))
+  elem-climb z first (suc a) =
+      ap elem (climb-suc z first a) ∙ elem-times W (climb f z first a) z ∙ ap (λ y. ops .mul y (elem z)) (elem-climb z first a)
+      ∙ swap (pow ops (elem z) a) (elem first) (elem z) ∙ ap (λ y. ops .mul y (elem first)) (sym (pow-suc ops (elem z) a))
+
+  pub stair-none : (z first run : ℕ) (was : List ℕ) → Run (stair f z first run) was was 0 (0 * run)
+  stair-none z first run was = rw (zero-mul run) (run-none (stair f z first run) was 0)
+
+  pub stair-more : (z first run a v : ℕ) (was is new : List ℕ) → 0 < run → v ≡ climb f z first a → Run (stair f z first run) was is 0 (a * run) → Run (filled v) is new (a * run) run →
+      Run (stair f z first run) was new 0 ((a + 1) * run)
+  unfolding stair filled
+  stair-more z first run a v was is new p e r n =
+      rw (row-end a run)
+      (run-append (stair f z first run) (filled v) was is new 0 (a * run) run r (subst (λ k. Run (filled v) is new k run) (sym (zero-add (a * run))) n)
+      (λ i h. e ∙ ap (climb f z first) (sym (digits-div a h))))
+
+  pub stair-end : (z first run a s : ℕ) (was is : List ℕ) → Run (stair f z first run) was is 0 (a * run) → a ≤ s → s ≤ a → Run (stair f z first run) was is 0 (s * run)
+  stair-end z first run a s was is r h l = let e : a ≡ s = omega arith in subst (λ n. Run (stair f z first run) was is 0 (n * run)) e r
+
+  -- ---- the powers of a low digit
+  pub wave-powers : (l : Layout) (w first i run s start z : ℕ) (was is new : List ℕ) → Block l w first → run ≡ digits l ^ i → run < w → s ≡ digits l →
+      Run (stair f z start run) was is 0 (s * run) → Run (repeated is (s * run)) is new 0 (w / (s * run) * (s * run)) → DigitPowers f l w first i start z new
+  unfolding stair repeated
+  wave-powers l w first i run s start z was is new b er h es r n = record { at = at }
+    where
+      low : digits l ^ i < w
+      low = rw (sym er) h
+
+      long : w / (s * run) * (s * run) ≡ w
+      long = rw (es, er) (count-whole l w first b i low)
+
+      run-low : 0 < run
+      run-low = rw er (run-pos l (b .adm) i)
+
+      s-low : 0 < s
+      s-low = rw es (bounds l (b .adm) .digits-low)
+
+      mod-div : (j : ℕ) → j % (s * run) / run ≡ j / run % s
+      mod-div j = ap (λ k. k / run) (mod-mul j s-low run-low) ∙ digits-div (j / run % s) (mod-lt j run-low)
+
+      value : (j : ℕ) → j < w → getD new j 0 ≡ climb f z start (j / run % s)
+      value j k =
+          ap (λ i. getD new i 0) (sym (zero-add j)) ∙ n .done j (rw long k)
+          ∙ ap (λ i. getD is i 0) (sym (zero-add (j % (s * run)))) ∙ r .done (j % (s * run)) (mod-lt j (mul-pos s-low run-low))
+          ∙ ap (climb f z start) (mod-div j)
+
+      at : (j : ℕ) → j < w → elem (getD new j 0) ≡ ops .mul (pow ops (elem z) (digit (digits l) (first + j) i)) (elem start)
+      at j k =
+          ap elem (value j k) ∙ elem-climb z start (j / run % s)
+          ∙ ap (λ y. ops .mul y (elem start)) (ap (pow ops (elem z)) (ap₂ (λ y u. j / y % u) er es ∙ sym (digit-repeats l w first b i low j)))
+
+  -- ---- those of a high digit
+  pub steady-powers : (l : Layout) (w first i run s start z a p v : ℕ) (was is : List ℕ) → Block l w first → run ≡ digits l ^ i → w ≤ run → s ≡ digits l → a ≡ digit s first i →
+      p ≡ raised f z a → v ≡ times f p start → Run (filled v) was is 0 w → DigitPowers f l w first i start z is
+  unfolding filled
+  steady-powers l w first i run s start z a p v was is b er h es ea ep ev r = record {
+    at = λ j k.
+        ap (λ i. elem (getD is i 0)) (sym (zero-add j)) ∙ ap elem (r .done j k ∙ ev) ∙ elem-times W p start
+        ∙ ap (λ y. ops .mul y (elem start)) (ap elem ep ∙ elem-raised W z a
+        ∙ ap (pow ops (elem z)) (ea ∙ ap (λ y. digit y first i) es
+        ∙ sym (digit-stays l w first b i (λ q. let e : w ≤ digits l ^ i = rw (sym er) h in omega arith) j k)));
+  }
+
+  -- ---- the points of a tray
+  pub points-of : (l : Layout) (w first x p z : ℕ) (row : List ℕ) → elem z ≡ root → elem p ≡ pow ops (pointAt f l 0 x) 1 → DigitPowers f l w first (x / l .size) p z row → TrayPoints f l w first x row
+  points-of l w first x p z row ez ep d = record {
+    at = λ j k.
+        d .at j k ∙ ap₂ (λ y q. ops .mul (pow ops y (digit (digits l) (first + j) (x / l .size))) q) ez (ep ∙ pow-one ops laws (pointAt f l 0 x))
+        ∙ sym (point-digit W l x (first + j));
+  }
 
 pub stair-in : (run a s : ℕ) (was is : List ℕ) → s * run ≤ length was → length is ≡ length was → a < s → a * run + run ≤ length is
 stair-in run a s was is h e l = let k = row-before a s run l in omega arith
 
 pub stair-fits : (run a s : ℕ) (was : List ℕ) → s * run ≤ length was → a < s → Fits w64 (length was) → Fits w64 (a * run)
 stair-fits run a s was h l f = let k = row-before a s run l in omega arith
-
--- ---- the powers of a low digit
-pub wave-powers : (l : Layout) (w first i run s start z : ℕ) (was is new : List ℕ) → Block l w first → run ≡ digits l ^ i → run < w → s ≡ digits l →
-    Run (stair z start run) was is 0 (s * run) → Run (repeated is (s * run)) is new 0 (w / (s * run) * (s * run)) → DigitPowers l w first i start z new
-unfolding stair repeated
-wave-powers l w first i run s start z was is new b er h es r n = record { at = at }
-  where
-    low : digits l ^ i < w
-    low = rw (sym er) h
-
-    long : w / (s * run) * (s * run) ≡ w
-    long = rw (es, er) (count-whole l w first b i low)
-
-    run-low : 0 < run
-    run-low = rw er (run-pos l (b .adm) i)
-
-    s-low : 0 < s
-    s-low = rw es (bounds l (b .adm) .digits-low)
-
-    mod-div : (j : ℕ) → j % (s * run) / run ≡ j / run % s
-    mod-div j = ap (λ k. k / run) (mod-mul j s-low run-low) ∙ digits-div (j / run % s) (mod-lt j run-low)
-
-    value : (j : ℕ) → j < w → getD new j 0 ≡ power z (j / run % s) ⊗ start
-    value j k =
-        ap (λ i. getD new i 0) (sym (zero-add j)) ∙ n .done j (rw long k)
-        ∙ ap (λ i. getD is i 0) (sym (zero-add (j % (s * run)))) ∙ r .done (j % (s * run)) (mod-lt j (mul-pos s-low run-low))
-        ∙ ap (λ i. power z i ⊗ start) (mod-div j)
-
-    at : (j : ℕ) → j < w → elem (getD new j 0) ≡ ops .mul (pow ops (elem z) (digit (digits l) (first + j) i)) (elem start)
-    at j k =
-        ap elem (value j k) ∙ elem-⊗ (power z (j / run % s)) start
-        ∙ ap (λ y. ops .mul y (elem start)) (elem-power z (j / run % s) ∙ ap (pow ops (elem z)) (ap₂ (λ y u. j / y % u) er es ∙ sym (digit-repeats l w first b i low j)))
 
 pub wave-room : (l : Layout) (w first i run s : ℕ) (row : List ℕ) → Block l w first → run ≡ digits l ^ i → run < w → s ≡ digits l → w ≤ length row → s * run ≤ length row
 wave-room l w first i run s row b er h es k = let e : s * run ≤ w = rw (es, er) (period-in l w first b i (rw (sym er) h)) in omega arith
@@ -108,26 +148,6 @@ wave-run l w first i run b er = rw er (run-pos l (b .adm) i)
 
 pub wave-period : (l : Layout) (w first i run s : ℕ) → Block l w first → run ≡ digits l ^ i → s ≡ digits l → 0 < s * run
 wave-period l w first i run s b er es = rw (es, er) (mul-pos (bounds l (b .adm) .digits-low) (run-pos l (b .adm) i))
-
--- ---- those of a high digit
-pub steady-powers : (l : Layout) (w first i run s start z a p v : ℕ) (was is : List ℕ) → Block l w first → run ≡ digits l ^ i → w ≤ run → s ≡ digits l → a ≡ digit s first i →
-    p ≡ power z a → v ≡ p ⊗ start → Run (filled v) was is 0 w → DigitPowers l w first i start z is
-unfolding filled
-steady-powers l w first i run s start z a p v was is b er h es ea ep ev r = record {
-  at = λ j k.
-      ap (λ i. elem (getD is i 0)) (sym (zero-add j)) ∙ ap elem (r .done j k ∙ ev) ∙ elem-⊗ p start
-      ∙ ap (λ y. ops .mul y (elem start)) (ap elem ep ∙ elem-power z a
-      ∙ ap (pow ops (elem z)) (ea ∙ ap (λ y. digit y first i) es
-      ∙ sym (digit-stays l w first b i (λ q. let e : w ≤ digits l ^ i = rw (sym er) h in omega arith) j k)));
-}
-
--- ---- the points of a tray
-pub points-of : (l : Layout) (w first x p : ℕ) (row : List ℕ) → elem p ≡ pow ops (pointAt gf256 l 0 x) 1 → DigitPowers l w first (x / l .size) p 2 row → TrayPoints l w first x row
-points-of l w first x p row ep d = record {
-  at = λ j k.
-      d .at j k ∙ ap (ops .mul (pow ops z (digit (digits l) (first + j) (x / l .size)))) (ep ∙ pow-one ops laws (pointAt gf256 l 0 x))
-      ∙ sym (point-digit l x (first + j));
-}
 
 pub rack-of : (l : Layout) (w first x : ℕ) → Block l w first → x < trays l → x / l .size < l .racks
 rack-of l w first x b h = rack-in l (b .adm) x h

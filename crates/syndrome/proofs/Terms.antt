@@ -13,77 +13,83 @@ use Rattle.algebra.specs.Field.{Ops, Laws}
 use Rattle.algebra.specs.Sum.{pow}
 use Rattle.algebra.proofs.Pow.{pow-zero, pow-one, pow-add-one}
 use Rattle.algebra.proofs.Ring.{one-mul, mul-comm, mul-assoc}
-use Rattle.symbol.specs.Arithmetic.{_⊗_}
-use Rattle.symbol.specs.Elem.{Elem, elem, ops}
-use Rattle.symbol.proofs.Elem.{laws, elem-⊕, elem-⊗}
+use Rattle.algebra.specs.Coding.{Coding}
+use Rattle.algebra.specs.Shape.{Field, FieldLaws}
+use Rattle.algebra.specs.Plain.{times, Working}
+use Rattle.algebra.proofs.Plain.{elem-plus, elem-times}
 use Rattle.kernel.specs.Runs.{cell, Run, added, accrued, stepped}
 use Rattle.kernel.proofs.Rows.{row-in, cell-other, row-zero, zero-cell}
 use Rattle.syndrome.specs.Syndrome.{Room, term, Terms, Later, Adding}
 
-pub adding-none : (w : ℕ) (row cur was : List ℕ) → Adding w row cur was was cur 1
-adding-none w row cur was = record {
-  first = λ j h. refl;
-  at = λ v j p h k. absurd (omega arith);
-  rest = λ v j h k. refl;
-  current = λ j h. ap (λ y. ops .mul y (elem (getD cur j 0))) (sym (pow-one ops laws (elem (getD row j 0))));
-}
+module _ {A : Type 0} {f : Field A} (W : Working f) where
+  open Field f using (ops)
+  open Coding (f .coding) using (elem)
+  open FieldLaws (W .field) using (laws)
 
-module _ (w t : ℕ) (row was is old new : List ℕ) where
-  accrued-row : Run (accrued was (t * w) old row) was is (t * w) w → (j : ℕ) → j < w → cell w is t j ≡ ops .add (cell w was t j) (ops .mul (elem (getD row j 0)) (elem (getD old j 0)))
-  unfolding cell accrued
-  accrued-row r j h =
-      ap elem (r .done j h) ∙ elem-⊕ (getD was (t * w + j) 0) (getD old j 0 ⊗ getD row j 0)
-      ∙ ap (ops .add (elem (getD was (t * w + j) 0))) (elem-⊗ (getD old j 0) (getD row j 0) ∙ mul-comm ops laws _ _)
+  pub adding-none : (w : ℕ) (row cur was : List ℕ) → Adding f w row cur was was cur 1
+  adding-none w row cur was = record {
+    first = λ j h. refl;
+    at = λ v j p h k. absurd (omega arith);
+    rest = λ v j h k. refl;
+    current = λ j h. ap (λ y. ops .mul y (elem (getD cur j 0))) (sym (pow-one ops laws (elem (getD row j 0))));
+  }
 
-  stepped-row : Run (stepped old row) old new 0 w → (j : ℕ) → j < w → elem (getD new j 0) ≡ ops .mul (elem (getD row j 0)) (elem (getD old j 0))
-  unfolding stepped
-  stepped-row r j h =
-      ap (λ i. elem (getD new i 0)) (sym (zero-add j)) ∙ ap elem (r .done j h) ∙ elem-⊗ (getD old j 0) (getD row j 0) ∙ mul-comm ops laws _ _
+  module _ (w t : ℕ) (row was is old new : List ℕ) where
+    accrued-row : Run (accrued f was (t * w) old row) was is (t * w) w → (j : ℕ) → j < w → cell f w is t j ≡ ops .add (cell f w was t j) (ops .mul (elem (getD row j 0)) (elem (getD old j 0)))
+    unfolding cell accrued
+    accrued-row r j h =
+        ap elem (r .done j h) ∙ elem-plus W (getD was (t * w + j) 0) (times f (getD old j 0) (getD row j 0))
+        ∙ ap (ops .add (elem (getD was (t * w + j) 0))) (elem-times W (getD old j 0) (getD row j 0) ∙ mul-comm ops laws _ _)
 
-pub adding-more : (w t : ℕ) (row cur was is next old new : List ℕ) → 1 ≤ t → Adding w row cur was is old t → Run (accrued is (t * w) old row) is next (t * w) w → Run (stepped old row) old new 0 w →
-    Adding w row cur was next new (t + 1)
-adding-more w t row cur was is next old new ht g r s = record {
-  first = λ j h. cell-other _ is next t w r 0 j h (λ e. omega arith) ∙ g .first j h;
-  at = λ v j p h k. go v j p h k (ℕ-discrete v t);
-  rest = λ v j h k. cell-other _ is next t w r v j k (λ e. omega arith) ∙ g .rest v j (omega arith) k;
-  current = λ j h.
-      ap (ops .mul (elem (getD row j 0))) (stepped-row w t row is next old new s j h ∙ g .current j h)
-      ∙ sym (mul-assoc ops laws (elem (getD row j 0)) (pow ops (elem (getD row j 0)) t) (elem (getD cur j 0)))
-      ∙ ap (λ y. ops .mul y (elem (getD cur j 0))) (sym (pow-add-one ops (elem (getD row j 0)) t));
-}
-  where
-    go : (v j : ℕ) → 0 < v → v < t + 1 → j < w → Dec (v ≡ t) → cell w next v j ≡ ops .add (cell w was v j) (term row cur v j)
-    go v j p h k (yes e) =
-        subst (λ n. cell w next n j ≡ ops .add (cell w was n j) (term row cur n j)) (sym e)
-        (accrued-row w t row is next old new r j k ∙ ap₂ (ops .add) (g .rest t j (omega arith) k) (g .current j k))
-    go v j p h k (no d) = cell-other _ is next t w r v j k d ∙ g .at v j p (omega arith) k
+    stepped-row : Run (stepped f old row) old new 0 w → (j : ℕ) → j < w → elem (getD new j 0) ≡ ops .mul (elem (getD row j 0)) (elem (getD old j 0))
+    unfolding stepped
+    stepped-row r j h =
+        ap (λ i. elem (getD new i 0)) (sym (zero-add j)) ∙ ap elem (r .done j h) ∙ elem-times W (getD old j 0) (getD row j 0) ∙ mul-comm ops laws _ _
 
-pub adding-end : (w r t : ℕ) (row cur was is old : List ℕ) → Adding w row cur was is old t → r ≤ t → Later w r row cur was is
-adding-end w r t row cur was is old g h = record { first = g .first; at = λ v j p l k. g .at v j p (omega arith) k }
+  pub adding-more : (w t : ℕ) (row cur was is next old new : List ℕ) → 1 ≤ t → Adding f w row cur was is old t → Run (accrued f is (t * w) old row) is next (t * w) w → Run (stepped f old row) old new 0 w →
+      Adding f w row cur was next new (t + 1)
+  adding-more w t row cur was is next old new ht g r s = record {
+    first = λ j h. cell-other f _ is next t w r 0 j h (λ e. omega arith) ∙ g .first j h;
+    at = λ v j p h k. go v j p h k (ℕ-discrete v t);
+    rest = λ v j h k. cell-other f _ is next t w r v j k (λ e. omega arith) ∙ g .rest v j (omega arith) k;
+    current = λ j h.
+        ap (ops .mul (elem (getD row j 0))) (stepped-row w t row is next old new s j h ∙ g .current j h)
+        ∙ sym (mul-assoc ops laws (elem (getD row j 0)) (pow ops (elem (getD row j 0)) t) (elem (getD cur j 0)))
+        ∙ ap (λ y. ops .mul y (elem (getD cur j 0))) (sym (pow-add-one ops (elem (getD row j 0)) t));
+  }
+    where
+      go : (v j : ℕ) → 0 < v → v < t + 1 → j < w → Dec (v ≡ t) → cell f w next v j ≡ ops .add (cell f w was v j) (term f row cur v j)
+      go v j p h k (yes e) =
+          subst (λ n. cell f w next n j ≡ ops .add (cell f w was n j) (term f row cur n j)) (sym e)
+          (accrued-row w t row is next old new r j k ∙ ap₂ (ops .add) (g .rest t j (omega arith) k) (g .current j k))
+      go v j p h k (no d) = cell-other f _ is next t w r v j k d ∙ g .at v j p (omega arith) k
 
-pub terms-none : (w r : ℕ) (row cur was : List ℕ) → r ≡ 0 → Terms w r row cur was was
-terms-none w r row cur was e = record { at = λ t j h k. absurd (omega arith) }
+  pub adding-end : (w r t : ℕ) (row cur was is old : List ℕ) → Adding f w row cur was is old t → r ≤ t → Later f w r row cur was is
+  adding-end w r t row cur was is old g h = record { first = g .first; at = λ v j p l k. g .at v j p (omega arith) k }
 
-added-at : (was cur : List ℕ) (j : ℕ) → elem (added was 0 cur 0 j) ≡ ops .add (elem (getD was (0 + j) 0)) (elem (getD cur j 0))
-unfolding added
-added-at was cur j = elem-⊕ (getD was (0 + j) 0) (getD cur (0 + j) 0) ∙ ap (λ i. ops .add (elem (getD was (0 + j) 0)) (elem (getD cur i 0))) (zero-add j)
+  pub terms-none : (w r : ℕ) (row cur was : List ℕ) → r ≡ 0 → Terms f w r row cur was was
+  terms-none w r row cur was e = record { at = λ t j h k. absurd (omega arith) }
 
-first-row : (w : ℕ) (cur was mid : List ℕ) → Run (added was 0 cur 0) was mid 0 w → (j : ℕ) → j < w → cell w mid 0 j ≡ ops .add (cell w was 0 j) (elem (getD cur j 0))
-first-row w cur was mid a j k =
-    row-zero _ was mid w a j k ∙ added-at was cur j ∙ ap (λ y. ops .add y (elem (getD cur j 0))) (sym (zero-cell w was j))
+  added-at : (was cur : List ℕ) (j : ℕ) → elem (added f was 0 cur 0 j) ≡ ops .add (elem (getD was (0 + j) 0)) (elem (getD cur j 0))
+  unfolding added
+  added-at was cur j = elem-plus W (getD was (0 + j) 0) (getD cur (0 + j) 0) ∙ ap (λ i. ops .add (elem (getD was (0 + j) 0)) (elem (getD cur i 0))) (zero-add j)
 
-pub terms-of : (w r : ℕ) (row cur was mid is : List ℕ) → Run (added was 0 cur 0) was mid 0 w → Later w r row cur mid is → Terms w r row cur was is
-terms-of w r row cur was mid is a l = record { at = at }
-  where
-    at-zero : Run (added was 0 cur 0) was mid (0 * w) w
-    at-zero = let e : 0 ≡ 0 * w = omega arith in subst (λ n. Run (added was 0 cur 0) was mid n w) e a
+  first-row : (w : ℕ) (cur was mid : List ℕ) → Run (added f was 0 cur 0) was mid 0 w → (j : ℕ) → j < w → cell f w mid 0 j ≡ ops .add (cell f w was 0 j) (elem (getD cur j 0))
+  first-row w cur was mid a j k =
+      row-zero f _ was mid w a j k ∙ added-at was cur j ∙ ap (λ y. ops .add y (elem (getD cur j 0))) (sym (zero-cell f w was j))
 
-    at : (t j : ℕ) → t < r → j < w → cell w is t j ≡ ops .add (cell w was t j) (term row cur t j)
-    at zero j h k =
-        l .first j k ∙ first-row w cur was mid a j k
-        ∙ ap (ops .add (cell w was 0 j)) (sym (ap (λ y. ops .mul y (elem (getD cur j 0))) (pow-zero ops (elem (getD row j 0))) ∙ one-mul ops laws (elem (getD cur j 0))))
-    at (suc t) j h k =
-        l .at (suc t) j (omega arith) h k ∙ ap (λ y. ops .add y (term row cur (suc t) j)) (cell-other _ was mid 0 w at-zero (suc t) j k (λ e. omega arith))
+  pub terms-of : (w r : ℕ) (row cur was mid is : List ℕ) → Run (added f was 0 cur 0) was mid 0 w → Later f w r row cur mid is → Terms f w r row cur was is
+  terms-of w r row cur was mid is a l = record { at = at }
+    where
+      at-zero : Run (added f was 0 cur 0) was mid (0 * w) w
+      at-zero = let e : 0 ≡ 0 * w = omega arith in subst (λ n. Run (added f was 0 cur 0) was mid n w) e a
+
+      at : (t j : ℕ) → t < r → j < w → cell f w is t j ≡ ops .add (cell f w was t j) (term f row cur t j)
+      at zero j h k =
+          l .first j k ∙ first-row w cur was mid a j k
+          ∙ ap (ops .add (cell f w was 0 j)) (sym (ap (λ y. ops .mul y (elem (getD cur j 0))) (pow-zero ops (elem (getD row j 0))) ∙ one-mul ops laws (elem (getD cur j 0))))
+      at (suc t) j h k =
+          l .at (suc t) j (omega arith) h k ∙ ap (λ y. ops .add y (term f row cur (suc t) j)) (cell-other f _ was mid 0 w at-zero (suc t) j k (λ e. omega arith))
 
 -- ---- places
 pub room-next : (w r : ℕ) (sums cur row sums′ cur′ row′ : List ℕ) → Room w r sums cur row → length sums′ ≡ length sums → length cur′ ≡ length cur → length row′ ≡ length row → Room w r sums′ cur′ row′

@@ -12,7 +12,7 @@ use Rattle.algebra.specs.Sum.{pow}
 use Rattle.algebra.specs.Lagrange.{check}
 use Rattle.algebra.specs.Erasure.{fill}
 use Rattle.algebra.proofs.Sum.{sum-congr}
-use Rattle.symbol.specs.Elem.{ops, gf256}
+use Rattle.algebra.specs.Shape.{Field}
 use Rattle.kernel.specs.Runs.{cell}
 use Rattle.kernel.proofs.Rows.{row-before}
 use Rattle.layout.specs.declared.Layout.{Layout}
@@ -37,13 +37,16 @@ none-listed l es e = record {
   few = omega arith;
 }
 
-survivor-all : (l : Layout) (es c : List ℕ) → length es ≡ 0 → (j x : ℕ) → survivorAt l es c j x ≡ symbolAt gf256 l c x j
-unfolding survivorAt fill
-survivor-all l es c e j x = ap (λ n. fill (entryOf es) (λ k. ops .zero) n (λ y. symbolAt gf256 l c y j) x) e
+module _ {A : Type 0} (f : Field A) where
+  open Field f using (ops)
 
--- so the sums are the checks
-pub sums-are : (l : Layout) (w first r : ℕ) (c es sums : List ℕ) → length es ≡ 0 → Sums l w first r c es (trays l) sums → (t j : ℕ) → t < r → j < w →
-    cell w sums t j ≡ checkAt gf256 l c (first + j) t
-unfolding checkAt check
-sums-are l w first r c es sums e s t j ht hj =
-    s .at t j ht hj ∙ sum-congr ops (trays l) _ _ (λ x h. ap (ops .mul (pow ops (pointAt gf256 l (first + j) x) t)) (survivor-all l es c e (first + j) x))
+  survivor-all : (l : Layout) (es c : List ℕ) → length es ≡ 0 → (j x : ℕ) → survivorAt f l es c j x ≡ symbolAt f l c x j
+  unfolding survivorAt fill
+  survivor-all l es c e j x = ap (λ n. fill (entryOf es) (λ k. ops .zero) n (λ y. symbolAt f l c y j) x) e
+
+  -- so the sums are the checks
+  pub sums-are : (l : Layout) (w first r : ℕ) (c es sums : List ℕ) → length es ≡ 0 → Sums f l w first r c es (trays l) sums → (t j : ℕ) → t < r → j < w →
+      cell f w sums t j ≡ checkAt f l c (first + j) t
+  unfolding checkAt check
+  sums-are l w first r c es sums e s t j ht hj =
+      s .at t j ht hj ∙ sum-congr ops (trays l) _ _ (λ x h. ap (ops .mul (pow ops (pointAt f l (first + j) x) t)) (survivor-all l es c e (first + j) x))

@@ -8,13 +8,15 @@ use native.Mathlib.Omega.{arith}
 use mir.Val.{Fits}
 use mir.Syntax.{w32, w64}
 use lib.ListN.{length}
+use Rattle.algebra.specs.Shape.{Field}
 use Rattle.layout.specs.declared.Layout.{Layout}
-use Rattle.layout.specs.Layout.{checks, digits, layers, Admissible}
+use Rattle.layout.specs.Layout.{checks, digits, layers}
 use Rattle.codeword.specs.Inner.{Scannable}
-use Rattle.syndrome.specs.Syndrome.{blockLimit, roomLimit, Block, Room}
+use Rattle.blocks.specs.Blocks.{blockLimit, roomLimit, Block}
+use Rattle.syndrome.specs.Syndrome.{Room}
 use Rattle.testing.specs.Inner.{FirstBroken}
-use Rattle.syndrome.proofs.Room.{roomOf, rowOf, room-long, row-long}
-use Rattle.syndrome.proofs.Blocks.{start-fits, width-pos, count-whole, block-of}
+use Rattle.blocks.proofs.Room.{roomOf, rowOf, room-long, row-long}
+use Rattle.blocks.proofs.Whole.{start-fits, width-pos, count-whole, block-of}
 
 -- the arrays
 pub room : (l : Layout) (e : ℕ) → digits l ^ e ≤ blockLimit → checks l * digits l ^ e ≤ roomLimit → Room (digits l ^ e) (checks l) roomOf rowOf rowOf
@@ -58,5 +60,5 @@ module _ (l : Layout) (e w total : ℕ) (c : List ℕ) (h : e ≤ l .racks) (p :
   pub count-all : total / w * w ≡ layers l
   count-all = count-whole l e w total (p .adm) h ew (p .total-is)
 
-  pub check-small : (first j t : ℕ) → FirstBroken l w first c j t → j < w → Fits w32 t
-  check-small first j t f k = let i = f .check-in k in let a = p .adm in omega arith
+  pub check-small : {A : Type 0} (f : Field A) (first j t : ℕ) → FirstBroken f l w first c j t → j < w → Fits w32 t
+  check-small f first j t z k = let i = z .check-in k in let a = p .adm in omega arith

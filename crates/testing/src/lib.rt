@@ -3,14 +3,19 @@
 use codeword::Tested;
 use layout::Layer;
 use layout::Layout;
+use symbol::plain::ORDER;
+use symbol::plain::index;
 ghost use mathlib.Core.Path.{_≡_};
-ghost use Prim.Native.Nat.{_*_, _^_, _≤_};
-ghost use lib.ListN.{length};
+ghost use Prim.Native.Nat.{_*_, _^_, _<_, _≤_};
+ghost use lib.Dec.{eqb};
+ghost use lib.ListN.{length, getD};
+ghost use Rattle.algebra.specs.Plain.{reduced};
 ghost use Rattle.symbol.specs.Elem.{gf256};
 ghost use Rattle.layout.specs.Layout.{checks, digits, layers};
 ghost use Rattle.codeword.specs.Test.{TestAnswer};
 ghost use Rattle.codeword.specs.Inner.{Scannable, Scanned};
-ghost use Rattle.syndrome.specs.Syndrome.{Block, Room};
+ghost use Rattle.blocks.specs.Blocks.{Block};
+ghost use Rattle.syndrome.specs.Syndrome.{Room};
 ghost use Rattle.testing.specs.Inner.{FirstIn, FirstBroken};
 
 // A layer of a block and a check.
@@ -19,17 +24,25 @@ struct Place {
     check: usize,
 }
 
+// Whether the symbol at a place is zero.
+fn is_zero(sums: &[u8], i: usize) -> bool
+    requires { ⌜ i < length (now sums) ⌝ }
+    ensures { λ r. ⌜ r ≡ eqb (reduced gf256 (getD (now (sums .entry)) i 0)) 0 ⌝ }
+{
+    index(kernel::at(sums, i)) == 0
+}
+
 // The first of w columns with a number that is not zero, w for none, and the least of its r rows where that stands.
 fn first_in(sums: &[u8], w: usize, r: usize) -> Place
     requires { ⌜ r * w ≤ length (now sums) ⌝ }
-    ensures { λ p. ⌜ FirstIn w r (now (sums .entry)) (p .column) (p .check) ⌝ }
+    ensures { λ p. ⌜ FirstIn gf256 w r (now (sums .entry)) (p .column) (p .check) ⌝ }
 {
     let mut j = 0usize;
     let mut t = 0usize;
     'layers: while j < w {
         t = 0;
         while t < r {
-            if sums[t * w + j] != 0 {
+            if !is_zero(sums, t * w + j) {
                 break 'layers;
             }
             t += 1;
@@ -55,7 +68,7 @@ fn first_broken(
     row: &mut [u8],
 ) -> Place
     requires { ⌜ Block l w first × Scannable l (layers l) (now c) × (r ≡ checks l) × (length (now none) ≡ 0) × Room w r (now sums) (now cur) (now row) ⌝ }
-    ensures { λ p. ⌜ FirstBroken l w first (now (c .entry)) (p .column) (p .check) ⌝ }
+    ensures { λ p. ⌜ FirstBroken gf256 l w first (now (c .entry)) (p .column) (p .check) ⌝ }
 {
     syndrome::sum_kept(sums, l, w, first, r, c, none, cur, row);
     first_in(sums, w, r)
@@ -76,7 +89,7 @@ fn scan_blocks(
     ensures { λ r. ⌜ Scanned gf256 l (now (c .entry)) r ⌝ }
 {
     let r = layout::check_count(l) as usize;
-    let w = syndrome::block_width(l, e);
+    let w = blocks::block_width(l, e);
     let count = total as usize / w;
     let mut q = 0usize;
     while q < count {
@@ -99,11 +112,11 @@ fn scan(l: Layout, total: u32, c: &[u8]) -> Tested
     requires { ⌜ Scannable l total (now c) ⌝ }
     ensures { λ r. ⌜ Scanned gf256 l (now (c .entry)) r ⌝ }
 {
-    let e = syndrome::block_digits(l);
+    let e = blocks::block_digits(l);
     let none = [0u32; 0];
-    let mut sums = [0u8; syndrome::ROOM];
-    let mut cur = [0u8; syndrome::BLOCK];
-    let mut row = [0u8; syndrome::BLOCK];
+    let mut sums = [0u8; blocks::ROOM];
+    let mut cur = [0u8; blocks::BLOCK];
+    let mut row = [0u8; blocks::BLOCK];
     scan_blocks(l, total, e, c, &none, &mut sums, &mut cur, &mut row)
 }
 
@@ -111,12 +124,15 @@ fn scan(l: Layout, total: u32, c: &[u8]) -> Tested
 pub fn test(l: Layout, c: &[u8]) -> Tested
     ensures { λ r. ⌜ TestAnswer gf256 l (now (c .entry)) r ⌝ }
 {
-    if !layout::admitted(l) {
+    if !layout::admitted(ORDER as u32, l) {
         return Tested::Refused(1);
     }
     let total = layout::layer_count(l);
     if c.len() != layout::tray_count(l) as usize * total as usize {
         return Tested::Refused(2);
+    }
+    if !range::are_symbols(c, 0, c.len()) {
+        return Tested::Refused(3);
     }
     scan(l, total, c)
 }

@@ -42,15 +42,15 @@ fn wide(byte: u8) -> u64 {
     byte as u64
 }
 
-// What the layout call answers: the refusal, L, r and the symbols that cross.
-fn measure(b: u32, u: u32, k: u32, d: u32) {
+// What the layout call of the field whose root has so many powers answers: the refusal, L, r and the symbols that cross.
+fn measure(order: u32, b: u32, u: u32, k: u32, d: u32) {
     say(b"layout");
     say_number(b as u64);
     say_number(u as u64);
     say_number(k as u64);
     say_number(d as u64);
     say(b" answers");
-    let answer = layout::measure(cabinet(b, u, k, d));
+    let answer = layout::measure(order, cabinet(b, u, k, d));
     match answer {
         Measured::Known {
             layers,
@@ -70,16 +70,16 @@ fn measure(b: u32, u: u32, k: u32, d: u32) {
 }
 
 fn layouts() {
-    measure(4, 3, 8, 3);
-    measure(4, 4, 8, 3);
-    measure(4, 3, 2, 3);
-    measure(4, 3, 10, 3);
-    measure(4, 3, 8, 4);
-    measure(4, 3, 8, 1);
-    measure(10, 3, 24, 9);
-    measure(11, 3, 27, 10);
-    measure(7, 5, 24, 6);
-    measure(13, 3, 33, 12);
+    measure(255, 4, 3, 8, 3);
+    measure(255, 4, 4, 8, 3);
+    measure(255, 4, 3, 2, 3);
+    measure(255, 4, 3, 10, 3);
+    measure(255, 4, 3, 8, 4);
+    measure(255, 4, 3, 8, 1);
+    measure(255, 10, 3, 24, 9);
+    measure(255, 11, 3, 27, 10);
+    measure(255, 7, 5, 24, 6);
+    measure(255, 13, 3, 33, 12);
 }
 
 fn storing() {
@@ -113,7 +113,7 @@ fn share(host: u32, helper: u32, rack: &[u8]) {
 fn shares() {
     share(0, 1, &[0x11, 0x12, 0x11, 0x12, 0x21, 0x22, 0x21, 0x22]);
     share(0, 2, &[0x05, 0x06, 0x09, 0x0A, 0x05, 0x06, 0x09, 0x0A]);
-    measure(3, 1, 1, 2);
+    measure(255, 3, 1, 1, 2);
     share(1, 0, &[0x14, 0x14, 0x18, 0x18, 0x24, 0x24, 0x28, 0x28]);
 }
 
@@ -147,7 +147,7 @@ fn repairing() {
 // The margin in (4, 3, 8, 3), by the words for the number that is expected.
 fn margin(states: &[u8], expected: i32, words: &[u8]) {
     say(b"margin");
-    let answer = margin::margin(cabinet(4, 3, 8, 3), states);
+    let answer = margin::margin(255, cabinet(4, 3, 8, 3), states);
     match answer {
         LossMargin::Known(m) => {
             if m == expected {

@@ -20,7 +20,7 @@ base-high c = omega (arith, bounds _ (c .before .pre .0))
 parts : (c : tie.After-digit-at) →
     (c .before .before .args .x / c .before .before .args .l .size * c .before .digit-count .result ≤ trayLimit * trayLimit)
     × (c .digit-at .result < trayLimit)
-    × (c .before .before .args .x % c .before .before .args .l .size * (255 / c .before .before .args .l .size) ≤ 255)
+    × (c .before .before .args .x % c .before .before .args .l .size * (c .before .before .args .order / c .before .before .args .l .size) ≤ 256)
 parts c =
     let a = c .before .before .args in
     let adm = c .before .before .pre .0 in
@@ -28,7 +28,7 @@ parts c =
     let s-low : 0 < c .before .digit-count .result = omega arith in (
       mul-le-mul (rack-high (c .before)) (base-high (c .before)),
       omega (arith, digit-below (c .before .digit-count .result) s-low (a .j) (a .x / a .l .size), base-high (c .before)),
-      le-trans (mul-le-mul (le-of-lt (mod-lt (a .x) (b .size-low))) (le-refl _)) (mul-div-le 255 (a .l .size)),
+      le-trans (mul-le-mul (le-of-lt (mod-lt (a .x) (b .size-low))) (le-refl _)) (le-trans (mul-div-le (a .order) (a .l .size)) (c .before .before .pre .2)),
     )
 
 pub exponent-spec : {M : Type 1} → statement M
@@ -47,6 +47,7 @@ exponent-spec =
     (λ c. omega (arith, parts c))
     (λ c. omega (arith, parts c))
     (λ c.
-    let a = c .before .before .args in
-    exponent-known (a .l) (c .before .before .pre .0) (a .x) (a .j) (c .before .digit-count .result) (c .digit-at .result)
-    (c .before .before .pre .1) (c .before .digit-count .ensures) (c .digit-at .ensures)))
+    let a = c .before .before .args in (
+      exponent-known (a .order) (a .l) (a .x) (a .j) (c .before .digit-count .result) (c .digit-at .result) (c .before .digit-count .ensures) (c .digit-at .ensures),
+      omega (arith, parts c),
+    )))

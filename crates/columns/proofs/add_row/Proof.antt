@@ -1,4 +1,5 @@
 use Prim.Native.Nat.{_-_}
+use Rattle.symbol.proofs.Working.{working}
 use Rattle.columns.proofs.Rows.{row-wide, period-room, period-fits, turns-room, count-fits, width-fits, wide-room}
 use borrow.Author.Needs.{needs}
 use Rattle.columns.proofs.add_row.Statement.{statement}
@@ -18,4 +19,4 @@ add-row-spec =
     (λ c κs. (search needs, search needs, search wide-room))
     (λ c. search needs)
     (λ c. search needs)
-    (λ c. search row-wide))
+    (λ c. search (row-wide working)))

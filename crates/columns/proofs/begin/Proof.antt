@@ -1,4 +1,5 @@
 use Prim.Native.Nat.{_-_}
+use Rattle.symbol.proofs.Working.{working}
 use Rattle.columns.proofs.Steps.{grown-start, rest-low, rest-in, first-next, whole-fits}
 use borrow.Author.Needs.{needs}
 use Rattle.columns.proofs.begin.Statement.{statement}
@@ -17,4 +18,4 @@ begin-spec =
     rest-in (c2 .args .v) (c2 .args .m) (c2 .args .i) (c2 .args .points .now) (c2 .args .out .now) (c1 .look-up .last .0) (c2 .pre .0) (search needs)
     (c2 .pre .1))
     (λ c. search needs)
-    (λ c. search grown-start))
+    (λ c. search (grown-start working)))

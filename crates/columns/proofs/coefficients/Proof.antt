@@ -3,13 +3,15 @@ use Prim.Native.Nat.{_-_, _≤_}
 use native.Mathlib.Omega.{arith}
 use lib.ListN.{length}
 use borrow.Author.Needs.{needs}
+use Rattle.symbol.specs.Elem.{gf256}
+use Rattle.symbol.proofs.Working.{working}
 use Rattle.columns.specs.Columns.{Grown}
 use Rattle.columns.proofs.Steps.{coefficients-of, columns-next}
 use Rattle.columns.proofs.coefficients.Statement.{statement}
 use Rattle.columns.proofs.coefficients.Tie as tie
 
 abbrev Inv-loop : tie.InvT-loop
-Inv-loop out₀ carry₀ v m i points table q₀ out carry q = (q ≤ m) × (length out ≡ length out₀) × (length carry ≡ length carry₀) × Grown v m points i q out
+Inv-loop out₀ carry₀ v m i points table q₀ out carry q = (q ≤ m) × (length out ≡ length out₀) × (length carry ≡ length carry₀) × Grown gf256 v m points i q out
 
 abbrev μ-loop : tie.MeasureT-loop
 μ-loop out₀ carry₀ v m i points table q₀ out carry q = m - q
@@ -25,4 +27,4 @@ coefficients-spec =
     (λ c. (omega arith, search needs, search needs, search needs))
     (λ c. search needs)
     (λ c. search needs)
-    (λ c. search coefficients-of))
+    (λ c. search (coefficients-of working)))

@@ -3,13 +3,15 @@ use Prim.Native.Nat.{_-_, _≤_}
 use native.Mathlib.Omega.{arith}
 use lib.ListN.{length}
 use borrow.Author.Needs.{needs}
+use Rattle.symbol.specs.Elem.{gf256}
+use Rattle.symbol.proofs.Working.{working}
 use Rattle.columns.specs.Columns.{Combined}
 use Rattle.columns.proofs.Rows.{combined-none, combined-more, combined-end, found-in, found-fits, coefs-fits, places-of, row-room}
 use Rattle.columns.proofs.combine.Statement.{statement}
 use Rattle.columns.proofs.combine.Tie as tie
 
 abbrev Inv-loop : tie.InvT-loop
-Inv-loop found₀ w v run turns m i sums coefs row₀ t₀ found row t = (t ≤ m) × (length found ≡ length found₀) × (length row ≡ length row₀) × Combined w v run t i sums coefs found₀ found
+Inv-loop found₀ w v run turns m i sums coefs row₀ t₀ found row t = (t ≤ m) × (length found ≡ length found₀) × (length row ≡ length row₀) × Combined gf256 w v run t i sums coefs found₀ found
 
 abbrev μ-loop : tie.MeasureT-loop
 μ-loop found₀ w v run turns m i sums coefs row₀ t₀ found row t = m - t
@@ -19,7 +21,7 @@ combine-spec =
     tie.close (tie.spec Inv-loop μ-loop
     (λ c. search found-fits)
     (λ c κs. search found-in)
-    (λ c. (omega arith, refl, refl, search combined-none))
+    (λ c. (omega arith, refl, refl, search (combined-none working)))
     (λ c. search found-fits)
     (λ c. search found-fits)
     (λ c. search coefs-fits)
@@ -43,7 +45,7 @@ combine-spec =
       omega arith,
       search needs,
       search needs,
-      let s = c4 in let a = s .args in let k = c2 .loop in let r = c1 .add-row in combined-more (a .w) (a .v)
+      let s = c4 in let a = s .args in let k = c2 .loop in let r = c1 .add-row in combined-more working (a .w) (a .v)
           (a .run) (a .turns) (a .m) (k .t) (a .i) (a .sums .now) (a .coefs .now) (c3 .fill .last .0) (k .found) (r .last .0) (s .pre .0 .width) (k .inv .3)
           (r .ensures),
     ))
@@ -53,5 +55,5 @@ combine-spec =
     let c1 = c .before in
     let c2 = c1 .before .before .before in
     let c3 = c2 .before .before .before .before .before .before in
-    combined-end (c3 .args .w) (c3 .args .v) (c3 .args .run) (c3 .args .m) (c1 .loop .t) (c3 .args .i) (c3 .args .sums .now) (c3 .args .coefs .now)
+    combined-end working (c3 .args .w) (c3 .args .v) (c3 .args .run) (c3 .args .m) (c1 .loop .t) (c3 .args .i) (c3 .args .sums .now) (c3 .args .coefs .now)
     (c3 .args .found .now) (c2 .fill .last .0) (c1 .loop .found) (c2 .fill .ensures) (c1 .loop .inv .3) (omega arith) (omega arith)))

@@ -3,13 +3,15 @@ use Prim.Native.Nat.{_-_, _≤_}
 use native.Mathlib.Omega.{arith}
 use lib.ListN.{length}
 use borrow.Author.Needs.{needs}
+use Rattle.symbol.specs.Elem.{gf256}
+use Rattle.symbol.proofs.Working.{working, minus-one-is}
 use Rattle.columns.specs.Columns.{Differences}
 use Rattle.columns.proofs.Steps.{differences-none, differences-end, first-in, columns-next}
 use Rattle.columns.proofs.differences.Statement.{statement}
 use Rattle.columns.proofs.differences.Tie as tie
 
 abbrev Inv-loop : tie.InvT-loop
-Inv-loop out₀ v m i points q₀ out q = (q ≤ m) × (length out ≡ length out₀) × Differences v points i q out
+Inv-loop out₀ v m i points q₀ out q = (q ≤ m) × (length out ≡ length out₀) × Differences gf256 v points i q out
 
 abbrev μ-loop : tie.MeasureT-loop
 μ-loop out₀ v m i points q₀ out q = m - q
@@ -18,10 +20,10 @@ pub differences-spec : {M : Type 1} → statement M
 differences-spec =
     tie.close (tie.spec Inv-loop μ-loop
     (λ c κs. search first-in)
-    (λ c. (omega arith, search needs, search differences-none))
+    (λ c. (omega arith, search needs, search (differences-none working, minus-one-is)))
     (λ c κs. (search columns-next, omega arith, omega arith, search needs))
     (λ c. omega arith)
     (λ c. omega arith)
     (λ c. (omega arith, search needs, search needs))
     (λ c. search needs)
-    (λ c. search differences-end))
+    (λ c. search (differences-end working)))

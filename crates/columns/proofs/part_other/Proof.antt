@@ -1,4 +1,5 @@
 use Prim.Native.Nat.{_-_}
+use Rattle.symbol.proofs.Working.{working}
 use Rattle.columns.proofs.Steps.{differences-skip, differences-more, first-in, point-in, point-fits}
 use borrow.Author.Needs.{needs}
 use Rattle.columns.proofs.part_other.Statement.{statement}
@@ -7,9 +8,9 @@ use Rattle.columns.proofs.part_other.Tie as tie
 pub part-other-spec : {M : Type 1} → statement M
 part-other-spec =
     tie.close (tie.spec
-    (λ c. search differences-skip)
+    (λ c. search (differences-skip working))
     (λ c. search point-fits)
     (λ c. search point-fits)
     (λ c κs. (search first-in, search point-in, search point-in))
     (λ c. search needs)
-    (λ c. search differences-more))
+    (λ c. search (differences-more working)))

@@ -3,6 +3,8 @@ use Prim.Native.Nat.{_-_, _≤_}
 use native.Mathlib.Omega.{arith}
 use lib.ListN.{length}
 use borrow.Author.Needs.{needs}
+use Rattle.symbol.specs.Elem.{gf256}
+use Rattle.symbol.proofs.Working.{working}
 use Rattle.columns.specs.Columns.{Solved}
 use Rattle.columns.proofs.Rows.{solved-none, solved-more, solved-end, systems-next, solve-in, carry-in}
 use Rattle.columns.proofs.solve_first.Statement.{statement}
@@ -10,7 +12,7 @@ use Rattle.columns.proofs.solve_first.Tie as tie
 
 abbrev Inv-loop : tie.InvT-loop
 Inv-loop found₀ w v run turns m n sums points coefs₀ row₀ table i₀ found coefs row i =
-    (i ≤ n) × (length found ≡ length found₀) × (length coefs ≡ length coefs₀) × (length row ≡ length row₀) × Solved w v run m sums points found i
+    (i ≤ n) × (length found ≡ length found₀) × (length coefs ≡ length coefs₀) × (length row ≡ length row₀) × Solved gf256 w v run m sums points found i
 
 abbrev μ-loop : tie.MeasureT-loop
 μ-loop found₀ w v run turns m n sums points coefs₀ row₀ table i₀ found coefs row i = n - i
@@ -18,7 +20,7 @@ abbrev μ-loop : tie.MeasureT-loop
 pub solve-first-spec : {M : Type 1} → statement M
 solve-first-spec =
     tie.close (tie.spec Inv-loop μ-loop
-    (λ c. (omega arith, refl, refl, refl, solved-none _ _ _ _ _ _ _))
+    (λ c. (omega arith, refl, refl, refl, solved-none working _ _ _ _ _ _ _))
     (λ c κs.
     let c1 = c .before .before .before in
     let c2 = c1 .before .before .before .before .before .before .before in (
@@ -49,10 +51,10 @@ solve-first-spec =
       search needs,
       search needs,
       search needs,
-      let s = c4 in let a = s .args in let k = c3 .loop in let g = c1 .combine in let f = c2 .coefficients in solved-more (a .w) (a .v) (a .run) (a .m)
+      let s = c4 in let a = s .args in let k = c3 .loop in let g = c1 .combine in let f = c2 .coefficients in solved-more working (a .w) (a .v) (a .run) (a .m)
           (k .i) (a .sums .now) (a .points .now) (f .last .0) (k .found) (g .last .0) (s .pre .0 .columns-low) (k .inv .4) (f .ensures) (g .ensures),
     ))
     (λ c. omega arith)
     (λ c. omega arith)
     (λ c. omega arith)
-    (λ c. search solved-end))
+    (λ c. search (solved-end working)))

@@ -21,7 +21,7 @@ spread-spec =
     (λ c. (omega arith, refl, spread-none _ _ _ _))
     (λ c. search spread-fits)
     (λ c. omega arith)
-    (λ c. omega arith)
+    (λ c κs. omega arith)
     (λ c κs. search spread-in)
     (λ c. omega arith)
     (λ c. omega arith)

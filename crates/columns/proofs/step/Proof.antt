@@ -1,5 +1,6 @@
 use Prim.Native.Nat.{_-_}
 use native.Mathlib.Omega.{arith}
+use Rattle.symbol.proofs.Working.{working}
 use Rattle.columns.proofs.Steps.{grown-skip, grown-more, top-in}
 use borrow.Author.Needs.{needs}
 use Rattle.columns.proofs.step.Statement.{statement}
@@ -7,9 +8,9 @@ use Rattle.columns.proofs.step.Tie as tie
 
 pub step-spec : {M : Type 1} → statement M
 step-spec = tie.close (tie.spec
-    (λ c. search grown-skip)
+    (λ c. search (grown-skip working))
     (λ c κs. search needs)
     (λ c κs. (search needs, search needs, search top-in, omega arith))
     (λ c. search needs)
     (λ c. search needs)
-    (λ c. search grown-more))
+    (λ c. search (grown-more working)))

@@ -3,6 +3,8 @@ use Prim.Native.Nat.{_-_, _≤_}
 use native.Mathlib.Omega.{arith}
 use lib.ListN.{length}
 use borrow.Author.Needs.{needs}
+use Rattle.symbol.specs.Elem.{gf256}
+use Rattle.symbol.proofs.Working.{working}
 use Rattle.group.specs.Inner.{Begun}
 use Rattle.syndrome.proofs.Points.{stair-in, stair-fits}
 use Rattle.group.proofs.Rests.{begin-none, begin-more, begin-end, begin-from, begin-fits, begin-fits-2, begin-fits-3}
@@ -10,7 +12,7 @@ use Rattle.group.proofs.begin_rests.Statement.{statement}
 use Rattle.group.proofs.begin_rests.Tie as tie
 
 abbrev Inv-loop : tie.InvT-loop
-Inv-loop rests₀ w e s a sums m₀ rests m = (m ≤ e) × (length rests ≡ length rests₀) × Begun w m s a sums rests
+Inv-loop rests₀ w e s a sums m₀ rests m = (m ≤ e) × (length rests ≡ length rests₀) × Begun gf256 w m s a sums rests
 
 abbrev μ-loop : tie.MeasureT-loop
 μ-loop rests₀ w e s a sums m₀ rests m = e - m
@@ -18,14 +20,14 @@ abbrev μ-loop : tie.MeasureT-loop
 pub begin-rests-spec : {M : Type 1} → statement M
 begin-rests-spec =
     tie.close (tie.spec Inv-loop μ-loop
-    (λ c. (omega arith, refl, begin-none _ _ _ _ _))
+    (λ c. (omega arith, refl, begin-none working _ _ _ _ _))
     (λ c. search stair-fits)
-    (λ c. search begin-fits-2)
-    (λ c. search begin-fits)
-    (λ c. search begin-fits-3)
-    (λ c κs. (search stair-in, search begin-from))
+    (λ c. search (begin-fits-2 working))
+    (λ c. search (begin-fits working))
+    (λ c. search (begin-fits-3 working))
+    (λ c κs. (search stair-in, search (begin-from working)))
     (λ c. omega arith)
     (λ c. omega arith)
-    (λ c. (omega arith, search needs, search begin-more))
+    (λ c. (omega arith, search needs, search (begin-more working)))
     (λ c. search needs)
-    (λ c. search begin-end))
+    (λ c. search (begin-end working)))

@@ -3,13 +3,15 @@ use Prim.Native.Nat.{_+_, _-_, _<_, _≤_}
 use native.Mathlib.Omega.{arith}
 use lib.ListN.{length}
 use borrow.Author.Needs.{needs}
+use Rattle.symbol.specs.Elem.{gf256}
+use Rattle.symbol.proofs.Working.{working}
 use Rattle.group.specs.Inner.{BlockMended}
 use Rattle.group.proofs.Mend.{space-next, mended-none, mended-more, mended-end}
 use Rattle.group.proofs.mend_block.Statement.{statement}
 use Rattle.group.proofs.mend_block.Tie as tie
 
 abbrev Inv-loop : tie.InvT-loop
-Inv-loop l h lost host w first sums rests₀ found₀ places coefs₀ row₀ cur₀ table spare₀ s a₀ rests found coefs row cur spare a = (a ≤ s) × (length rests ≡ length rests₀) × (length found ≡ length found₀) × (length coefs ≡ length coefs₀) × (length row ≡ length row₀) × (length cur ≡ length cur₀) × (length spare ≡ length spare₀) × BlockMended l h lost host w first sums a spare₀ spare
+Inv-loop l h lost host w first sums rests₀ found₀ places coefs₀ row₀ cur₀ table spare₀ s a₀ rests found coefs row cur spare a = (a ≤ s) × (length rests ≡ length rests₀) × (length found ≡ length found₀) × (length coefs ≡ length coefs₀) × (length row ≡ length row₀) × (length cur ≡ length cur₀) × (length spare ≡ length spare₀) × BlockMended gf256 l h lost host w first sums a spare₀ spare
 
 abbrev μ-loop : tie.MeasureT-loop
 μ-loop l h lost host w first sums rests₀ found₀ places coefs₀ row₀ cur₀ table spare₀ s a₀ rests found coefs row cur spare a = s - a
@@ -19,7 +21,7 @@ mend-block-spec =
     tie.close (tie.spec Inv-loop μ-loop
     (λ c κs. search needs)
     (λ c κs. search needs)
-    (λ c. (omega arith, refl, refl, refl, refl, refl, refl, mended-none _ _ _ _ _ _ _ _))
+    (λ c. (omega arith, refl, refl, refl, refl, refl, refl, mended-none working _ _ _ _ _ _ _ _))
     (λ c κs.
     let c1 = c .before .before .before .before .before .before .before in
     let c2 = c1 .before in
@@ -62,7 +64,7 @@ mend-block-spec =
       c2 .row .given ∙ k .inv .4,
       c1 .cur .given ∙ k .inv .5,
       c .before .spare .given ∙ k .inv .6,
-      mended-more (a .l) (a .h) (a .lost .now) (a .host .now) (a .w) (a .first) (a .sums .now) (a .table .now) (k .a) (a .spare .now) (k .spare) (d .last .1 .1 .1 .1 .1 .1 .1 .1 .1 .1 .1 .1 .1 .1 .1 .0) (s .pre .0) (rw (sym (c9 .digit-count .ensures)) t) (k .inv .7) (d .ensures),
+      mended-more working (a .l) (a .h) (a .lost .now) (a .host .now) (a .w) (a .first) (a .sums .now) (a .table .now) (k .a) (a .spare .now) (k .spare) (d .last .1 .1 .1 .1 .1 .1 .1 .1 .1 .1 .1 .1 .1 .1 .1 .0) (s .pre .0) (rw (sym (c9 .digit-count .ensures)) t) (k .inv .7) (d .ensures),
     ))
     (λ c. search needs)
     (λ c. search needs)
@@ -71,4 +73,4 @@ mend-block-spec =
     (λ c. search needs)
     (λ c. search needs)
     (λ c. search needs)
-    (λ c. search mended-end))
+    (λ c. search (mended-end working)))

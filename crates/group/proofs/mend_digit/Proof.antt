@@ -1,4 +1,5 @@
 use lib.ListN.{length}
+use Rattle.symbol.proofs.Working.{working}
 use Rattle.sums.proofs.Sides.{width-pos}
 use Rattle.group.proofs.Mend.{systems-of, found-in, points-in, digit-mended}
 use borrow.Author.Needs.{needs}
@@ -41,5 +42,5 @@ mend-digit-spec =
     let s = c4 .before .before .before .before .before .before .before .before .before .before .before .before in
     let a = s .args in
     let r = c4 .runs-of .result in
-    digit-mended (a .l) (a .h) (a .lost .now) (a .host .now) (a .w) (a .first) (a .sums .now) (a .a) (r .start) (r .run) (r .count) (r .stride) (a .places .now) (c3 .fill-rests .last .0) (c2 .solve .last .0)
+    digit-mended working (a .l) (a .h) (a .lost .now) (a .host .now) (a .w) (a .first) (a .sums .now) (a .a) (r .start) (r .run) (r .count) (r .stride) (a .places .now) (c3 .fill-rests .last .0) (c2 .solve .last .0)
     (c4 .runs-of .ensures) (s .pre .3) (c3 .fill-rests .ensures) (c2 .solve .ensures) (a .spare .now) (c1 .put-rows .last .0) (c1 .put-rows .ensures)))

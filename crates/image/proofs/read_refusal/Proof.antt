@@ -1,6 +1,8 @@
 use borrow.Author.Needs.{needs}
-use Rattle.image.proofs.Forms.{headed}
-use Rattle.image.proofs.ReadGrounds.{read-1, read-9-short, read-9-layout, read-9-form, read-10, read-11-layout, read-11-volume, read-0}
+use Rattle.image.proofs.Editions.{proper1}
+use Rattle.image.proofs.Forms.{formed-reads}
+use Rattle.image.proofs.ReadGrounds.{read-1}
+use Rattle.image.proofs.First.{part-9, part-formed}
 use Rattle.image.proofs.read_refusal.Statement.{statement}
 use Rattle.image.proofs.read_refusal.Tie as tie
 
@@ -9,16 +11,7 @@ read-refusal-spec =
     tie.close (tie.spec
     (λ c κs. search needs)
     (λ c. search read-1)
-    (λ c. search read-9-short)
     (λ c κs. search needs)
-    (λ c κs. search needs)
-    (λ c. search read-9-layout)
-    (λ c κs. search headed)
-    (λ c. search read-9-form)
-    (λ c κs. search needs)
-    (λ c. search read-10)
-    (λ c κs. search needs)
-    (λ c. search read-11-layout)
-    (λ c κs. search needs)
-    (λ c. search read-11-volume)
-    (λ c. search read-0))
+    (λ c. search part-9)
+    (λ c κs. formed-reads _ _ _ proper1 (c .before .well-formed .ensures) (c .if2 .left))
+    (λ c. search part-formed))

@@ -2,13 +2,15 @@ use mathlib.Core.Path.{_≡_, refl}
 use Prim.Native.Nat.{_-_, _≤_}
 use native.Mathlib.Omega.{arith}
 use lib.ListN.{length, length-set}
+use borrow.Author.Needs.{needs}
+use Rattle.symbol.specs.Elem.{gf256}
 use Rattle.kernel.specs.Runs.{Run, added}
 use Rattle.kernel.proofs.Runs.{run-none, run-end, add-more}
 use Rattle.kernel.proofs.add.Statement.{statement}
 use Rattle.kernel.proofs.add.Tie as tie
 
 abbrev Inv-loop : tie.InvT-loop
-Inv-loop out₀ to len src from j₀ out j = (j ≤ len) × (length out ≡ length out₀) × Run (added out₀ to src from) out₀ out to j
+Inv-loop out₀ to len src from j₀ out j = (j ≤ len) × (length out ≡ length out₀) × Run (added gf256 out₀ to src from) out₀ out to j
 
 abbrev μ-loop : tie.MeasureT-loop
 μ-loop out₀ to len src from j₀ out j = len - j
@@ -21,6 +23,10 @@ add-spec =
     (λ c. omega arith)
     (λ c. omega arith)
     (λ c. omega arith)
+    -- twin: (λ c. omega arith)
+    -- twin: (λ c. omega arith)
+    (λ c κs. search needs)
+    -- twin: (λ c. omega arith)
     (λ c. omega arith)
     (λ c. omega arith)
     (λ c. omega arith)

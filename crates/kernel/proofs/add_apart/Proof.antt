@@ -2,6 +2,8 @@ use mathlib.Core.Path.{_≡_, refl}
 use Prim.Native.Nat.{_-_, _≤_}
 use native.Mathlib.Omega.{arith}
 use lib.ListN.{length, length-set}
+use borrow.Author.Needs.{needs}
+use Rattle.symbol.specs.Elem.{gf256}
 use Rattle.kernel.specs.Runs.{Run, addedApart}
 use Rattle.kernel.proofs.Runs.{run-none, run-end}
 use Rattle.kernel.proofs.Apart.{add-apart-more}
@@ -9,7 +11,7 @@ use Rattle.kernel.proofs.add_apart.Statement.{statement}
 use Rattle.kernel.proofs.add_apart.Tie as tie
 
 abbrev Inv-loop : tie.InvT-loop
-Inv-loop out₀ to len src from gap n j₀ out j = (j ≤ len) × (length out ≡ length out₀) × Run (addedApart out₀ to src from gap n) out₀ out to j
+Inv-loop out₀ to len src from gap n j₀ out j = (j ≤ len) × (length out ≡ length out₀) × Run (addedApart gf256 out₀ to src from gap n) out₀ out to j
 
 abbrev μ-loop : tie.MeasureT-loop
 μ-loop out₀ to len src from gap n j₀ out j = len - j
@@ -21,7 +23,10 @@ add-apart-spec =
     (λ c. omega arith)
     (λ c. omega arith)
     (λ c. omega arith)
+    -- twin: (λ c. omega arith)
     (λ c κs. omega arith)
+    (λ c κs. search needs)
+    -- twin: (λ c. omega arith)
     (λ c. omega arith)
     (λ c. omega arith)
     (λ c. omega arith)

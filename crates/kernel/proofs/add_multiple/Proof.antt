@@ -3,13 +3,14 @@ use Prim.Native.Nat.{_-_, _≤_}
 use native.Mathlib.Omega.{arith}
 use lib.ListN.{length, length-set}
 use borrow.Author.Needs.{needs}
+use Rattle.symbol.specs.Elem.{gf256}
 use Rattle.kernel.specs.Runs.{Run, addedMultiple}
 use Rattle.kernel.proofs.Runs.{run-none, run-end, multiple-more}
 use Rattle.kernel.proofs.add_multiple.Statement.{statement}
 use Rattle.kernel.proofs.add_multiple.Tie as tie
 
 abbrev Inv-loop : tie.InvT-loop
-Inv-loop out₀ to len src from v j₀ out j = (j ≤ len) × (length out ≡ length out₀) × Run (addedMultiple out₀ to src from v) out₀ out to j
+Inv-loop out₀ to len src from v j₀ out j = (j ≤ len) × (length out ≡ length out₀) × Run (addedMultiple gf256 out₀ to src from v) out₀ out to j
 
 abbrev μ-loop : tie.MeasureT-loop
 μ-loop out₀ to len src from v j₀ out j = len - j
@@ -22,7 +23,11 @@ add-multiple-spec =
     (λ c. omega arith)
     (λ c. omega arith)
     (λ c. omega arith)
+    -- twin: (λ c. omega arith)
+    -- twin: (λ c. omega arith)
     (λ c κs. search needs)
+    (λ c κs. search needs)
+    -- twin: (λ c. omega arith)
     (λ c. omega arith)
     (λ c. omega arith)
     (λ c. omega arith)

@@ -23,6 +23,8 @@ copy-spec =
     (λ c. omega arith)
     (λ c. omega arith)
     (λ c. omega arith)
+    -- twin: (λ c. omega arith)
+    -- twin: (λ c. omega arith)
     (λ c. (omega arith, simp length-set (omega arith), search copy-more))
     (λ c. omega arith)
     (λ c. search run-end))

@@ -21,6 +21,7 @@ fill-spec =
     (λ c. omega arith)
     (λ c. omega arith)
     (λ c. omega arith)
+    -- twin: (λ c. omega arith)
     (λ c. (omega arith, simp length-set (omega arith), search fill-more))
     (λ c. omega arith)
     (λ c. search run-end))

@@ -1,14 +1,16 @@
 use mathlib.Core.Path.{_≡_, refl}
-use Prim.Native.Nat.{_+_, _-_, _≤_}
+use Prim.Native.Nat.{_-_, _≤_}
 use native.Mathlib.Omega.{arith}
 use lib.ListN.{length, length-set}
+use borrow.Author.Needs.{needs}
+use Rattle.symbol.specs.Elem.{gf256}
 use Rattle.kernel.specs.Runs.{Run, lookedUp}
 use Rattle.kernel.proofs.Runs.{run-none, run-end, look-more}
 use Rattle.kernel.proofs.look_up.Statement.{statement}
 use Rattle.kernel.proofs.look_up.Tie as tie
 
 abbrev Inv-loop : tie.InvT-loop
-Inv-loop out₀ to len table j₀ out j = (j ≤ len) × (length out ≡ length out₀) × Run (lookedUp out₀ to table) out₀ out to j
+Inv-loop out₀ to len table j₀ out j = (j ≤ len) × (length out ≡ length out₀) × Run (lookedUp gf256 out₀ to table) out₀ out to j
 
 abbrev μ-loop : tie.MeasureT-loop
 μ-loop out₀ to len table j₀ out j = len - j
@@ -19,8 +21,11 @@ look-up-spec =
     (λ c. (omega arith, refl, run-none _ _ _))
     (λ c. omega arith)
     (λ c. omega arith)
-    (λ c. let i = c .before .before .before .args .to + c .before .before .loop .j in record { fits = omega (arith, c .slice-known .given i) })
-    (λ c. let i = c .before .before .before .before .args .to + c .before .before .before .loop .j in omega (arith, c .before .slice-known .given i))
+    -- twin: (λ c. omega arith)
+    (λ c κs. search needs)
+    -- twin: (λ c. omega arith)
+    -- twin: (λ c. omega arith)
+    (λ c. omega arith)
     (λ c. omega arith)
     (λ c. omega arith)
     (λ c. omega arith)

@@ -3,13 +3,14 @@ use Prim.Native.Nat.{_-_, _≤_}
 use native.Mathlib.Omega.{arith}
 use lib.ListN.{length, length-set}
 use borrow.Author.Needs.{needs}
+use Rattle.symbol.specs.Elem.{gf256}
 use Rattle.kernel.specs.Runs.{Run, parted}
 use Rattle.kernel.proofs.Runs.{run-none, run-end, part-more}
 use Rattle.kernel.proofs.part.Statement.{statement}
 use Rattle.kernel.proofs.part.Tie as tie
 
 abbrev Inv-loop : tie.InvT-loop
-Inv-loop out₀ to len src a b j₀ out j = (j ≤ len) × (length out ≡ length out₀) × Run (parted out₀ to src a b) out₀ out to j
+Inv-loop out₀ to len src a b j₀ out j = (j ≤ len) × (length out ≡ length out₀) × Run (parted gf256 out₀ to src a b) out₀ out to j
 
 abbrev μ-loop : tie.MeasureT-loop
 μ-loop out₀ to len src a b j₀ out j = len - j
@@ -24,7 +25,12 @@ part-spec =
     (λ c. omega arith)
     (λ c. omega arith)
     (λ c. omega arith)
+    -- twin: (λ c. omega arith)
+    -- twin: (λ c. omega arith)
+    -- twin: (λ c. omega arith)
     (λ c κs. search needs)
+    (λ c κs. search needs)
+    -- twin: (λ c. omega arith)
     (λ c. omega arith)
     (λ c. omega arith)
     (λ c. omega arith)

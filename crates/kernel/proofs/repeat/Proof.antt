@@ -23,6 +23,8 @@ repeat-spec =
     (λ c. omega arith)
     (λ c. omega arith)
     (λ c. omega arith)
+    -- twin: (λ c. omega arith)
+    -- twin: (λ c. omega arith)
     (λ c. (omega arith, simp length-set (omega arith), search repeat-more))
     (λ c. omega arith)
     (λ c. search run-end))

@@ -19,7 +19,9 @@ sample-spec =
     tie.close (tie.spec Inv-loop μ-loop
     (λ c. (omega arith, refl, run-none _ _ _))
     (λ c. let e : c .before .loop .j * c .before .before .args .step < length (c .before .before .args .src .now) = search sample-in in omega arith)
+    -- twin: (λ c. let e : c .before .loop .j * c .before .before .args .step < length (c .before .before .args .src .now) = search sample-in in omega arith)
     (λ c. search sample-in)
+    -- twin: (λ c. omega arith)
     (λ c. omega arith)
     (λ c. omega arith)
     (λ c. omega arith)

@@ -3,13 +3,14 @@ use Prim.Native.Nat.{_-_, _≤_}
 use native.Mathlib.Omega.{arith}
 use lib.ListN.{length, length-set}
 use borrow.Author.Needs.{needs}
+use Rattle.symbol.specs.Elem.{gf256}
 use Rattle.kernel.specs.Runs.{Run, copied, shifted}
 use Rattle.kernel.proofs.Runs.{run-none, run-end, shift-more, carry-more}
 use Rattle.kernel.proofs.shift.Statement.{statement}
 use Rattle.kernel.proofs.shift.Tie as tie
 
 abbrev Inv-loop : tie.InvT-loop
-Inv-loop out₀ to len carry₀ by at j₀ out carry j = (j ≤ len) × (length out ≡ length out₀) × (length carry ≡ length carry₀) × Run (shifted out₀ to carry₀ by at) out₀ out to j × Run (copied out₀ to) carry₀ carry 0 j
+Inv-loop out₀ to len carry₀ by at j₀ out carry j = (j ≤ len) × (length out ≡ length out₀) × (length carry ≡ length carry₀) × Run (shifted gf256 out₀ to carry₀ by at) out₀ out to j × Run (copied out₀ to) carry₀ carry 0 j
 
 abbrev μ-loop : tie.MeasureT-loop
 μ-loop out₀ to len carry₀ by at j₀ out carry j = len - j
@@ -23,7 +24,13 @@ shift-spec =
     (λ c. omega arith)
     (λ c. omega arith)
     (λ c. omega arith)
+    -- twin: (λ c. omega arith)
+    -- twin: (λ c. omega arith)
+    -- twin: (λ c. omega arith)
     (λ c κs. search needs)
+    (λ c κs. search needs)
+    -- twin: (λ c. omega arith)
+    -- twin: (λ c. omega arith)
     (λ c. omega arith)
     (λ c. omega arith)
     (λ c. omega arith)

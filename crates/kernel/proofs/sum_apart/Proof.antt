@@ -2,6 +2,8 @@ use mathlib.Core.Path.{_≡_}
 use Prim.Native.Nat.{_+_, _-_, _*_, _<_, _≤_}
 use native.Mathlib.Omega.{arith}
 use lib.ListN.{length}
+use borrow.Author.Needs.{needs}
+use Rattle.symbol.specs.Elem.{gf256}
 use Rattle.kernel.specs.Runs.{sumApart}
 use Rattle.kernel.proofs.Spaced.{place-in}
 use Rattle.kernel.proofs.Apart.{apart-none, apart-more, apart-end}
@@ -9,14 +11,14 @@ use Rattle.kernel.proofs.sum_apart.Statement.{statement}
 use Rattle.kernel.proofs.sum_apart.Tie as tie
 
 abbrev Inv-loop : tie.InvT-loop
-Inv-loop src at gap n v₀ b₀ v b = (b ≤ n) × (v ≡ sumApart src at gap b)
+Inv-loop src at gap n v₀ b₀ v b = (b ≤ n) × (v ≡ sumApart gf256 src at gap b)
 
 abbrev μ-loop : tie.MeasureT-loop
 μ-loop src at gap n v₀ b₀ v b = n - b
 
 -- the place read in a turn
-read-in : (c : tie.In-loop Inv-loop μ-loop) → let a = c .before .before .args in a .at + c .before .loop .b * a .gap < length (a .src .now)
-read-in c = let a = c .before .before .args in place-in (a .src .now) (a .at) (a .gap) (c .before .loop .b) (a .n) (c .before .before .pre) (c .loop-test .taken)
+read-in : (c : tie.In-loop Inv-loop μ-loop) → let a = c .before .before .before .args in a .at + c .before .loop .b * a .gap < length (a .src .now)
+read-in c = let a = c .before .before .before .args in place-in (a .src .now) (a .at) (a .gap) (c .before .loop .b) (a .n) (c .before .before .before .pre) (c .loop-test .taken)
 
 pub sum-apart-spec : {M : Type 1} → statement M
 sum-apart-spec =
@@ -24,7 +26,9 @@ sum-apart-spec =
     (λ c. (omega arith, search apart-none))
     (λ c. omega (arith, read-in c))
     (λ c. omega (arith, read-in c))
+    -- twin: (λ c. omega (arith, read-in c))
     (λ c. read-in (c .before))
+    (λ c κs. search needs)
     (λ c. omega arith)
     (λ c. omega arith)
     (λ c. (omega arith, search apart-more))

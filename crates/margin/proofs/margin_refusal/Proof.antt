@@ -1,6 +1,5 @@
 use borrow.Author.Needs.{needs}
-use Rattle.layout.proofs.Facts.{admitted-so}
-use Rattle.margin.proofs.Grounds.{margin-1, margin-2, margin-3, margin-0}
+use Rattle.margin.proofs.Grounds.{cabinet-so, margin-1, margin-2, margin-3, margin-0}
 use Rattle.margin.proofs.margin_refusal.Statement.{statement}
 use Rattle.margin.proofs.margin_refusal.Tie as tie
 
@@ -9,7 +8,7 @@ margin-refusal-spec =
     tie.close (tie.spec
     (λ c κs. search needs)
     (λ c. search margin-1)
-    (λ c κs. search admitted-so)
+    (λ c κs. search cabinet-so)
     (λ c. search needs)
     (λ c. search margin-2)
     (λ c κs. search needs)

@@ -1,5 +1,5 @@
-use mathlib.Core.Path.{_∙_}
-use native.Mathlib.Omega.{arith}
+use Rattle.symbol.specs.Elem.{gf256}
+use Rattle.symbol.proofs.Working.{working}
 use Rattle.pieces.proofs.Blocks.{summing-of, mending-of, space-of}
 use Rattle.group.proofs.Mend.{mended-piece}
 use borrow.Author.Needs.{needs}
@@ -19,15 +19,15 @@ block-sums-requires : tie.Need-block-sums-requires
 block-sums-requires c κs =
     let s = c .before .before .before .before .before .before .before .before .before .before .before .before .before .before .before .before .before .before .before .before .before .before in
     let a = s .args in
-    (summing-of (a .l) (a .lost .now) (a .helpers .now) (a .shares .now) (a .host .now) (a .w) (a .first) (a .spare .now) (a .sums .now) (a .sides .now) (a .found .now) (a .points .now) (a .coefs .now) (a .row .now) (a .cur .now) (s .pre .0) (s .pre .1) (s .pre .2) (s .pre .3), s .pre .4)
+    (summing-of (gf256 .order) (a .l) (a .lost .now) (a .helpers .now) (a .shares .now) (a .host .now) (a .w) (a .first) (a .spare .now) (a .sums .now) (a .sides .now) (a .found .now) (a .points .now) (a .coefs .now) (a .row .now) (a .cur .now) (s .pre .0) (s .pre .1) (s .pre .2) (s .pre .3), s .pre .4)
 
 mend-block-requires : tie.Need-mend-block-requires
 mend-block-requires c κs =
     let s = c .before .before .before .before .before .before .before .before .before .before .before .before .before .before .before .before .before .before .before .before .before .before .before .before .before .before .before .before .before .before .before .before .before .before .before .before .before .before .before .before .before .before .before .before .before in
     let a = s .args in
     let k = c .before .before .before .before .before .before .before .before .before .before .before .before .before .before .before .before .before .before .before .before .before .before .block-sums .kept in (
-      mending-of (a .l) (a .lost .now) (a .helpers .now) (a .shares .now) (a .host .now) (a .w) (a .first) (a .spare .now) (a .sums .now) (a .sides .now) (a .found .now) (a .points .now) (a .coefs .now) (a .row .now) (a .cur .now) (s .pre .0) (s .pre .1) (s .pre .2) (s .pre .3) _ _ (k .0) (s .pre .4),
-      space-of (a .l) (a .lost .now) (a .helpers .now) (a .shares .now) (a .host .now) (a .w) (a .first) (a .spare .now) (a .sums .now) (a .sides .now) (a .found .now) (a .points .now) (a .coefs .now) (a .row .now) (a .cur .now) (s .pre .0) (s .pre .1) (s .pre .2) (s .pre .3) _ _ _ _ _ _ (k .1 .1 .1 .1 .1 .1 .1 .1 .0) (k .1 .1 .1 .1 .1 .1 .1 .1 .1 .0) (k .1 .1 .1 .1 .1 .1 .1 .1 .1 .1 .0) (k .1 .1 .1 .1 .1 .1 .1 .1 .1 .1 .1 .0) (k .1 .1 .1 .1 .1 .1 .1 .1 .1 .1 .1 .1 .0) (k .1 .1 .1 .1 .1 .1 .1 .1 .1 .1 .1 .1 .1 .0),
+      mending-of (gf256 .order) (a .l) (a .lost .now) (a .helpers .now) (a .shares .now) (a .host .now) (a .w) (a .first) (a .spare .now) (a .sums .now) (a .sides .now) (a .found .now) (a .points .now) (a .coefs .now) (a .row .now) (a .cur .now) (s .pre .0) (s .pre .1) (s .pre .2) (s .pre .3) gf256 _ _ (k .0) (s .pre .4),
+      space-of (gf256 .order) (a .l) (a .lost .now) (a .helpers .now) (a .shares .now) (a .host .now) (a .w) (a .first) (a .spare .now) (a .sums .now) (a .sides .now) (a .found .now) (a .points .now) (a .coefs .now) (a .row .now) (a .cur .now) (s .pre .0) (s .pre .1) (s .pre .2) (s .pre .3) _ _ _ _ _ _ (k .1 .1 .1 .1 .1 .1 .1 .1 .0) (k .1 .1 .1 .1 .1 .1 .1 .1 .1 .0) (k .1 .1 .1 .1 .1 .1 .1 .1 .1 .1 .0) (k .1 .1 .1 .1 .1 .1 .1 .1 .1 .1 .1 .0) (k .1 .1 .1 .1 .1 .1 .1 .1 .1 .1 .1 .1 .0) (k .1 .1 .1 .1 .1 .1 .1 .1 .1 .1 .1 .1 .1 .0),
       s .pre .0 .spare-long,
     )
 
@@ -59,8 +59,8 @@ returns : tie.Need-returns
 returns c =
     let s = c .before .before .before .before .before .before .before .before .before .before .before .before .before .before .before .before .before .before .before .before .before .before .before .before .before .before .before .before .before .before .before .before .before .before .before .before .before .before .before .before .before .before .before .before .before .before .before .before .before .before .before .before .before .before .before .before .before .before .before .before in
     let a = s .args in
-    mended-piece (a .l) (a .lost .now) (a .helpers .now) (a .shares .now) (a .host .now) (a .w) (a .first) _ (s .pre .0 .adm) (s .pre .0 .losses) (s .pre .1 .block) (s .pre .1 .inside)
-    (c .before .before .before .before .before .before .before .before .before .before .before .before .before .before .before .before .before .before .before .before .before .before .before .before .before .before .before .before .before .before .before .before .before .before .before .before .before .block-sums .ensures) (a .spare .now) _ (record { at = λ i h. omega (arith, c .slice-known22 .given i) }) (c .before .before .before .before .before .before .before .before .before .before .before .before .before .before .mend-block .ensures .long ∙ s .pre .0 .spare-long) (c .before .before .before .before .before .before .before .before .before .before .before .before .before .before .mend-block .ensures)
+    mended-piece working (a .l) (a .lost .now) (a .helpers .now) (a .shares .now) (a .host .now) (a .w) (a .first) _ (s .pre .0 .adm) (s .pre .0 .losses) (s .pre .1 .block) (s .pre .1 .inside)
+    (c .before .before .before .before .before .before .before .before .before .before .before .before .before .before .before .before .before .before .before .before .before .before .before .before .before .before .before .before .before .before .before .before .before .before .before .before .before .block-sums .ensures) (a .spare .now) _ (c .before .before .before .before .before .before .before .before .before .before .before .before .before .before .mend-block .ensures)
 
 pub mend-block-spec : {M : Type 1} → statement M
 mend-block-spec =

@@ -20,7 +20,7 @@ cast-row-count : tie.Need-cast-row-count Inv-loop μ-loop
 cast-row-count c = search needs
 
 row-count-requires : tie.Need-row-count-requires Inv-loop μ-loop
-row-count-requires c κs = let p = c .before .before .before .before .before .before .before .before .before .before .before .before .before .pre .0 in (p .adm, p .losses .few)
+row-count-requires c κs = let p = c .before .before .before .before .before .before .before .before .before .before .before .before .before .pre .0 in (p .adm .cabinet, p .losses .few)
 
 loop-holds : tie.Need-loop-holds Inv-loop μ-loop
 loop-holds c = (omega arith, refl, refl, refl, refl, refl, refl, refl, piece-none _ _ _ _ _ _ _ _)
@@ -32,7 +32,7 @@ sub-block-at : tie.Need-sub-block-at Inv-loop μ-loop
 sub-block-at c = search needs
 
 block-at-requires : tie.Need-block-at-requires Inv-loop μ-loop
-block-at-requires c κs = let p = c .before .before .before .before .before .before .before .before .before .before .before .before .before .before .before .before .pre .0 in (p .adm, omega arith, omega (arith, p .within, groups-under (c .before .before .before .before .before .before .before .before .before .before .before .before .before .before .before .before .args .l)), c .before .before .row-count .ensures .few)
+block-at-requires c κs = let p = c .before .before .before .before .before .before .before .before .before .before .before .before .before .before .before .before .pre .0 in (p .adm .cabinet, omega arith, omega (arith, p .within, groups-under (c .before .before .before .before .before .before .before .before .before .before .before .before .before .before .before .before .args .l)), c .before .before .row-count .ensures .few)
 
 add-mend-block : tie.Need-add-mend-block Inv-loop μ-loop
 add-mend-block c = search needs
@@ -43,7 +43,7 @@ mend-block-requires c κs =
     let a = s .args in
     let o = c .before .before .before .before .before .before .before .before .before .before .loop in
     let w = c .before .before .before .before .before .before .before .before .block-at in (
-      piecing-next (a .l) (a .lost .now) (a .helpers .now) (a .shares .now) (a .host .now) (a .first) (a .count) (o .k) (w .result) (a .spare .now) _ (s .pre .0) (omega (arith, w .ensures .1 .within)) (o .inv .8 .long),
+      piecing-next (gf256 .order) (a .l) (a .lost .now) (a .helpers .now) (a .shares .now) (a .host .now) (a .first) (a .count) (o .k) (w .result) (a .spare .now) _ (s .pre .0) (omega (arith, w .ensures .1 .within)) (o .inv .8 .long),
       groups-of (a .l) (a .first + o .k) (a .count - o .k) _ (w .result) (omega (arith, s .pre .0 .within)) (w .ensures .0) (w .ensures .1),
       fitting-of (a .l) (length (a .lost .now)) _ _ _ _ (c .before .before .before .before .before .before .before .before .before .before .before .row-count .ensures) (w .ensures .1),
       rooms-next (a .sums .now) (a .sides .now) (a .found .now) (a .points .now) (a .coefs .now) (a .row .now) (a .cur .now) _ _ _ _ _ _ _ (s .pre .1) (o .inv .1) (o .inv .2) (o .inv .3) (o .inv .4) (o .inv .5) (o .inv .6) (o .inv .7),

@@ -1,7 +1,8 @@
-use Prim.Native.Nat.{_+_, _*_, _≤_}
+use Prim.Native.Nat.{_+_, _*_, _<_, _≤_}
 use native.Mathlib.Omega.{arith}
 use lib.ListN.{length}
 use borrow.Author.Needs.{needs}
+use Rattle.symbol.specs.Elem.{gf256}
 use Rattle.layout.specs.Layout.{trayLimit, layerLimit}
 use Rattle.reading.proofs.Grounds.{Accepted, the-ground, refused-part, facts, spare-part, codeword-part, run-end, run-high}
 use Rattle.reading.proofs.read_part.Statement.{statement}
@@ -10,12 +11,12 @@ use Rattle.reading.proofs.read_part.Tie as tie
 abbrev Given : tie.Else1 → Type 0
 Given c =
     let a = c .before .before .before .before .before .before .args in
-    Accepted (a .l) (length (a .codeword .now)) (length (a .spare .now)) (a .lost .0) (a .done) (a .tray .0) (a .first) (a .end)
+    Accepted (gf256 .order) (a .l) (length (a .codeword .now)) (length (a .spare .now)) (a .lost .0) (a .done) (a .tray .0) (a .first) (a .end)
 
 given : (c : tie.Else1) → Given c
 given c =
     let a = c .before .before .before .before .before .before .args in
-    facts (a .l) (a .codeword .now) (a .spare .now) (a .lost .0) (a .done) (a .tray .0) (a .first) (a .end) _ _ _ (c .before .before .before .number .ensures)
+    facts (gf256 .order) (a .l) (a .codeword .now) (a .spare .now) (a .lost .0) (a .done) (a .tray .0) (a .first) (a .end) _ _ _ (c .before .before .before .number .ensures)
     (c .before .before .number2 .ensures) (c .before .refusal .ensures) (c .if1 .left)
 
 spare-end : (c : tie.Else1) → c .before .before .before .before .before .before .args .end ≤ length (c .before .before .before .before .before .before .args .spare .now)
@@ -39,18 +40,20 @@ read-part-spec =
     (λ c κs. search needs)
     (λ c. search needs)
     (λ c. search needs)
-    (λ c. (search refused-part, search the-ground))
+    (λ c. (search (refused-part (gf256 .order)), search (the-ground (gf256 .order))))
+    -- twin: (λ c. search needs)
     (λ c. given (c .before) .readable .rises)
     (λ c. given (c .before) .readable .rises)
     (λ c. spare-end (c .before))
-    (λ c. (search spare-part, search the-ground))
+    (λ c. (search (spare-part (gf256 .order)), search (the-ground (gf256 .order))))
     (λ c. search needs)
     (λ c κs. given (c .before) .readable .adm)
     (λ c. search needs)
     (λ c. record { fits = omega (arith, high c) })
     (λ c. let g = given (c .before .before) in record { fits = omega (arith, high c, g .readable .rises) })
     (λ c. record { fits = omega (arith, high c) })
+    -- twin: (λ c. let g = given (c .before .before) in record { fits = omega (arith, high c, g .readable .rises) })
     (λ c. let g = given (c .before .before) in omega (arith, g .readable .rises))
     (λ c. let g = given (c .before .before) in omega (arith, g .readable .rises))
     (λ c. codeword-end c)
-    (λ c. (search codeword-part, search the-ground)))
+    (λ c. (search (codeword-part (gf256 .order)), search (the-ground (gf256 .order)))))

@@ -1,45 +1,34 @@
 use mathlib.Core.Path.{_≡_, sym, _∙_}
 use Prim.Native.Nat.{_-_}
 use native.Mathlib.Omega.{arith}
-use lib.ListN.{length}
 use borrow.Author.Needs.{needs}
 use borrow.Author.Tests.{not-true, not-false}
-use Rattle.recover.specs.Recover.{recoverRefusal}
+use Rattle.symbol.specs.Elem.{gf256}
+use Rattle.symbol.proofs.Working.{working}
 use Rattle.restore.proofs.Says.{says-true, says-false}
+use Rattle.recover.specs.Recover.{recoverRefusal}
 use Rattle.recover.proofs.Grounds.{recoverable}
 use Rattle.recover.proofs.Answers.{answer-refused, answer-none, answer-done, told}
 use Rattle.recover.proofs.recover.Statement.{statement}
 use Rattle.recover.proofs.recover.Tie as tie
 
-none : (c : tie.Else1) → let a = c .before .before .before .before .args in recoverRefusal (a .l) (a .erased .now) (length (a .c .now)) ≡ 0
+none : (c : tie.Else1) → let a = c .before .before .before .before .before .args in recoverRefusal gf256 (a .l) (a .erased .now) (a .c .now) ≡ 0
 none c = sym (c .before .refusal .ensures) ∙ c .if1 .left
 
 pub recover-spec : {M : Type 1} → statement M
 recover-spec =
     tie.close (tie.spec
     (λ c κs. search needs)
-    (λ c. let a = c .before .before .before .before .args in answer-refused (a .l) (a .erased .now) (a .c .now) _ (c .before .refusal .ensures) (c .if1 .taken))
-    (λ c κs. recoverable _ _ _ (none c) .adm)
-    (λ c κs. let a = c .before .before .before .before .before .before .args in told (a .l) (a .erased .now) (a .c .now) (none (c .before .before)) _ (c .before .layer-count .ensures))
+    (λ c. search needs)
+    (λ c. let a = c .before .before .before .before .before .args in answer-refused working (a .l) (a .erased .now) (a .c .now) _ (c .before .refusal .ensures) (c .if1 .taken))
+    (λ c κs. recoverable working _ _ _ (none c) .adm .cabinet)
+    (λ c κs. let p = c .before .before in let a = p .before .before .before .before .before .args in (told working (a .l) (a .erased .now) (a .c .now) (none p) _ (c .before .layer-count .ensures), recoverable working _ _ _ (none p) .adm))
     (λ c. search needs)
     (λ c.
-    let tested = c .before in
-    let passed = tested .before .before .before in
-    let a = passed .before .before .before .before .args in
-    answer-none (a .l) (a .erased .now) (a .c .now) (none passed)
-    (says-false (tested .all-fit .result) (not-true (tested .all-fit .result) (c .if2 .taken)) (tested .all-fit .ensures)))
-    (λ c κs.
-    let counted = c .before .before .before .before in
-    let passed = counted .before in
-    let a = passed .before .before .before .before .args in
-    told (a .l) (a .erased .now) (a .c .now) (none passed) _ (counted .layer-count .ensures))
+    let t = c .before .all-fit in let p = c .before .before .before .before in let a = p .before .before .before .before .before .args in
+    answer-none working (a .l) (a .erased .now) (a .c .now) (none p) (says-false (t .result) (not-true (t .result) (c .if2 .taken)) (t .ensures)))
+    (λ c κs. let p = c .before .before .before .before .before in let a = p .before .before .before .before .before .args in told working (a .l) (a .erased .now) (a .c .now) (none p) _ (c .before .before .before .before .layer-count .ensures))
     (λ c. search needs)
     (λ c.
-    let fit = c .before .before .before .before in
-    let tested = fit .before in
-    let passed = tested .before .before .before in
-    let entered = passed .before .before .before in
-    let a = entered .before .args in
-    answer-done (a .l) (a .erased .now) (a .c .now) (none passed) _ (record { at = λ i h. omega (arith, entered .slice-known .given i) })
-    (record { at = λ i h. omega (arith, c .slice-known2 .given i) })
-    (says-true (tested .all-fit .result) (not-false (tested .all-fit .result) (fit .if2 .left)) (tested .all-fit .ensures)) (c .before .before .restore .ensures)))
+    let s = c .before .before .before .before in let t = s .before .all-fit in let p = c .before .before .before .before .before .before .before .before in let a = p .before .before .before .before .before .args in
+    answer-done working (a .l) (a .erased .now) (a .c .now) (none p) _ (says-true (t .result) (not-false (t .result) (s .if2 .left)) (t .ensures)) (c .before .before .restore .ensures)))

@@ -4,6 +4,7 @@ use native.Mathlib.Omega.{arith}
 use lib.ListN.{length}
 use borrow.Author.Needs.{needs}
 use Rattle.lists.proofs.Numbers.{mul-below}
+use Rattle.symbol.specs.Elem.{gf256}
 use Rattle.layout.specs.Layout.{trayLimit, layerLimit, groups}
 use Rattle.layout.proofs.Facts.{bounds}
 use Rattle.repair.specs.Repair.{repairRefusal}
@@ -16,19 +17,19 @@ use Rattle.repair.proofs.repair_many.Tie as tie
 -- no ground was found
 none : (c : tie.Else1) →
     let a = c .before .before .before .before .before .before .before .before .args in
-    repairRefusal (a .l) (a .lost .now) (a .helpers .now) (length (a .shares .now)) (length (a .host .now)) (length (a .spare .now)) (a .first) ≡ 0
+    repairRefusal gf256 (a .l) (a .lost .now) (a .helpers .now) (a .shares .now) (a .host .now) (length (a .spare .now)) (a .first) (a .budget) ≡ 0
 none c = sym (c .before .refusal .ensures) ∙ c .if1 .left
 
 given : (c : tie.Else1) →
     let a = c .before .before .before .before .before .before .before .before .args in
-    Repairable (a .l) (a .lost .now) (a .helpers .now) (length (a .shares .now)) (length (a .host .now)) (length (a .spare .now)) (a .first)
-given c = let a = c .before .before .before .before .before .before .before .before .args in repairable (a .l) (a .lost .now) (a .helpers .now) (length (a .shares .now)) (length (a .host .now)) (length (a .spare .now)) (a .first) (none c)
+    Repairable (gf256 .order) (a .l) (a .lost .now) (a .helpers .now) (length (a .shares .now)) (length (a .host .now)) (length (a .spare .now)) (a .first)
+given c = let a = c .before .before .before .before .before .before .before .before .args in repairable gf256 (a .l) (a .lost .now) (a .helpers .now) (a .shares .now) (a .host .now) (length (a .spare .now)) (a .first) (a .budget) (none c)
 
 first-in : (c : tie.After-group-count) → c .before .before .before .before .before .before .before .before .before .args .first ≤ c .group-count .result
 first-in c = omega (arith, c .group-count .ensures, given (c .before) .first-in)
 
 high : (c : tie.After-group-count) → c .group-count .result ≤ layerLimit
-high c = let b = bounds _ (given (c .before) .adm) in omega (arith, c .group-count .ensures)
+high c = let b = bounds _ (given (c .before) .adm .cabinet) in omega (arith, c .group-count .ensures)
 
 pub repair-many-spec : {M : Type 1} → statement M
 repair-many-spec =
@@ -36,21 +37,21 @@ repair-many-spec =
     (λ c. search needs)
     (λ c κs. search needs)
     (λ c. record { refused = c .before .refusal .ensures; ground = omega (arith, c .if1 .taken); kept = refl })
-    (λ c κs. given c .adm)
+    (λ c κs. given c .adm .cabinet)
     (λ c. search needs)
     (λ c. first-in c)
     (λ c κs. search needs)
     (λ c. omega (arith, first-in (c .before), high (c .before)))
     (λ c. omega (arith, c .smaller .ensures, high (c .before)))
-    (λ c κs. piecing-of _ _ _ _ _ _ _ _ (given (c .before .before .before)) (omega (arith, c .before .smaller .ensures, c .before .before .group-count .ensures, first-in (c .before .before))))
+    (λ c κs. piecing-of _ _ _ _ _ _ _ _ _ (given (c .before .before .before)) (omega (arith, c .before .smaller .ensures, c .before .before .group-count .ensures, first-in (c .before .before))))
     (λ c.
-    let b = bounds _ (given (c .before .before .before .before .before .before) .adm) in
-    record { fits = mul-below trayLimit layerLimit (omega (arith, given (c .before .before .before .before .before .before) .adm .helpers-high)) (omega (arith, c .before .before .before .before .smaller .ensures, high (c .before .before .before .before .before))) tt })
+    let b = bounds _ (given (c .before .before .before .before .before .before) .adm .cabinet) in
+    record { fits = mul-below trayLimit layerLimit (omega (arith, given (c .before .before .before .before .before .before) .adm .cabinet .helpers-high)) (omega (arith, c .before .before .before .before .smaller .ensures, high (c .before .before .before .before .before))) tt })
     (λ c. record { fits = crossing-in (given (c .before .before .before .before .before .before)) _ (omega (arith, c .before .before .before .before .smaller .ensures, high (c .before .before .before .before .before))) })
     (λ c. search needs)
     (λ c.
-    let b = bounds _ (given (c .before .before .before .before .before .before) .adm) in
-    record { fits = mul-below trayLimit layerLimit (omega (arith, given (c .before .before .before .before .before .before) .adm .helpers-high)) (omega (arith, high (c .before .before .before .before .before))) tt })
+    let b = bounds _ (given (c .before .before .before .before .before .before) .adm .cabinet) in
+    record { fits = mul-below trayLimit layerLimit (omega (arith, given (c .before .before .before .before .before .before) .adm .cabinet .helpers-high)) (omega (arith, high (c .before .before .before .before .before))) tt })
     (λ c. record { fits = crossing-in (given (c .before .before .before .before .before .before)) _ (omega (arith, high (c .before .before .before .before .before))) })
     (λ c. search needs)
     (λ c.

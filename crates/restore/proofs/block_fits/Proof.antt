@@ -1,6 +1,7 @@
 use mathlib.Core.Path.{_≡_, refl, _∙_}
 use Prim.Native.Nat.{_-_}
 use lib.ListN.{length}
+use Rattle.symbol.proofs.Working.{working}
 use Rattle.syndrome.proofs.Terms.{room-next}
 use Rattle.restore.proofs.Fits.{block-says}
 use Rattle.restore.proofs.Room.{space-next, room-all, found-few, all-in, all-fits}
@@ -45,6 +46,6 @@ block-fits-spec =
     let c4 = c3 .before .before .before .before .before .before .before .before .before .before .before .before in
     let c5 = c4 .before .before .before .before in
     let c6 = c5 .before .before .before .before .before .before .before .before .before .before in
-    block-says (c6 .args .l) (c6 .args .w) (c6 .args .first) (c6 .args .total) (c5 .check-count .result) (c6 .args .es .now) (c6 .args .c .now)
+    block-says working (c6 .args .l) (c6 .args .w) (c6 .args .first) (c6 .args .total) (c5 .check-count .result) (c6 .args .es .now) (c6 .args .c .now)
     (c4 .sum-kept .last .0) (c3 .solve-block .last .0) (c2 .found-terms .last .0) (c6 .pre .3) (c5 .check-count .ensures) (c4 .sum-kept .ensures)
-    (c3 .solve-block .ensures) (c2 .found-terms .ensures) (c1 .slice-known14 .given) (c .all-zero .result) (c .all-zero .ensures)))
+    (c3 .solve-block .ensures) (c2 .found-terms .ensures) (c .all-zero .result) (c .all-zero .ensures)))

@@ -4,10 +4,11 @@ use native.Mathlib.Omega.{arith}
 use lib.ListN.{length}
 use borrow.Author.Needs.{needs}
 use borrow.Author.Tests.{not-true, not-false}
+use Rattle.symbol.proofs.Working.{working}
 use Rattle.symbol.specs.Elem.{gf256}
 use Rattle.restore.specs.Restored.{LayerFits}
 use Rattle.restore.proofs.Says.{says-true, says-false}
-use Rattle.syndrome.proofs.Blocks.{start-fits, width-pos, count-whole, block-of}
+use Rattle.blocks.proofs.Whole.{start-fits, width-pos, count-whole, block-of}
 use Rattle.restore.proofs.Room.{space-next, space-as, count-fits}
 use Rattle.restore.proofs.Fits.{fit-more, fit-end, fit-block}
 use Rattle.restore.proofs.blocks_fit.Statement.{statement}
@@ -49,7 +50,7 @@ blocks-fit-spec =
     let c4 = c3 .before in
     let c5 = c4 .before .before .before .before .before .before .before .before .before .before in
     λ all. let a = c5 .args in says-false (c1 .block-fits .result) (not-true (c1 .block-fits .result) (c .if1 .taken)) (c1 .block-fits .ensures)
-    (fit-block (a .l) (c4 .block-width .result) (c3 .loop .q) (a .es .now) (a .c .now) ((block-of (a .l) (a .e) (c4 .block-width .result) (a .total)
+    (fit-block working (a .l) (c4 .block-width .result) (c3 .loop .q) (a .es .now) (a .c .now) ((block-of (a .l) (a .e) (c4 .block-width .result) (a .total)
     (c5 .pre .1 .adm) (c5 .pre .0) (c4 .block-width .ensures) (c5 .pre .1 .total-is) (c3 .loop .q) (c2 .loop-test .taken)) .inside) all))
     (λ c.
     let c1 = c .before .before .before .before .before .before .before .before .before .before .before .before .before .before .before .before .before .before .before .before in
@@ -59,11 +60,11 @@ blocks-fit-spec =
     count-fits (c4 .args .l) (c4 .args .total) (c3 .block-width .result) (c2 .loop .q) (c4 .args .es .now) (c4 .args .c .now) (c4 .pre .1)
     (c1 .loop-test .taken))
     (λ c. omega arith)
-    (λ c. (omega (arith, c .before .before .before .before .before .before .before .before .before .before .before .before .before .before .before .before .before .before .before .before .loop-test .taken), search needs, search needs, search needs, search needs, search needs, search needs, let a = c .before .before .before .before .before .before .before .before .before .before .before .before .before .before .before .before .before .before .before .before .before .before .before .before .before .before .before .before .before .before .before .before .args in fit-more (a .l) (c .before .before .before .before .before .before .before .before .before .before .before .before .before .before .before .before .before .before .before .before .before .before .block-width .result) (c .before .before .before .before .before .before .before .before .before .before .before .before .before .before .before .before .before .before .before .before .before .loop .q) (a .es .now) (a .c .now) (c .before .before .before .before .before .before .before .before .before .before .before .before .before .before .before .before .before .before .before .before .before .loop .inv .7) (says-true (c .before .before .before .before .before .before .before .before .before .before .before .before .before .block-fits .result) (not-false (c .before .before .before .before .before .before .before .before .before .before .before .before .before .block-fits .result) (c .if1 .left)) (c .before .before .before .before .before .before .before .before .before .before .before .before .before .block-fits .ensures))))
+    (λ c. (omega (arith, c .before .before .before .before .before .before .before .before .before .before .before .before .before .before .before .before .before .before .before .before .loop-test .taken), search needs, search needs, search needs, search needs, search needs, search needs, let a = c .before .before .before .before .before .before .before .before .before .before .before .before .before .before .before .before .before .before .before .before .before .before .before .before .before .before .before .before .before .before .before .before .args in fit-more working (a .l) (c .before .before .before .before .before .before .before .before .before .before .before .before .before .before .before .before .before .before .before .before .before .before .block-width .result) (c .before .before .before .before .before .before .before .before .before .before .before .before .before .before .before .before .before .before .before .before .before .loop .q) (a .es .now) (a .c .now) (c .before .before .before .before .before .before .before .before .before .before .before .before .before .before .before .before .before .before .before .before .before .loop .inv .7) (says-true (c .before .before .before .before .before .before .before .before .before .before .before .before .before .block-fits .result) (not-false (c .before .before .before .before .before .before .before .before .before .before .before .before .before .block-fits .result) (c .if1 .left)) (c .before .before .before .before .before .before .before .before .before .before .before .before .before .block-fits .ensures))))
     (λ c. search needs)
     (λ c. search needs)
     (λ c. search needs)
     (λ c. search needs)
     (λ c. search needs)
     (λ c. search needs)
-    (λ c. let a = c .before .before .before .before .before .before .before .before .before .before .before .before .args in fit-end (a .l) (c .before .before .block-width .result) (c .before .loop .q) (a .total / c .before .before .block-width .result) (a .es .now) (a .c .now) (c .before .loop .inv .7) (c .before .loop .inv .0) (omega arith) (count-whole (a .l) (a .e) (c .before .before .block-width .result) (a .total) (c .before .before .before .before .before .before .before .before .before .before .before .before .pre .1 .adm) (c .before .before .before .before .before .before .before .before .before .before .before .before .pre .0) (c .before .before .block-width .ensures) (c .before .before .before .before .before .before .before .before .before .before .before .before .pre .1 .total-is))))
+    (λ c. let a = c .before .before .before .before .before .before .before .before .before .before .before .before .args in fit-end working (a .l) (c .before .before .block-width .result) (c .before .loop .q) (a .total / c .before .before .block-width .result) (a .es .now) (a .c .now) (c .before .loop .inv .7) (c .before .loop .inv .0) (omega arith) (count-whole (a .l) (a .e) (c .before .before .block-width .result) (a .total) (c .before .before .before .before .before .before .before .before .before .before .before .before .pre .1 .adm) (c .before .before .before .before .before .before .before .before .before .before .before .before .pre .0) (c .before .before .block-width .ensures) (c .before .before .before .before .before .before .before .before .before .before .before .before .pre .1 .total-is))))

@@ -1,5 +1,6 @@
 use mathlib.Core.Path.{refl}
 use Prim.Native.Nat.{_-_}
+use Rattle.symbol.proofs.Working.{working}
 use Rattle.restore.proofs.Put.{cells-of, block-restored}
 use Rattle.restore.proofs.Room.{space-next, room-few, found-next}
 use borrow.Author.Needs.{needs}
@@ -31,6 +32,6 @@ restore-block-spec =
     let c2 = c1 .before .before .before .before .before .before .before .before .before .before .before in
     let c3 = c2 .before .before .before .before .before .before .before .before .before .before .before .before in
     let c4 = c3 .before .before .before .before .before .before .before .before .before .before .before .before .before .before in
-    block-restored (c4 .args .l) (c4 .args .total) (c4 .args .w) (c4 .args .first) (c4 .args .es .now) (c4 .args .c .now) (c3 .sum-kept .last .0)
+    block-restored working (c4 .args .l) (c4 .args .total) (c4 .args .w) (c4 .args .first) (c4 .args .es .now) (c4 .args .c .now) (c3 .sum-kept .last .0)
     (c2 .solve-block .last .0) (c1 .put-block .last .0) (c4 .pre .0) (c4 .pre .3) (c3 .sum-kept .ensures) (c2 .solve-block .ensures)
     (c1 .put-block .ensures)))

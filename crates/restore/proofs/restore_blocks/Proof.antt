@@ -3,15 +3,17 @@ use Prim.Native.Nat.{_-_, _*_, _/_, _≤_}
 use native.Mathlib.Omega.{arith}
 use lib.ListN.{length}
 use borrow.Author.Needs.{needs}
+use Rattle.symbol.specs.Elem.{gf256}
+use Rattle.symbol.proofs.Working.{working}
 use Rattle.restore.specs.Restored.{RestoredTo}
-use Rattle.syndrome.proofs.Blocks.{start-fits, width-pos, count-whole, block-of}
+use Rattle.blocks.proofs.Whole.{start-fits, width-pos, count-whole, block-of}
 use Rattle.restore.proofs.Put.{restored-none, restored-more, restored-end}
 use Rattle.restore.proofs.Room.{space-next, space-as, erasing-next, count-fits}
 use Rattle.restore.proofs.restore_blocks.Statement.{statement}
 use Rattle.restore.proofs.restore_blocks.Tie as tie
 
 abbrev Inv-loop : tie.InvT-loop
-Inv-loop c₀ l total e es sums₀ found₀ points₀ coefs₀ row₀ cur₀ table w count q₀ c sums found points coefs row cur q = (q ≤ count) × (length c ≡ length c₀) × (length sums ≡ length sums₀) × (length found ≡ length found₀) × (length points ≡ length points₀) × (length coefs ≡ length coefs₀) × (length row ≡ length row₀) × (length cur ≡ length cur₀) × RestoredTo l es c₀ (q * w) c
+Inv-loop c₀ l total e es sums₀ found₀ points₀ coefs₀ row₀ cur₀ table w count q₀ c sums found points coefs row cur q = (q ≤ count) × (length c ≡ length c₀) × (length sums ≡ length sums₀) × (length found ≡ length found₀) × (length points ≡ length points₀) × (length coefs ≡ length coefs₀) × (length row ≡ length row₀) × (length cur ≡ length cur₀) × RestoredTo gf256 l es c₀ (q * w) c
 
 abbrev μ-loop : tie.MeasureT-loop
 μ-loop c₀ l total e es sums₀ found₀ points₀ coefs₀ row₀ cur₀ table w count q₀ c sums found points coefs row cur q = count - q
@@ -24,7 +26,7 @@ restore-blocks-spec =
     let c1 = c .before .before .before .before .before .before .before .before .before .before in
     width-pos (c1 .args .l) (c1 .args .e) (c .block-width .result) (c1 .args .total) (c1 .pre .1 .adm) (c1 .pre .0) (c .block-width .ensures)
     (c1 .pre .1 .total-is))
-    (λ c. (omega arith, refl, refl, refl, refl, refl, refl, refl, restored-none _ _ _ _))
+    (λ c. (omega arith, refl, refl, refl, refl, refl, refl, refl, restored-none working _ _ _ _))
     (λ c.
     let c1 = c .before in
     let c2 = c1 .before in
@@ -42,7 +44,7 @@ restore-blocks-spec =
     count-fits (c4 .args .l) (c4 .args .total) (c3 .block-width .result) (c2 .loop .q) (c4 .args .es .now) (c4 .args .c .now) (c4 .pre .1)
     (c1 .loop-test .taken))
     (λ c. omega arith)
-    (λ c. (omega (arith, c .before .before .before .before .before .before .before .before .before .before .before .before .before .before .before .before .before .before .before .before .before .before .loop-test .taken), search needs, search needs, search needs, search needs, search needs, search needs, search needs, let a = c .before .before .before .before .before .before .before .before .before .before .before .before .before .before .before .before .before .before .before .before .before .before .before .before .before .before .before .before .before .before .before .before .before .before .args in restored-more (a .l) (a .es .now) (a .c .now) (c .before .before .before .before .before .before .before .before .before .before .before .before .before .before .before .before .before .before .before .before .before .before .before .before .block-width .result) (c .before .before .before .before .before .before .before .before .before .before .before .before .before .before .before .before .before .before .before .before .before .before .before .loop .q) (c .before .before .before .before .before .before .before .before .before .before .before .before .before .before .before .before .before .before .before .before .before .before .before .loop .c) (c .before .before .before .before .before .before .before .before .before .before .before .before .before .before .restore-block .last .0) (c .before .before .before .before .before .before .before .before .before .before .before .before .before .before .before .before .before .before .before .before .before .before .before .before .before .before .before .before .before .before .before .before .before .before .pre .1 .listed .places) ((block-of (a .l) (a .e) (c .before .before .before .before .before .before .before .before .before .before .before .before .before .before .before .before .before .before .before .before .before .before .before .before .block-width .result) (a .total) (c .before .before .before .before .before .before .before .before .before .before .before .before .before .before .before .before .before .before .before .before .before .before .before .before .before .before .before .before .before .before .before .before .before .before .pre .1 .adm) (c .before .before .before .before .before .before .before .before .before .before .before .before .before .before .before .before .before .before .before .before .before .before .before .before .before .before .before .before .before .before .before .before .before .before .pre .0) (c .before .before .before .before .before .before .before .before .before .before .before .before .before .before .before .before .before .before .before .before .before .before .before .before .block-width .ensures) (c .before .before .before .before .before .before .before .before .before .before .before .before .before .before .before .before .before .before .before .before .before .before .before .before .before .before .before .before .before .before .before .before .before .before .pre .1 .total-is) (c .before .before .before .before .before .before .before .before .before .before .before .before .before .before .before .before .before .before .before .before .before .before .before .loop .q) (c .before .before .before .before .before .before .before .before .before .before .before .before .before .before .before .before .before .before .before .before .before .before .loop-test .taken)) .inside) (c .before .before .before .before .before .before .before .before .before .before .before .before .before .before .before .before .before .before .before .before .before .before .before .loop .inv .8) (c .before .before .before .before .before .before .before .before .before .before .before .before .before .before .restore-block .ensures)))
+    (λ c. (omega (arith, c .before .before .before .before .before .before .before .before .before .before .before .before .before .before .before .before .before .before .before .before .before .before .loop-test .taken), search needs, search needs, search needs, search needs, search needs, search needs, search needs, let a = c .before .before .before .before .before .before .before .before .before .before .before .before .before .before .before .before .before .before .before .before .before .before .before .before .before .before .before .before .before .before .before .before .before .before .args in restored-more working (a .l) (a .es .now) (a .c .now) (c .before .before .before .before .before .before .before .before .before .before .before .before .before .before .before .before .before .before .before .before .before .before .before .before .block-width .result) (c .before .before .before .before .before .before .before .before .before .before .before .before .before .before .before .before .before .before .before .before .before .before .before .loop .q) (c .before .before .before .before .before .before .before .before .before .before .before .before .before .before .before .before .before .before .before .before .before .before .before .loop .c) (c .before .before .before .before .before .before .before .before .before .before .before .before .before .before .restore-block .last .0) (c .before .before .before .before .before .before .before .before .before .before .before .before .before .before .before .before .before .before .before .before .before .before .before .before .before .before .before .before .before .before .before .before .before .before .pre .1 .listed .places) ((block-of (a .l) (a .e) (c .before .before .before .before .before .before .before .before .before .before .before .before .before .before .before .before .before .before .before .before .before .before .before .before .block-width .result) (a .total) (c .before .before .before .before .before .before .before .before .before .before .before .before .before .before .before .before .before .before .before .before .before .before .before .before .before .before .before .before .before .before .before .before .before .before .pre .1 .adm) (c .before .before .before .before .before .before .before .before .before .before .before .before .before .before .before .before .before .before .before .before .before .before .before .before .before .before .before .before .before .before .before .before .before .before .pre .0) (c .before .before .before .before .before .before .before .before .before .before .before .before .before .before .before .before .before .before .before .before .before .before .before .before .block-width .ensures) (c .before .before .before .before .before .before .before .before .before .before .before .before .before .before .before .before .before .before .before .before .before .before .before .before .before .before .before .before .before .before .before .before .before .before .pre .1 .total-is) (c .before .before .before .before .before .before .before .before .before .before .before .before .before .before .before .before .before .before .before .before .before .before .before .loop .q) (c .before .before .before .before .before .before .before .before .before .before .before .before .before .before .before .before .before .before .before .before .before .before .loop-test .taken)) .inside) (c .before .before .before .before .before .before .before .before .before .before .before .before .before .before .before .before .before .before .before .before .before .before .before .loop .inv .8) (c .before .before .before .before .before .before .before .before .before .before .before .before .before .before .restore-block .ensures)))
     (λ c. search needs)
     (λ c. search needs)
     (λ c. search needs)
@@ -50,4 +52,4 @@ restore-blocks-spec =
     (λ c. search needs)
     (λ c. search needs)
     (λ c. search needs)
-    (λ c. let a = c .before .before .before .before .before .before .before .before .before .before .before .before .args in restored-end (a .l) (a .es .now) (a .c .now) (c .before .before .block-width .result) (c .before .loop .q) (a .total / c .before .before .block-width .result) (c .before .loop .c) (c .before .loop .inv .8) (c .before .loop .inv .0) (omega arith) (count-whole (a .l) (a .e) (c .before .before .block-width .result) (a .total) (c .before .before .before .before .before .before .before .before .before .before .before .before .pre .1 .adm) (c .before .before .before .before .before .before .before .before .before .before .before .before .pre .0) (c .before .before .block-width .ensures) (c .before .before .before .before .before .before .before .before .before .before .before .before .pre .1 .total-is))))
+    (λ c. let a = c .before .before .before .before .before .before .before .before .before .before .before .before .args in restored-end working (a .l) (a .es .now) (a .c .now) (c .before .before .block-width .result) (c .before .loop .q) (a .total / c .before .before .block-width .result) (c .before .loop .c) (c .before .loop .inv .8) (c .before .loop .inv .0) (omega arith) (count-whole (a .l) (a .e) (c .before .before .block-width .result) (a .total) (c .before .before .before .before .before .before .before .before .before .before .before .before .pre .1 .adm) (c .before .before .before .before .before .before .before .before .before .before .before .before .pre .0) (c .before .before .block-width .ensures) (c .before .before .before .before .before .before .before .before .before .before .before .before .pre .1 .total-is))))

@@ -1,5 +1,6 @@
 use Prim.Native.Nat.{_-_}
 use native.Mathlib.Omega.{arith}
+use Rattle.symbol.proofs.Working.{working}
 use Rattle.restore.proofs.Runs.{columns-of}
 use Rattle.restore.proofs.Solve.{systems-of, points-room, found-of}
 use borrow.Author.Needs.{needs}
@@ -25,4 +26,4 @@ solve-block-spec =
     (λ c. search needs)
     (λ c. search needs)
     (λ c. let s = c .before .before .before .before .before .before .before .before .before .before .before .before .before .before .before .before .before .before .before .before .before .before .before .before .before .before in let a = s .args in let y = c .before .before .before .before .before .before .before .before .before .before .before .before .before .before .before .before .before .before .cycle-of in let r = y .result in let p = c .before .before .before .before .before .before .before .before .before .before .before .before .before .before .before .listed-points in let f = c .before .before .before .before .before .before .solve in
-    found-of (a .l) (a .w) (a .first) (a .es .now) (a .e) (r .run) (r .columns) (r .turns) (a .sums .now) (p .last .0) (f .last .0) (s .pre .0) (s .pre .2) (y .ensures) (p .ensures) (f .ensures)))
+    found-of working (a .l) (a .w) (a .first) (a .es .now) (a .e) (r .run) (r .columns) (r .turns) (a .sums .now) (p .last .0) (f .last .0) (s .pre .0) (s .pre .2) (y .ensures) (p .ensures) (f .ensures)))

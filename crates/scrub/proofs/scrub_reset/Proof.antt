@@ -39,6 +39,7 @@ use denote.Triple.Clauses.{ensured, lasts}
 use denote.Triple.Table.{entered, cited}
 use denote.Triple.Walked.{says, Stays, stay-ref, stay-none, walkOf, goes-none, goes-ref, Walks, ends-at, walked, walk-meets}
 use denote.Exit.{yes}
+use Rattle.symbol.specs.Elem.{gf256}
 use Rattle.layout.specs.declared.Layout.{Layout}
 use Rattle.layout.proofs.Layout as L
 use Rattle.layout.proofs.Layout.Laws as L′
@@ -93,7 +94,7 @@ module _ {M : Type 1} (𝓤 : URA M) (H : Heap 𝓤) (A : Atoms 𝓤) (W : Given
   to = ((tt, tt, tt, (l, (h, tt)), (ml ∷ [], (mach h ∷ [], tt))), tt)
 
   abbrev found : Scrubbed
-  found = begun l h
+  found = begun (gf256 .order) l h
 
   module _ (is-l : Is L.the-row l (ml ∷ [])) where
     goes : Is T.the-row h (mach h ∷ []) → ent 𝓤 (sem 𝓤 H A ftrue) (Reset 𝓤 H A at-mem run .pre to)

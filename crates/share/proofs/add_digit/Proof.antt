@@ -1,13 +1,15 @@
 use Prim.Native.Nat.{_+_, _-_, _*_, _<_, _≤_}
 use native.Mathlib.Omega.{arith}
 use lib.ListN.{length}
+use Rattle.symbol.specs.Elem.{gf256}
+use Rattle.symbol.proofs.Working.{working}
 use Rattle.share.specs.Inner.{AcrossAdded}
 use Rattle.share.proofs.Runs.{period-in, first-in, across-sums, across-tray, across-none, across-more, across-end}
 use Rattle.share.proofs.add_digit.Statement.{statement}
 use Rattle.share.proofs.add_digit.Tie as tie
 
 abbrev Inv-loop : tie.InvT-loop
-Inv-loop s run count a symbols sums₀ i₀ sums i = (i ≤ run) × AcrossAdded s run count a i symbols sums₀ sums
+Inv-loop s run count a symbols sums₀ i₀ sums i = (i ≤ run) × AcrossAdded gf256 s run count a i symbols sums₀ sums
 
 abbrev μ-loop : tie.MeasureT-loop
 μ-loop s run count a symbols sums₀ i₀ sums i = run - i
@@ -22,7 +24,7 @@ period c = let a = c .before .before .before .before .args in period-in (a .s) (
 pub add-digit-spec : {M : Type 1} → statement M
 add-digit-spec =
     tie.close (tie.spec Inv-loop μ-loop
-    (λ c. (omega arith, across-none _ _ _ _ _ _))
+    (λ c. (omega arith, across-none working _ _ _ _ _ _))
     (λ c. omega (arith, first (c .before), period (c .before)))
     (λ c. omega (arith, first (c .before), period (c .before)))
     (λ c. omega (arith, period (c .before)))
@@ -36,6 +38,6 @@ add-digit-spec =
     ))
     (λ c. omega arith)
     (λ c. omega arith)
-    (λ c. (omega arith, search across-more))
+    (λ c. (omega arith, search (across-more working)))
     (λ c. c .before .loop .inv .1 .same)
-    (λ c. search across-end))
+    (λ c. search (across-end working)))

@@ -1,4 +1,5 @@
 use borrow.Author.Needs.{needs}
+use Rattle.symbol.proofs.Working.{working}
 use Rattle.layout.proofs.Facts.{bounds}
 use Rattle.share.proofs.Parts.{sums-only}
 use Rattle.share.proofs.add_later.Statement.{statement}
@@ -10,12 +11,12 @@ add-later-spec =
     (λ c. search needs)
     (λ c κs.
     let p = c .before .before .before .pre .0 in
-    (record { adm = p .adm; long = p .long; room = bounds _ (p .adm) .groups-high; host-in = p .host-in }, c .before .before .before .pre .1))
+    (record { adm = p .adm; long = p .long; room = bounds _ (p .adm .cabinet) .groups-high; host-in = p .host-in }, c .before .before .before .pre .1))
     (λ c. search needs)
     (λ c κs.
     let p = c .before .before .before .before .before .before .before .pre .0 in
-    record { adm = p .adm; long = rw (c .before .before .before .add-sums .ensures .same) (bounds _ (p .adm) .groups-high); room = p .room; some = p .some; few = p .few })
+    record { adm = p .adm .cabinet; long = rw (c .before .before .before .add-sums .ensures .same) (bounds _ (p .adm .cabinet) .groups-high); room = p .room; some = p .some; few = p .few })
     (λ c. search needs)
     (λ c held u.
     let a = c .before .before .before .before .before .before .before .before .before .before .args in
-    c .before .before .add-weighted .ensures (a .h) (a .symbols .now) held (sums-only (a .l) (a .h) 4096 (a .symbols .now) _ (bounds _ (c .before .before .before .before .before .before .before .before .before .before .pre .0 .adm) .groups-high) (c .before .before .before .before .before .before .add-sums .ensures)) u))
+    c .before .before .add-weighted .ensures (a .h) (a .symbols .now) held (sums-only working (a .l) (a .h) 4096 (a .symbols .now) _ (bounds _ (c .before .before .before .before .before .before .before .before .before .before .pre .0 .adm .cabinet) .groups-high) (c .before .before .before .before .before .before .add-sums .ensures)) u))

@@ -1,4 +1,5 @@
 use borrow.Author.Needs.{needs}
+use Rattle.symbol.proofs.Working.{working}
 use Rattle.share.proofs.Runs.{same-digits, same-runs}
 use Rattle.share.proofs.add_long.Statement.{statement}
 use Rattle.share.proofs.add_long.Tie as tie
@@ -8,13 +9,13 @@ add-long-spec =
     tie.close (tie.spec
     (λ c κs. search same-runs)
     (λ c. search needs)
-    (λ c. search same-digits)
+    (λ c. search (same-digits working))
     (λ c κs. search same-runs)
     (λ c. search needs)
-    (λ c. search same-digits)
+    (λ c. search (same-digits working))
     (λ c κs. search same-runs)
     (λ c. search needs)
-    (λ c. search same-digits)
+    (λ c. search (same-digits working))
     (λ c κs. search needs)
     (λ c. search needs)
     (λ c. search needs))

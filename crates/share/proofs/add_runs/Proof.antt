@@ -2,13 +2,15 @@ use mathlib.Core.List.{List}
 use Prim.Native.Nat.{ℕ, _+_, _-_, _*_, _≤_}
 use native.Mathlib.Omega.{arith}
 use lib.ListN.{length}
+use Rattle.symbol.specs.Elem.{gf256}
+use Rattle.symbol.proofs.Working.{working}
 use Rattle.share.specs.Inner.{DigitsAdded}
 use Rattle.share.proofs.Runs.{sums-run, tray-runs, one-run, tray-number, runs-none, runs-more, runs-end}
 use Rattle.share.proofs.add_runs.Statement.{statement}
 use Rattle.share.proofs.add_runs.Tie as tie
 
 abbrev Inv-loop : tie.InvT-loop
-Inv-loop s run count symbols sums₀ q₀ sums q = (q ≤ count) × DigitsAdded s run q s symbols sums₀ sums
+Inv-loop s run count symbols sums₀ q₀ sums q = (q ≤ count) × DigitsAdded gf256 s run q s symbols sums₀ sums
 
 abbrev μ-loop : tie.MeasureT-loop
 μ-loop s run count symbols sums₀ q₀ sums q = count - q
@@ -36,13 +38,13 @@ lies c =
 pub add-runs-spec : {M : Type 1} → statement M
 add-runs-spec =
     tie.close (tie.spec Inv-loop μ-loop
-    (λ c. (omega arith, runs-none _ _ _ _))
+    (λ c. (omega arith, runs-none working _ _ _ _))
     (λ c. let r = lies (c .before) in omega arith)
     (λ c. let r = lies (c .before) in omega arith)
     (λ c. let r = lies (c .before) in omega arith)
     (λ c κs. let r = lies (c .before) in let e = c .before .before .loop .inv .1 .same in (omega arith, omega arith, omega arith))
     (λ c. omega arith)
     (λ c. omega arith)
-    (λ c. (omega arith, search runs-more))
+    (λ c. (omega arith, search (runs-more working)))
     (λ c. c .before .loop .inv .1 .same)
-    (λ c. search runs-end))
+    (λ c. search (runs-end working)))

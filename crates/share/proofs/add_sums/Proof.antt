@@ -1,4 +1,6 @@
 use borrow.Author.Needs.{needs}
+use Rattle.symbol.specs.Elem.{gf256}
+use Rattle.symbol.proofs.Working.{working}
 use Rattle.share.proofs.Sums.{runs-of, summed}
 use Rattle.share.proofs.add_sums.Statement.{statement}
 use Rattle.share.proofs.add_sums.Tie as tie
@@ -9,18 +11,18 @@ add-sums-spec =
     (λ c κs.
     let a = c .before .before .before .before .args in
     let p = c .before .before .before .before .pre in
-    runs-of (a .l) (a .h) (a .r .digits) (a .r .length) (a .r .count) (p .0 .adm) (p .0 .host-in) (p .1) (a .symbols .now) (a .sums .now) (p .0))
+    runs-of (a .l) (a .h) (a .r .digits) (a .r .length) (a .r .count) (p .0 .adm .cabinet) (p .0 .host-in) (p .1) (gf256 .order) (a .symbols .now) (a .sums .now) (p .0))
     (λ c. search needs)
     (λ c.
     let a = c .before .before .before .before .before .before .before .args in
     let p = c .before .before .before .before .before .before .before .pre in
-    summed (a .l) (a .h) (a .r .digits) (a .r .length) (a .r .count) (p .0 .adm) (p .0 .host-in) (p .1) (a .symbols .now) (a .sums .now) _ (c .before .before .add-across .ensures))
+    summed (a .l) (a .h) (a .r .digits) (a .r .length) (a .r .count) (p .0 .adm .cabinet) (p .0 .host-in) (p .1) working (p .0 .adm) (a .symbols .now) (a .sums .now) _ (c .before .before .add-across .ensures))
     (λ c κs.
     let a = c .before .before .before .before .args in
     let p = c .before .before .before .before .pre in
-    runs-of (a .l) (a .h) (a .r .digits) (a .r .length) (a .r .count) (p .0 .adm) (p .0 .host-in) (p .1) (a .symbols .now) (a .sums .now) (p .0))
+    runs-of (a .l) (a .h) (a .r .digits) (a .r .length) (a .r .count) (p .0 .adm .cabinet) (p .0 .host-in) (p .1) (gf256 .order) (a .symbols .now) (a .sums .now) (p .0))
     (λ c. search needs)
     (λ c.
     let a = c .before .before .before .before .before .before .before .args in
     let p = c .before .before .before .before .before .before .before .pre in
-    summed (a .l) (a .h) (a .r .digits) (a .r .length) (a .r .count) (p .0 .adm) (p .0 .host-in) (p .1) (a .symbols .now) (a .sums .now) _ (c .before .before .add-long .ensures)))
+    summed (a .l) (a .h) (a .r .digits) (a .r .length) (a .r .count) (p .0 .adm .cabinet) (p .0 .host-in) (p .1) working (p .0 .adm) (a .symbols .now) (a .sums .now) _ (c .before .before .add-long .ensures)))

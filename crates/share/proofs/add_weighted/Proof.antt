@@ -5,7 +5,9 @@ use native.Mathlib.Nat.{mod-lt}
 use native.Mathlib.Omega.{arith}
 use lib.ListN.{length, getD}
 use borrow.Author.Needs.{needs}
-use Rattle.symbol.specs.Elem.{elem}
+use Rattle.symbol.specs.Elem.{gf256}
+use Rattle.symbol.proofs.Working.{working}
+use Rattle.symbol.specs.Elem.{gf256}
 use Rattle.layout.specs.Layout.{groups}
 use Rattle.layout.proofs.Facts.{bounds, size-pos}
 use Rattle.share.specs.Inner.{sumAt, Added}
@@ -17,7 +19,7 @@ use Rattle.share.proofs.add_weighted.Tie as tie
 abbrev Inv-loop : tie.InvT-loop
 Inv-loop l count x sums shares₀ u total m₀ shares m =
     (1 ≤ m) × (m ≤ count) × (length shares ≡ length shares₀)
-    × ((h : ℕ) (symbols held : List ℕ) → ((p : ℕ) → p < groups l → elem (getD sums p 0) ≡ sumAt l h symbols p) → Added l h x symbols held shares₀ 1 → Added l h x symbols held shares m)
+    × ((h : ℕ) (symbols held : List ℕ) → ((p : ℕ) → p < groups l → gf256 .coding .elem (getD sums p 0) ≡ sumAt gf256 l h symbols p) → Added gf256 l h x symbols held shares₀ 1 → Added gf256 l h x symbols held shares m)
 
 abbrev μ-loop : tie.MeasureT-loop
 μ-loop l count x sums shares₀ u total m₀ shares m = count - m
@@ -51,9 +53,9 @@ add-weighted-spec =
       omega arith,
       omega arith,
       c .before .before .add-multiple .ensures .long ∙ c .before .before .before .before .before .before .before .loop .inv .2,
-      λ h symbols held e u. added-more (a .l) h (a .x) (c .before .before .before .before .before .before .before .loop .m) _ _ _ symbols held (a .sums .now) (c .before .before .before .before .before .before .before .loop .shares) _ (c .before .before .before .before .before .before .before .before .group-count .ensures) (c .before .before .before .before .cell .ensures) (c .before .before .before .before .before .place-power .ensures) e (c .before .before .add-multiple .ensures) (c .before .before .before .before .before .before .before .loop .inv .3 h symbols held e u),
+      λ h symbols held e u. added-more working (a .l) h (a .x) (c .before .before .before .before .before .before .before .loop .m) _ _ _ symbols held (a .sums .now) (c .before .before .before .before .before .before .before .loop .shares) _ (c .before .before .before .before .before .before .before .before .group-count .ensures) (c .before .before .before .before .cell .ensures) (c .before .before .before .before .before .place-power .ensures) e (c .before .before .add-multiple .ensures) (c .before .before .before .before .before .before .before .loop .inv .3 h symbols held e u),
     ))
     (λ c. c .before .loop .inv .2)
     (λ c h symbols held e u.
     let a = c .before .before .before .before .before .args in
-    added-end (a .l) h (a .x) (c .before .loop .m) (a .count) symbols held (c .before .loop .shares) (c .before .loop .inv .3 h symbols held e u) (c .before .loop .inv .1) (omega arith)))
+    added-end working (a .l) h (a .x) (c .before .loop .m) (a .count) symbols held (c .before .loop .shares) (c .before .loop .inv .3 h symbols held e u) (c .before .loop .inv .1) (omega arith)))

@@ -2,6 +2,7 @@ use mathlib.Core.Path.{_≡_, sym, ap, _∙_, subst}
 use Prim.Native.Nat.{ℕ, _+_, _-_}
 use native.Mathlib.Omega.{arith}
 use borrow.Author.Needs.{needs}
+use Rattle.symbol.specs.Elem.{gf256}
 use Rattle.lists.specs.Lists.{table}
 use Rattle.layout.specs.Layout.{layers}
 use Rattle.layout.proofs.Facts.{dimension-in}
@@ -27,5 +28,5 @@ parity-in-spec =
     (λ c. search needs)
     (λ c.
     let s = c .before .before .before .before .before .before .before .before .before .before .before .before in
-    subst (λ es. RestoredTo (s .args .l) es (s .args .out .now) (layers (s .args .l)) (c .before .before .restore .last .1 .1 .0)) (listed (c .before .before .before .before .before .before .before .before))
+    subst (λ es. RestoredTo gf256 (s .args .l) es (s .args .out .now) (layers (s .args .l)) (c .before .before .restore .last .1 .1 .0)) (listed (c .before .before .before .before .before .before .before .before))
     (c .before .before .restore .ensures)))

@@ -1,3 +1,4 @@
+use Rattle.symbol.proofs.Working.{working}
 use Rattle.sums.proofs.Sides.{block-there, host-there, helper-rack, helper-other, size-under, row-next, room-of, share-added}
 use borrow.Author.Needs.{needs}
 use Rattle.sums.proofs.add_share.Statement.{statement}
@@ -37,7 +38,7 @@ same-length-3 : tie.Need-same-length-3
 same-length-3 c = search needs
 
 returns : tie.Need-returns
-returns c = search share-added
+returns c = search (share-added working)
 
 pub add-share-spec : {M : Type 1} → statement M
 add-share-spec =

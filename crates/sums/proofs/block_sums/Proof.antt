@@ -2,6 +2,8 @@ use mathlib.Core.Path.{_≡_, refl}
 use Prim.Native.Nat.{_-_, _≤_}
 use native.Mathlib.Omega.{arith}
 use lib.ListN.{length}
+use Rattle.symbol.specs.Elem.{gf256}
+use Rattle.symbol.proofs.Working.{working}
 use Rattle.sums.specs.Inner.{SumsTo}
 use Rattle.sums.proofs.Rows.{weight-fits, summing-next, weights-none, weights-end}
 use borrow.Author.Needs.{needs}
@@ -9,13 +11,13 @@ use Rattle.sums.proofs.block_sums.Statement.{statement}
 use Rattle.sums.proofs.block_sums.Tie as tie
 
 abbrev Inv-loop : tie.InvT-loop
-Inv-loop sums₀ l h w first helpers shares e sides₀ found₀ points₀ coefs₀ row₀ cur₀ table m₀ sums sides found points coefs row cur m = (m ≤ e) × (length sums ≡ length sums₀) × (length sides ≡ length sides₀) × (length found ≡ length found₀) × (length points ≡ length points₀) × (length coefs ≡ length coefs₀) × (length row ≡ length row₀) × (length cur ≡ length cur₀) × SumsTo l h w first helpers shares e m sums
+Inv-loop sums₀ l h w first helpers shares e sides₀ found₀ points₀ coefs₀ row₀ cur₀ table m₀ sums sides found points coefs row cur m = (m ≤ e) × (length sums ≡ length sums₀) × (length sides ≡ length sides₀) × (length found ≡ length found₀) × (length points ≡ length points₀) × (length coefs ≡ length coefs₀) × (length row ≡ length row₀) × (length cur ≡ length cur₀) × SumsTo gf256 l h w first helpers shares e m sums
 
 abbrev μ-loop : tie.MeasureT-loop
 μ-loop sums₀ l h w first helpers shares e sides₀ found₀ points₀ coefs₀ row₀ cur₀ table m₀ sums sides found points coefs row cur m = e - m
 
 loop-holds : tie.Need-loop-holds Inv-loop μ-loop
-loop-holds c = (omega arith, refl, refl, refl, refl, refl, refl, refl, weights-none _ _ _ _ _ _ _ _)
+loop-holds c = (omega arith, refl, refl, refl, refl, refl, refl, refl, weights-none working _ _ _ _ _ _ _ _)
 
 weight-sums-requires : tie.Need-weight-sums-requires Inv-loop μ-loop
 weight-sums-requires c κs = (search summing-next, omega arith, search needs, search needs)
@@ -51,7 +53,7 @@ same-length-7 : tie.Need-same-length-7 Inv-loop μ-loop
 same-length-7 c = search needs
 
 returns : tie.Need-returns Inv-loop μ-loop
-returns c = search weights-end
+returns c = search (weights-end working)
 
 pub block-sums-spec : {M : Type 1} → statement M
 block-sums-spec =

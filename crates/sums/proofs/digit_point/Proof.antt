@@ -1,3 +1,4 @@
+use Rattle.symbol.proofs.Working.{working}
 use Rattle.sums.proofs.Steps.{point-fits, point-fits-2, power-fits, power-wide, digit-power}
 use borrow.Author.Needs.{needs}
 use Rattle.sums.proofs.digit_point.Statement.{statement}
@@ -22,7 +23,7 @@ root-power-requires : tie.Need-root-power-requires
 root-power-requires c κs = search needs
 
 returns : tie.Need-returns
-returns c = search digit-power
+returns c = search (digit-power working)
 
 pub digit-point-spec : {M : Type 1} → statement M
 digit-point-spec =

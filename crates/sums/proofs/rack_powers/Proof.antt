@@ -1,3 +1,4 @@
+use Rattle.symbol.proofs.Working.{working}
 use Rattle.sums.proofs.Steps.{digit-in, powers-of, block-layout, digits-some}
 use borrow.Author.Needs.{needs}
 use Rattle.sums.proofs.rack_powers.Statement.{statement}
@@ -19,7 +20,7 @@ same-length : tie.Need-same-length
 same-length c = search needs
 
 returns : tie.Need-returns
-returns c = search powers-of
+returns c = search (powers-of working)
 
 pub rack-powers-spec : {M : Type 1} → statement M
 rack-powers-spec =

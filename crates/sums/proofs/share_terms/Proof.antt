@@ -1,3 +1,4 @@
+use Rattle.symbol.proofs.Working.{working}
 use Rattle.sums.proofs.Sides.{share-fits, share-fits-2, groups-high, share-row, first-in, share-there, terms-plain, block-there, host-there, helper-rack, helper-other, weight-under, terms-are}
 use borrow.Author.Needs.{needs}
 use Rattle.sums.proofs.share_terms.Statement.{statement}
@@ -28,7 +29,7 @@ same-length : tie.Need-same-length
 same-length c = search needs
 
 returns : tie.Need-returns
-returns c = search terms-plain
+returns c = search (terms-plain working)
 
 mul-rack-powers : tie.Need-mul-rack-powers
 mul-rack-powers c = search needs
@@ -52,7 +53,7 @@ same-length-3 : tie.Need-same-length-3
 same-length-3 c = search needs
 
 returns-2 : tie.Need-returns-2
-returns-2 c = search terms-are
+returns-2 c = search (terms-are working)
 
 pub share-terms-spec : {M : Type 1} → statement M
 share-terms-spec =

@@ -1,3 +1,4 @@
+use Rattle.symbol.proofs.Working.{working}
 use Rattle.sums.proofs.Points.{pointed-of}
 use Rattle.sums.proofs.Rows.{systems-of, points-room, first-under, found-of}
 use borrow.Author.Needs.{needs}
@@ -17,10 +18,10 @@ cast-s : tie.Need-cast-s
 cast-s c = search needs
 
 unknown-points-requires : tie.Need-unknown-points-requires
-unknown-points-requires c κs = search pointed-of
+unknown-points-requires c κs = search (pointed-of working)
 
 solve-first-requires : tie.Need-solve-first-requires
-solve-first-requires c κs = (search systems-of, search points-room, search needs, search first-under)
+solve-first-requires c κs = (search (systems-of working), search (points-room working), search needs, search (first-under working))
 
 same-length : tie.Need-same-length
 same-length c = search needs
@@ -38,7 +39,7 @@ returns : tie.Need-returns
 returns c =
     let s = c .before .before .before .before .before .before .before .before .before .before .before .before .before .before .before .before .before .before .before .before .before .before .before .before .before .before .before in
     let a = s .args in
-    found-of (a .l) (a .h) (a .w) (a .first) (a .helpers .now) (a .v) (a .run) (s .pre .2) _ _ (a .sides .now) _ _ (s .pre .0 .adm) (c .before .before .before .before .before .before .before .before .before .before .before .before .before .before .before .before .before .before .before .unknown-count .ensures) (c .before .before .before .before .before .before .before .before .before .before .before .before .before .before .before .before .before .before .digit-count .ensures) (c .before .before .before .before .before .before .before .before .before .before .before .before .before .before .before .unknown-points .ensures) (c .before .before .before .before .before .before .solve-first .ensures)
+    found-of working (a .l) (a .h) (a .w) (a .first) (a .helpers .now) (a .v) (a .run) (s .pre .2) _ _ (a .sides .now) _ _ (s .pre .0 .adm) (c .before .before .before .before .before .before .before .before .before .before .before .before .before .before .before .before .before .before .before .unknown-count .ensures) (c .before .before .before .before .before .before .before .before .before .before .before .before .before .before .before .before .before .before .digit-count .ensures) (c .before .before .before .before .before .before .before .before .before .before .before .before .before .before .before .unknown-points .ensures) (c .before .before .before .before .before .before .solve-first .ensures)
 
 pub solve-columns-spec : {M : Type 1} → statement M
 solve-columns-spec =

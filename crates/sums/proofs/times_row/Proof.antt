@@ -1,3 +1,4 @@
+use Rattle.symbol.proofs.Working.{working}
 use Rattle.sums.proofs.Rows.{times-of}
 use borrow.Author.Needs.{needs}
 use Rattle.sums.proofs.times_row.Statement.{statement}
@@ -22,7 +23,7 @@ same-length : tie.Need-same-length
 same-length c = search needs
 
 returns : tie.Need-returns
-returns c = search times-of
+returns c = search (times-of working)
 
 pub times-row-spec : {M : Type 1} → statement M
 times-row-spec =

@@ -1,3 +1,5 @@
+use Rattle.symbol.specs.Elem.{gf256}
+use Rattle.symbol.proofs.Working.{working}
 use Rattle.sums.proofs.Points.{pointed-next}
 use mathlib.Core.Path.{_≡_, refl}
 use Prim.Native.Nat.{_-_, _≤_}
@@ -10,7 +12,7 @@ use Rattle.sums.proofs.unknown_points.Statement.{statement}
 use Rattle.sums.proofs.unknown_points.Tie as tie
 
 abbrev Inv-loop : tie.InvT-loop
-Inv-loop points₀ l h w first helpers v run row₀ n i₀ points row i = (i ≤ n) × (length points ≡ length points₀) × (length row ≡ length row₀) × PointsTo l h first helpers v run i points
+Inv-loop points₀ l h w first helpers v run row₀ n i₀ points row i = (i ≤ n) × (length points ≡ length points₀) × (length row ≡ length row₀) × PointsTo gf256 l h first helpers v run i points
 
 abbrev μ-loop : tie.MeasureT-loop
 μ-loop points₀ l h w first helpers v run row₀ n i₀ points row i = n - i
@@ -22,7 +24,7 @@ cast-n : tie.Need-cast-n Inv-loop μ-loop
 cast-n c = search needs
 
 loop-holds : tie.Need-loop-holds Inv-loop μ-loop
-loop-holds c = (omega arith, refl, refl, search points-none)
+loop-holds c = (omega arith, refl, refl, search (points-none working))
 
 unknown-row-requires : tie.Need-unknown-row-requires Inv-loop μ-loop
 unknown-row-requires c κs = (search pointed-next, omega arith)
@@ -34,7 +36,7 @@ loop-less : tie.Need-loop-less Inv-loop μ-loop
 loop-less c = omega arith
 
 loop-again : tie.Need-loop-again Inv-loop μ-loop
-loop-again c = (omega arith, search needs, search needs, search points-more)
+loop-again c = (omega arith, search needs, search needs, search (points-more working))
 
 same-length : tie.Need-same-length Inv-loop μ-loop
 same-length c = search needs
@@ -43,7 +45,7 @@ same-length-2 : tie.Need-same-length-2 Inv-loop μ-loop
 same-length-2 c = search needs
 
 returns : tie.Need-returns Inv-loop μ-loop
-returns c = search points-end
+returns c = search (points-end working)
 
 pub unknown-points-spec : {M : Type 1} → statement M
 unknown-points-spec =

@@ -1,3 +1,4 @@
+use Rattle.symbol.proofs.Working.{working}
 use Rattle.sums.proofs.Points.{choosing-of, pointed-layout, pointed-host, host-digit, pointed-size, point-fits, point-row, host-row, other-high, pointed-block, other-rack, other-not, row-there, run-there, other-row}
 use borrow.Author.Needs.{needs}
 use Rattle.sums.proofs.unknown_row.Statement.{statement}
@@ -25,7 +26,7 @@ same-length : tie.Need-same-length
 same-length c = search needs
 
 returns : tie.Need-returns
-returns c = search host-row
+returns c = search (host-row working)
 
 skipped-requires : tie.Need-skipped-requires
 skipped-requires c κs = search other-high
@@ -46,7 +47,7 @@ same-length-3 : tie.Need-same-length-3
 same-length-3 c = search needs
 
 returns-2 : tie.Need-returns-2
-returns-2 c = search other-row
+returns-2 c = search (other-row working)
 
 pub unknown-row-spec : {M : Type 1} → statement M
 unknown-row-spec =

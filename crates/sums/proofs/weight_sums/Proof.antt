@@ -1,3 +1,4 @@
+use Rattle.symbol.proofs.Working.{working}
 use Rattle.sums.proofs.Rows.{space-of, weighing-of, weights-more}
 use borrow.Author.Needs.{needs}
 use Rattle.sums.proofs.weight_sums.Statement.{statement}
@@ -43,7 +44,7 @@ returns : tie.Need-returns
 returns c =
     let s = c .before .before .before .before .before .before .before .before .before .before .before .before .before .before .before .before .before .before .before .before .before .before .before .before .before .before .before .before .before .before .before .before .before .before .before .before .before .before .before in
     let a = s .args in
-    weights-more (a .l) (a .h) (a .w) (a .first) (a .helpers .now) (a .shares .now) (a .e) (a .m) _ _ (a .sums .now) _ (s .pre .0 .received .chosen) (c .before .before .before .before .before .before .before .before .before .before .before .before .before .before .before .before .before .before .before .before .before .before .before .before .before .block-sides .ensures) (c .before .before .before .before .before .before .before .before .before .before .before .before .before .solve-sides .ensures) (c .before .before .weigh-sums .ensures) (s .pre .2)
+    weights-more working (a .l) (a .h) (a .w) (a .first) (a .helpers .now) (a .shares .now) (a .e) (a .m) _ _ (a .sums .now) _ (s .pre .0 .received .chosen) (c .before .before .before .before .before .before .before .before .before .before .before .before .before .before .before .before .before .before .before .before .before .before .before .before .before .block-sides .ensures) (c .before .before .before .before .before .before .before .before .before .before .before .before .before .solve-sides .ensures) (c .before .before .weigh-sums .ensures) (s .pre .2)
 
 pub weight-sums-spec : {M : Type 1} → statement M
 weight-sums-spec =

@@ -1,6 +1,7 @@
 use mathlib.Core.Path.{refl}
 use Prim.Native.Nat.{_-_}
 use native.Mathlib.Omega.{arith}
+use Rattle.symbol.proofs.Working.{working}
 use Rattle.syndrome.proofs.Terms.{terms-none, terms-of, first-in, room-next}
 use borrow.Author.Needs.{needs}
 use Rattle.syndrome.proofs.add_terms.Statement.{statement}
@@ -9,7 +10,7 @@ use Rattle.syndrome.proofs.add_terms.Tie as tie
 pub add-terms-spec : {M : Type 1} → statement M
 add-terms-spec =
     tie.close (tie.spec
-    (λ c. search terms-none)
+    (λ c. search (terms-none working))
     (λ c κs. (search first-in, search needs))
     (λ c κs.
     let c1 = c .before .before .before .before in
@@ -20,4 +21,4 @@ add-terms-spec =
     ))
     (λ c. search needs)
     (λ c. search needs)
-    (λ c. search terms-of))
+    (λ c. search (terms-of working)))

@@ -1,3 +1,4 @@
+use Rattle.symbol.proofs.Working.{working}
 use Rattle.syndrome.proofs.Points.{steady-powers, first-fits, base-low, digit-there}
 use borrow.Author.Needs.{needs}
 use Rattle.syndrome.proofs.digit_powers.Statement.{statement}
@@ -37,7 +38,7 @@ same-length-2 : tie.Need-same-length-2
 same-length-2 c = search needs
 
 returns-2 : tie.Need-returns-2
-returns-2 c = search steady-powers
+returns-2 c = search (steady-powers working)
 
 pub digit-powers-spec : {M : Type 1} → statement M
 digit-powers-spec =

@@ -3,13 +3,15 @@ use Prim.Native.Nat.{_-_, _≤_}
 use native.Mathlib.Omega.{arith}
 use lib.ListN.{length}
 use borrow.Author.Needs.{needs}
+use Rattle.symbol.specs.Elem.{gf256}
+use Rattle.symbol.proofs.Working.{working}
 use Rattle.syndrome.specs.Syndrome.{Adding}
 use Rattle.syndrome.proofs.Terms.{adding-none, adding-more, adding-end, term-in, term-fits, cur-in}
 use Rattle.syndrome.proofs.later_terms.Statement.{statement}
 use Rattle.syndrome.proofs.later_terms.Tie as tie
 
 abbrev Inv-loop : tie.InvT-loop
-Inv-loop sums₀ w r cur₀ row t₀ sums cur t = (1 ≤ t) × (t ≤ r) × (length sums ≡ length sums₀) × (length cur ≡ length cur₀) × Adding w row cur₀ sums₀ sums cur t
+Inv-loop sums₀ w r cur₀ row t₀ sums cur t = (1 ≤ t) × (t ≤ r) × (length sums ≡ length sums₀) × (length cur ≡ length cur₀) × Adding gf256 w row cur₀ sums₀ sums cur t
 
 abbrev μ-loop : tie.MeasureT-loop
 μ-loop sums₀ w r cur₀ row t₀ sums cur t = r - t
@@ -17,12 +19,12 @@ abbrev μ-loop : tie.MeasureT-loop
 pub later-terms-spec : {M : Type 1} → statement M
 later-terms-spec =
     tie.close (tie.spec Inv-loop μ-loop
-    (λ c. (omega arith, omega arith, refl, refl, adding-none _ _ _ _))
+    (λ c. (omega arith, omega arith, refl, refl, adding-none working _ _ _ _))
     (λ c. search term-fits)
     (λ c κs. (search term-in, search cur-in, search needs))
     (λ c. omega arith)
     (λ c. omega arith)
-    (λ c. (omega arith, omega arith, search needs, search needs, search adding-more))
+    (λ c. (omega arith, omega arith, search needs, search needs, search (adding-more working)))
     (λ c. search needs)
     (λ c. search needs)
-    (λ c. search adding-end))
+    (λ c. search (adding-end working)))

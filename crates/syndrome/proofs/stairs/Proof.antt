@@ -3,15 +3,16 @@ use Prim.Native.Nat.{_-_, _*_, _≤_}
 use native.Mathlib.Omega.{arith}
 use lib.ListN.{length}
 use borrow.Author.Needs.{needs}
+use Rattle.symbol.specs.Elem.{gf256}
+use Rattle.symbol.proofs.Working.{working}
 use Rattle.kernel.specs.Runs.{Run}
-use Rattle.symbol.specs.Arithmetic.{_⊗_, power}
-use Rattle.syndrome.specs.Syndrome.{stair}
+use Rattle.syndrome.specs.Syndrome.{climb, stair}
 use Rattle.syndrome.proofs.Points.{stair-start, stair-value, stair-none, stair-more, stair-end, stair-in, stair-fits}
 use Rattle.syndrome.proofs.stairs.Statement.{statement}
 use Rattle.syndrome.proofs.stairs.Tie as tie
 
 abbrev Inv-loop : tie.InvT-loop
-Inv-loop row₀ run s first z a₀ v₀ row a v = (a ≤ s) × (length row ≡ length row₀) × (v ≡ power z a ⊗ first) × Run (stair z first run) row₀ row 0 (a * run)
+Inv-loop row₀ run s first z a₀ v₀ row a v = (a ≤ s) × (length row ≡ length row₀) × (v ≡ climb gf256 z first a) × Run (stair gf256 z first run) row₀ row 0 (a * run)
 
 abbrev μ-loop : tie.MeasureT-loop
 μ-loop row₀ run s first z a₀ v₀ row a v = s - a
@@ -19,12 +20,12 @@ abbrev μ-loop : tie.MeasureT-loop
 pub stairs-spec : {M : Type 1} → statement M
 stairs-spec =
     tie.close (tie.spec Inv-loop μ-loop
-    (λ c. (omega arith, refl, stair-start _ _ (search needs), stair-none _ _ _ _))
+    (λ c. (omega arith, refl, stair-start working _ _, stair-none working _ _ _ _))
     (λ c. search stair-fits)
     (λ c κs. search stair-in)
     (λ c κs. search needs)
     (λ c. omega arith)
     (λ c. omega arith)
-    (λ c. (omega arith, search needs, search stair-value, search stair-more))
+    (λ c. (omega arith, search needs, search (stair-value working), search (stair-more working)))
     (λ c. search needs)
-    (λ c. search stair-end))
+    (λ c. search (stair-end working)))

@@ -1,3 +1,4 @@
+use Rattle.symbol.proofs.Working.{working, root-is}
 use Rattle.syndrome.proofs.Points.{points-of, rack-of, size-of}
 use borrow.Author.Needs.{needs}
 use Rattle.syndrome.proofs.tray_points.Statement.{statement}
@@ -16,7 +17,7 @@ same-length : tie.Need-same-length
 same-length c = search needs
 
 returns : tie.Need-returns
-returns c = search points-of
+returns c = search (points-of working, root-is)
 
 pub tray-points-spec : {M : Type 1} → statement M
 tray-points-spec =

@@ -1,4 +1,5 @@
 use Prim.Native.Nat.{_-_}
+use Rattle.symbol.proofs.Working.{working}
 use Rattle.syndrome.proofs.Sums.{tray-of, tray-first, tray-in, tray-fits, tray-fits-2}
 use borrow.Author.Needs.{needs}
 use Rattle.syndrome.proofs.tray_terms.Statement.{statement}
@@ -16,10 +17,10 @@ tray-terms-spec =
     (λ c. search needs)
     (λ c. search needs)
     (λ c. search needs)
-    (λ c. search tray-first)
+    (λ c. search (tray-first working))
     (λ c κs. search needs)
     (λ c κs. search needs)
     (λ c. search needs)
     (λ c. search needs)
     (λ c. search needs)
-    (λ c. search tray-of))
+    (λ c. search (tray-of working)))

@@ -1,4 +1,5 @@
 use Prim.Native.Nat.{_-_}
+use Rattle.symbol.proofs.Working.{working}
 use Rattle.syndrome.proofs.Points.{wave-powers, wave-room, wave-count, wave-some, wave-fits, wave-run, wave-period}
 use borrow.Author.Needs.{needs}
 use Rattle.syndrome.proofs.waves.Statement.{statement}
@@ -15,4 +16,4 @@ waves-spec =
     (λ c. search wave-period)
     (λ c κs. (search wave-count, search wave-some))
     (λ c. search needs)
-    (λ c. search wave-powers))
+    (λ c. search (wave-powers working)))

@@ -1,5 +1,6 @@
 use Prim.Native.Nat.{_-_}
 use borrow.Author.Needs.{needs}
+use Rattle.symbol.proofs.Working.{working}
 use Rattle.syndrome.proofs.Whole.{none-listed}
 use Rattle.testing.proofs.Blocks.{first-of, sums-in}
 use Rattle.testing.proofs.first_broken.Statement.{statement}
@@ -23,6 +24,6 @@ first-broken-spec =
     let c1 = c .before .before .before .before .before .before in
     let c2 = c1 .before .before in
     let c3 = c2 .before .before .before .before .before .before .before .before .before in
-    first-of (c3 .args .l) (c3 .args .w) (c3 .args .first) (c3 .args .r) (c3 .args .c .now) (c3 .args .none .now) (c2 .sum-kept .last .0)
-    (c .first-in .result .column) (c .first-in .result .check) (c3 .pre .3) (c3 .pre .2) (c2 .sum-kept .ensures) (c1 .slice-known4 .given)
+    first-of working (c3 .args .l) (c3 .args .w) (c3 .args .first) (c3 .args .r) (c3 .args .c .now) (c3 .args .none .now) (c2 .sum-kept .last .0)
+    (c .first-in .result .column) (c .first-in .result .check) (c3 .pre .3) (c3 .pre .2) (c2 .sum-kept .ensures)
     (c .first-in .ensures)))

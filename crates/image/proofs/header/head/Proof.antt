@@ -24,4 +24,5 @@ head-spec =
     (λ c. search needs)
     (λ c. search needs)
     (λ c. search needs)
-    (λ c. header-is _ _ _ _ _ _ (c .before .before .before .before .before .layer-count .ensures) (c .before .before .before .before .number .ensures)))
+    (λ c. search needs)
+    (λ c. search header-is))

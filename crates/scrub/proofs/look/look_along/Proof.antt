@@ -1,12 +1,13 @@
 use Prim.Native.Nat.{_-_}
 use native.Mathlib.Omega.{arith}
 use borrow.Author.Needs.{needs}
+use Rattle.symbol.specs.Elem.{gf256}
 use Rattle.scrub.proofs.Columns.{Looked, looked-none, looked-more, looked-end}
 use Rattle.scrub.proofs.look.look_along.Statement.{statement}
 use Rattle.scrub.proofs.look.look_along.Tie as tie
 
 abbrev Inv-loop : tie.InvT-loop
-Inv-loop w r sums seen₀ j₀ seen j = Looked w r sums seen₀ seen j
+Inv-loop w r sums seen₀ j₀ seen j = Looked gf256 w r sums seen₀ seen j
 
 abbrev μ-loop : tie.MeasureT-loop
 μ-loop w r sums seen₀ j₀ seen j = w - j
@@ -22,6 +23,6 @@ look-along-spec =
     (λ c.
     let s = c .before .before .before .before .before in
     let o = c .before .before .before .loop in
-    looked-more (s .args .w) (s .args .r) (s .args .sums .now) (s .args .walk) (o .seen) (c .look-at .result) (o .j) (c .before .bad-column .result) (o .inv)
+    looked-more gf256 (s .args .w) (s .args .r) (s .args .sums .now) (s .args .walk) (o .seen) (c .look-at .result) (o .j) (c .before .bad-column .result) (o .inv)
     (c .before .before .loop-test .taken) (c .before .bad-column .ensures) (c .look-at .ensures))
     (λ c. search looked-end))

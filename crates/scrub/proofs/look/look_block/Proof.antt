@@ -1,6 +1,7 @@
 use native.Mathlib.Omega.{arith}
 use borrow.Author.Needs.{needs}
 use Rattle.symbol.specs.Elem.{gf256}
+use Rattle.symbol.proofs.Working.{working}
 use Rattle.syndrome.proofs.Whole.{none-listed}
 use Rattle.scrub.specs.Scrub.{badLayer}
 use Rattle.scrub.proofs.Columns.{column-is}
@@ -26,7 +27,7 @@ look-block-spec =
     (λ c. search needs)
     (λ c.
     let k = c .before .before .before .before .before .before .before .before .sum-kept in
+    let n = c .before .before .before .before .before .before .before .before .before .before .before .before .check-count in
     let s = c .before .before .before .before .before .before .before .before .before .before .before .before .before .before .before .before .before .before in
-    c .look-along .ensures (badLayer gf256 (s .args .l) (s .args .c .now)) (column-is (s .args .l) (s .args .w) (s .args .walk .next)
-    (c .before .before .before .before .before .before .before .before .before .before .before .before .check-count .result) (s .args .c .now) (s .args .none .now) (k .last .0) (s .pre .3) (c .before .before .before .before .before .before .before .before .before .before .before .before .check-count .ensures) (k .ensures)
-    (c .before .before .before .before .before .before .slice-known4 .given))))
+    c .look-along .ensures (badLayer gf256 (s .args .l) (s .args .c .now)) (column-is working (s .args .l) (s .args .w) (s .args .walk .next)
+    (n .result) (s .args .c .now) (s .args .none .now) (k .last .0) (s .pre .3) (n .ensures) (k .ensures))))

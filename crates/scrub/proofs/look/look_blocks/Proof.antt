@@ -45,7 +45,7 @@ look-blocks-spec =
     let o = c .before .before .before .before .before .before .before .before .before .before .before .before .loop in
     let b = c .before .before .before .before .before .before .before .before .before .before .block-at in
     let k = c .before .before .before .before .before .before .look-block in
-    let m = more (s .args .l) (s .args .total) (s .args .c .now) (s .args .walk) (s .args .count) (o .seen) (k .result) (o .seen .next) (o .left)
+    let m = more gf256 (s .args .l) (s .args .total) (s .args .c .now) (s .args .walk) (s .args .count) (o .seen) (k .result) (o .seen .next) (o .left)
     (c .before .before .before .before .before .before .before .before .before .before .before .before .before .check-count .result) (b .result) (b .ensures .1) (k .ensures) (o .inv .0) (o .inv .1) in
     (m .0, m .1, search needs, search needs, search needs))
     (λ c. search needs)

@@ -1,9 +1,0 @@
-use mathlib.Core.Path.{_∙_, ap}
-use borrow.Author.Needs.{needs}
-use Rattle.gesarumbo.specs.Boundary.{scrubNumbers}
-use Rattle.gesarumbo.proofs.gesarumbo_scrub.Statement.{statement}
-use Rattle.gesarumbo.proofs.gesarumbo_scrub.Tie as tie
-
-pub gesarumbo-scrub-spec : {M : Type 1} → statement M
-gesarumbo-scrub-spec =
-    tie.close (tie.spec (λ c κs. search needs) (λ c κs. search needs) (λ c. c .scrub-numbers .ensures ∙ ap scrubNumbers (c .before .step .ensures)))

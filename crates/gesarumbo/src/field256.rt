@@ -1,0 +1,226 @@
+// The calls over the field of 256.
+use crate::numbers;
+use crate::numbers::MarginNumbers;
+use crate::numbers::MeasureNumbers;
+use crate::numbers::PartNumbers;
+use crate::numbers::RepairNumbers;
+use crate::numbers::ScrubNumbers;
+use crate::numbers::TestNumbers;
+use layout::Layout;
+use layout::Rack;
+use layout::Tray;
+use scrub::Walk;
+use symbol::plain::ORDER;
+ghost use mathlib.Core.Path.{_≡_};
+ghost use mathlib.Core.List.{[], _∷_};
+ghost use lib.ListN.{length};
+ghost use Rattle.symbol.specs.Elem.{gf256};
+ghost use Rattle.layout.specs.Layout.{measured};
+ghost use Rattle.recover.specs.Recover.{RecoverAnswer};
+ghost use Rattle.store.specs.Store.{StoreAnswer};
+ghost use Rattle.margin.specs.Margin.{marginRefusal, marginValue};
+ghost use Rattle.share.specs.Share.{shareRefusal, shareBuffer, addRefusal, addBuffer};
+ghost use Rattle.share.specs.Many.{manyRefusal, manyBuffer, addManyRefusal, addManyBuffer};
+ghost use Rattle.scrub.specs.Scrub.{scrubbed, begun};
+ghost use Rattle.gesarumbo.specs.Boundary.{measureNumbers, scrubNumbers, TestShown, RepairShown, PartShown};
+
+#[no_mangle]
+pub extern "C" fn gesarumbo_measure(l: Layout) -> MeasureNumbers
+    ensures { λ r. ⌜ r ≡ measureNumbers (measured (gf256 .order) l) ⌝ }
+{
+    numbers::measure_numbers(layout::measure(ORDER as u32, l))
+}
+
+#[no_mangle]
+pub extern "C" fn gesarumbo_test(l: Layout, codeword: &[u8]) -> TestNumbers
+    ensures { λ r. ⌜ TestShown gf256 l (now (codeword .entry)) r ⌝ }
+{
+    numbers::test_numbers(testing::test(l, codeword))
+}
+
+#[no_mangle]
+pub extern "C" fn gesarumbo_share(
+    l: Layout,
+    host: u32,
+    helper: u32,
+    rack: &[u8],
+    share: &mut [u8],
+) -> u32
+    ensures answer { λ r. ⌜ r ≡ shareRefusal gf256 l host helper (now (rack .entry)) (length (now (share .entry))) ⌝ }
+    ensures buffer { λ _. ⌜ now (share .exit) ≡ shareBuffer gf256 l host helper (now (rack .entry)) (now (share .entry)) ⌝ }
+{
+    share::share(l, Rack::of(host), Rack::of(helper), rack, share) as u32
+}
+
+#[no_mangle]
+pub extern "C" fn gesarumbo_share_add(
+    l: Layout,
+    host: u32,
+    tray: u32,
+    symbols: &[u8],
+    share: &mut [u8],
+) -> u32
+    ensures answer { λ r. ⌜ r ≡ addRefusal gf256 l host tray (now (symbols .entry)) (now (share .entry)) ⌝ }
+    ensures buffer { λ _. ⌜ now (share .exit) ≡ addBuffer gf256 l host tray (now (symbols .entry)) (now (share .entry)) ⌝ }
+{
+    share::share_add(l, Rack::of(host), Tray::of(tray), symbols, share) as u32
+}
+
+#[no_mangle]
+pub extern "C" fn gesarumbo_share_many(
+    l: Layout,
+    count: u32,
+    host: u32,
+    helper: u32,
+    rack: &[u8],
+    share: &mut [u8],
+) -> u32
+    ensures answer { λ r. ⌜ r ≡ manyRefusal gf256 l count host helper (now (rack .entry)) (length (now (share .entry))) ⌝ }
+    ensures buffer { λ _. ⌜ now (share .exit) ≡ manyBuffer gf256 l count host helper (now (rack .entry)) (now (share .entry)) ⌝ }
+{
+    share::share_many(l, count, Rack::of(host), Rack::of(helper), rack, share) as u32
+}
+
+#[no_mangle]
+pub extern "C" fn gesarumbo_share_add_many(
+    l: Layout,
+    count: u32,
+    host: u32,
+    tray: u32,
+    symbols: &[u8],
+    share: &mut [u8],
+) -> u32
+    ensures answer { λ r. ⌜ r ≡ addManyRefusal gf256 l count host tray (now (symbols .entry)) (now (share .entry)) ⌝ }
+    ensures buffer { λ _. ⌜ now (share .exit) ≡ addManyBuffer gf256 l count host tray (now (symbols .entry)) (now (share .entry)) ⌝ }
+{
+    share::share_add_many(l, count, Rack::of(host), Tray::of(tray), symbols, share) as u32
+}
+
+#[no_mangle]
+pub extern "C" fn gesarumbo_repair(
+    l: Layout,
+    lost: u32,
+    helpers: &[u32],
+    shares: &[u8],
+    host: &[u8],
+    spare: &mut [u8],
+    first: u64,
+    budget: u64,
+) -> RepairNumbers
+    ensures { λ r. ⌜ RepairShown gf256 l (lost ∷ []) (now (helpers .entry)) (now (shares .entry)) (now (host .entry)) first budget (now (spare .entry)) (now (spare .exit)) r ⌝ }
+{
+    numbers::repair_numbers(repair::repair(
+        l,
+        Tray::of(lost),
+        helpers,
+        shares,
+        host,
+        spare,
+        first,
+        budget,
+    ))
+}
+
+#[no_mangle]
+pub extern "C" fn gesarumbo_repair_many(
+    l: Layout,
+    lost: &[u32],
+    helpers: &[u32],
+    shares: &[u8],
+    host: &[u8],
+    spare: &mut [u8],
+    first: u64,
+    budget: u64,
+) -> RepairNumbers
+    ensures { λ r. ⌜ RepairShown gf256 l (now (lost .entry)) (now (helpers .entry)) (now (shares .entry)) (now (host .entry)) first budget (now (spare .entry)) (now (spare .exit)) r ⌝ }
+{
+    numbers::repair_numbers(repair::repair_many(
+        l,
+        lost,
+        helpers,
+        shares,
+        host,
+        spare,
+        first,
+        budget,
+    ))
+}
+
+#[no_mangle]
+pub extern "C" fn gesarumbo_read_part<'a>(
+    l: Layout,
+    codeword: &'a [u8],
+    spare: &'a [u8],
+    lost: u32,
+    done: u64,
+    tray: u32,
+    first: u32,
+    end: u32,
+) -> PartNumbers
+    ensures { λ r. ⌜ PartShown (gf256 .order) l (now (codeword .entry)) (now (spare .entry)) lost done tray first end r ⌝ }
+{
+    let mut refusal = 0u32;
+    let part = reading::read_part(
+        l,
+        codeword,
+        spare,
+        Tray::of(lost),
+        done,
+        Tray::of(tray),
+        first,
+        end,
+        &mut refusal,
+    );
+    let length = part.len();
+    if refusal != 0 {
+        return PartNumbers {
+            refusal: refusal,
+            source: 0,
+            offset: 0,
+            length: 0,
+        };
+    }
+    let start = tray as usize * layout::layer_count(l) as usize + first as usize;
+    numbers::part_numbers(lost, tray, first, start, length)
+}
+
+#[no_mangle]
+pub extern "C" fn gesarumbo_store(l: Layout, words: &[u8], codeword: &mut [u8]) -> u32
+    ensures { λ r. ⌜ StoreAnswer gf256 l (now (words .entry)) (now (codeword .entry)) (now (codeword .exit)) r ⌝ }
+{
+    store::store(l, words, codeword) as u32
+}
+
+#[no_mangle]
+pub extern "C" fn gesarumbo_recover(l: Layout, codeword: &mut [u8], erased: &[u32]) -> u32
+    ensures { λ r. ⌜ RecoverAnswer gf256 l (now (erased .entry)) (now (codeword .entry)) (now (codeword .exit)) r ⌝ }
+{
+    recover::recover(l, codeword, erased) as u32
+}
+
+#[no_mangle]
+pub extern "C" fn gesarumbo_margin(l: Layout, states: &[u8]) -> MarginNumbers
+    ensures refusal { λ r. ⌜ r .refusal ≡ marginRefusal (gf256 .order) l (now (states .entry)) ⌝ }
+    ensures margin { λ r. ⌜ r .margin ≡ marginValue (gf256 .order) l (now (states .entry)) ⌝ }
+{
+    numbers::margin_numbers(margin::margin(ORDER as u32, l, states))
+}
+
+#[no_mangle]
+pub extern "C" fn gesarumbo_scrub_reset(l: Layout, walk: Walk) -> ScrubNumbers
+    ensures { λ r. ⌜ r ≡ scrubNumbers (begun (gf256 .order) l walk) ⌝ }
+{
+    numbers::scrub_numbers(scrub::reset(l, walk))
+}
+
+#[no_mangle]
+pub extern "C" fn gesarumbo_scrub(
+    l: Layout,
+    codeword: &[u8],
+    walk: Walk,
+    budget: u64,
+) -> ScrubNumbers
+    ensures { λ r. ⌜ r ≡ scrubNumbers (scrubbed gf256 l (now (codeword .entry)) walk budget) ⌝ }
+{
+    numbers::scrub_numbers(scrub::step(l, codeword, walk, budget))
+}

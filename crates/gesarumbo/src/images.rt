@@ -1,0 +1,47 @@
+// Tray images.
+use crate::numbers::ImageNumbers;
+use layout::Layout;
+use layout::Tray;
+ghost use mathlib.Core.Path.{_≡_};
+ghost use lib.ListN.{length};
+ghost use Rattle.image.specs.Image.{edition1, writeRefusal, writeBuffer};
+ghost use Rattle.gesarumbo.specs.Boundary.{ReadShown};
+
+#[no_mangle]
+pub extern "C" fn gesarumbo_write_image(
+    l: Layout,
+    tray: u32,
+    state: u32,
+    volume: u32,
+    symbols: &[u8],
+    image: &mut [u8],
+) -> u32
+    ensures answer { λ r. ⌜ r ≡ writeRefusal edition1 l tray state volume (now (symbols .entry)) (length (now (image .entry))) ⌝ }
+    ensures buffer { λ _. ⌜ now (image .exit) ≡ writeBuffer edition1 l tray state volume (now (symbols .entry)) (now (image .entry)) ⌝ }
+{
+    image::write(l, Tray::of(tray), state, volume, symbols, image) as u32
+}
+
+#[no_mangle]
+pub extern "C" fn gesarumbo_read_image(l: Layout, volume: u32, image: &[u8]) -> ImageNumbers
+    ensures { λ r. ⌜ ReadShown l volume (now (image .entry)) r ⌝ }
+{
+    let mut refusal = 0u32;
+    let mut tray = 0u32;
+    let part = image::read(l, volume, image, &mut refusal, &mut tray);
+    let length = part.len();
+    if refusal != 0 {
+        return ImageNumbers {
+            refusal: refusal,
+            tray: 0,
+            offset: 0,
+            length: 0,
+        };
+    }
+    ImageNumbers {
+        refusal: 0,
+        tray: tray,
+        offset: image::HEADER,
+        length: length,
+    }
+}

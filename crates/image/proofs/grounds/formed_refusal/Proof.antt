@@ -1,0 +1,16 @@
+use borrow.Author.Needs.{needs}
+use Rattle.image.proofs.ReadGrounds.{formed-10, formed-11-layout, formed-11-volume, formed-0}
+use Rattle.image.proofs.grounds.formed_refusal.Statement.{statement}
+use Rattle.image.proofs.grounds.formed_refusal.Tie as tie
+
+pub formed-refusal-spec : {M : Type 1} → statement M
+formed-refusal-spec =
+    tie.close (tie.spec
+    (λ c κs. search needs)
+    (λ c. search formed-10)
+    (λ c κs. search needs)
+    (λ c κs. search needs)
+    (λ c. search formed-11-layout)
+    (λ c κs. search needs)
+    (λ c. search formed-11-volume)
+    (λ c. search formed-0))

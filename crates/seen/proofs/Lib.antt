@@ -1,0 +1,5 @@
+pub mod Runs
+pub mod Places
+pub mod Groups
+pub mod Trays
+pub mod Piece

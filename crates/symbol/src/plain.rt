@@ -1,0 +1,64 @@
+// The symbols as plain numbers, by the names that the second field has too: what the code above is written in. Promises the sums, differences, products and
+// powers of the elements that the numbers stand for (algebra/specs/Plain.antt).
+use crate::Symbol;
+ghost use mathlib.Core.Path.{_≡_};
+ghost use Prim.Native.Nat.{ℕ, _<_};
+ghost use lib.ListN.{getD};
+ghost use Rattle.algebra.specs.Plain.{reduced, plus, minus, times, raised, rootPower};
+ghost use Rattle.symbol.specs.Elem.{gf256};
+
+// The number of symbols.
+pub const SIZE: usize = 256;
+
+// Less one.
+pub const MINUS_ONE: u8 = 1;
+
+// The root.
+pub const ROOT: u8 = 2;
+
+// The number of its powers.
+pub const ORDER: usize = Symbol::ORDER;
+
+// A number as the place of its symbol in a table of all.
+pub fn index(a: u8) -> usize
+    ensures { λ r. ⌜ (r ≡ reduced gf256 a) × (r < gf256 .coding .size) ⌝ }
+{
+    a as usize
+}
+
+pub fn sum(a: u8, b: u8) -> u8
+    ensures { λ r. ⌜ r ≡ plus gf256 a b ⌝ }
+{
+    a ^ b
+}
+
+pub fn difference(a: u8, b: u8) -> u8
+    ensures { λ r. ⌜ r ≡ minus gf256 a b ⌝ }
+{
+    a ^ b
+}
+
+pub fn product(a: u8, b: u8) -> u8
+    ensures { λ r. ⌜ r ≡ times gf256 a b ⌝ }
+{
+    crate::ladder::product(a, b)
+}
+
+pub fn power(x: u8, e: u32) -> u8
+    ensures { λ r. ⌜ r ≡ raised gf256 x e ⌝ }
+{
+    Symbol(x).power(e).0
+}
+
+pub fn root_power(e: usize) -> u8
+    ensures { λ r. ⌜ r ≡ rootPower gf256 e ⌝ }
+{
+    Symbol::root_power(e).0
+}
+
+// All powers of the root, for whoever reads many.
+pub fn all_powers() -> [u8; ORDER]
+    ensures { λ r. ⌜ ((i : ℕ) → i < gf256 .order → getD r i 0 ≡ rootPower gf256 i) ⌝ }
+{
+    crate::powers::all_powers()
+}
