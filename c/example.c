@@ -1,7 +1,8 @@
 /*
  * A cabinet's life in one program: data are stored, a reset tray is refused, a lost tray is
  * repaired in pieces and read meanwhile, the codeword is tested some layers at a time, two erased
- * trays are recovered. In a cabinet with less data, two lost trays of one rack are repaired.
+ * trays are recovered. In a cabinet with less data, two lost trays of one rack are repaired. Racks
+ * of four trays are had in the second field, where a tray is stored, repaired and imaged.
  *
  * Every buffer is lent from one pool with guard bytes between, which must be untouched at the end.
  */
@@ -22,10 +23,15 @@ enum { RACK_LENGTH = SIZE * LAYERS, SHARES_LENGTH = HELPERS * GROUPS };
 /* The same cabinet with less data, and so many trays of a rack lost together. */
 enum { LESS_DATA = 6, LOST = 2 };
 
+/* A cabinet of the second field: five racks of four trays, fifteen trays' worth of data. */
+enum { RACKS_4 = 5, SIZE_4 = 4, TRAYS_4 = RACKS_4 * SIZE_4, DATA_4 = 15, HELPERS_4 = 4 };
+enum { LAYERS_4 = 32, GROUPS_4 = 16, IMAGE_4 = 24 + 2 * LAYERS_4 };
+
 enum { ABSENT = 0, LIVE = 1, DEMONSTRATION = 2, VOLUME = 7 };
 
 static const gesarumbo_layout layout = { RACKS, SIZE, DATA, HELPERS };
 static const gesarumbo_layout less = { RACKS, SIZE, LESS_DATA, HELPERS };
+static const gesarumbo_layout fours = { RACKS_4, SIZE_4, DATA_4, HELPERS_4 };
 
 /* Ends the program if something is not as the library promises. */
 static void must(int holds, const char *what)
@@ -37,7 +43,7 @@ static void must(int holds, const char *what)
 }
 
 /* The pool: parts that are lent, and a guard before, between and after them. */
-enum { ROOM = 4096, PARTS = 16, GUARD = 32, GUARD_BYTE = 0xA5 };
+enum { ROOM = 8192, PARTS = 24, GUARD = 32, GUARD_BYTE = 0xA5 };
 static _Alignas(8) uint8_t pool[ROOM];
 static struct { size_t begin, end; } parts[PARTS];
 static size_t part_count, pool_used;
@@ -72,6 +78,10 @@ static int guards_untouched(void)
 /* What the cabinet works with, all of it lent from the pool. */
 static uint8_t *data, *codeword, *images, *shares, *spare, *states, *shares_of_two, *two_spares;
 static uint32_t *helpers, *erased, *lost;
+/* The same for the second field. */
+static uint16_t *data_4, *codeword_4, *shares_4, *spare_4;
+static uint8_t *image_4;
+static uint32_t *helpers_4;
 
 static void lend_all(void)
 {
@@ -87,6 +97,12 @@ static void lend_all(void)
     lost = lend(LOST * sizeof *lost);
     shares_of_two = lend(LOST * SHARES_LENGTH);
     two_spares = lend(LOST * LAYERS);
+    data_4 = lend(DATA_4 * LAYERS_4 * sizeof *data_4);
+    codeword_4 = lend(TRAYS_4 * LAYERS_4 * sizeof *codeword_4);
+    shares_4 = lend(HELPERS_4 * GROUPS_4 * sizeof *shares_4);
+    spare_4 = lend(LAYERS_4 * sizeof *spare_4);
+    image_4 = lend(IMAGE_4);
+    helpers_4 = lend(HELPERS_4 * sizeof *helpers_4);
 }
 
 static uint8_t *tray_at(size_t tray)
@@ -372,6 +388,78 @@ static void repair_two_in_pieces(void)
            memcmp(two_spares, kept, sizeof kept) == 0 ? "as they were" : "wrong");
 }
 
+static void print_symbols(const char *name, const uint16_t *symbols, size_t count)
+{
+    printf("%s", name);
+    for (size_t i = 0; i < count; i++)
+        printf(" %u", symbols[i]);
+    printf("\n");
+}
+
+/* Four does not divide 255, but it divides 256: racks of four are had modulo 257. */
+static void store_fours(void)
+{
+    enum { LENGTH = TRAYS_4 * LAYERS_4 };
+    gesarumbo_measured m = gesarumbo257_measure(fours);
+    must(m.refusal == 0 && m.layers == LAYERS_4, "the layout is admissible in the second field");
+    printf("racks of four modulo 257: layers %u, checks %u, traffic of a repair %u\n", m.layers,
+           m.checks, m.traffic);
+    for (uint32_t i = 0; i < DATA_4 * LAYERS_4; i++)
+        data_4[i] = (uint16_t)((11 * i + 250) % 257);
+    must(gesarumbo257_store(fours, data_4, DATA_4 * LAYERS_4, codeword_4, LENGTH) == 0,
+         "data are stored");
+    print_symbols("tray 0:", codeword_4, 8);
+    print_symbols("tray 15:", codeword_4 + 15 * LAYERS_4, 8);
+    gesarumbo_tested t = gesarumbo257_test(fours, codeword_4, LENGTH);
+    must(t.refusal == 0 && t.verdict == 1, "what is stored is a codeword");
+    codeword_4[LENGTH - 1] += 257;
+    printf("test with a number above 256: refused %u\n",
+           gesarumbo257_test(fours, codeword_4, LENGTH).refusal);
+    codeword_4[LENGTH - 1] -= 257;
+}
+
+/* Rack 1 has lost tray 6, whose old symbols are not looked at; the other racks help. */
+static void repair_fours(void)
+{
+    enum { RACK_LENGTH_4 = SIZE_4 * LAYERS_4, LENGTH = HELPERS_4 * GROUPS_4 };
+    static const uint32_t others[HELPERS_4] = { 0, 2, 3, 4 };
+    uint16_t kept[LAYERS_4];
+    memcpy(helpers_4, others, sizeof others);
+    for (size_t i = 0; i < HELPERS_4; i++)
+        must(gesarumbo257_share(fours, 1, helpers_4[i], codeword_4 + helpers_4[i] * RACK_LENGTH_4,
+                                RACK_LENGTH_4, shares_4 + i * GROUPS_4, GROUPS_4) == 0,
+             "a share is worked out");
+    print_symbols("share of rack 0:", shares_4, 8);
+    memcpy(kept, codeword_4 + 6 * LAYERS_4, sizeof kept);
+    memset(codeword_4 + 6 * LAYERS_4, 0xFF, sizeof kept);
+    for (uint64_t done = 0; done < GROUPS_4; done += 8) {
+        gesarumbo_repaired piece = gesarumbo257_repair(
+            fours, 6, helpers_4, HELPERS_4, shares_4, LENGTH, codeword_4 + RACK_LENGTH_4,
+            RACK_LENGTH_4, spare_4, LAYERS_4, done, 8);
+        must(piece.refusal == 0, "a piece is done");
+        printf("modulo 257: crossed %u, still to come %u\n", (unsigned)piece.crossed,
+               (unsigned)piece.remaining);
+    }
+    printf("tray 6 is %s\n", memcmp(spare_4, kept, sizeof kept) == 0 ? "as it was" : "wrong");
+}
+
+/* An image of edition 2: the first field's reader takes it for malformed. */
+static void image_fours(void)
+{
+    uint16_t kept[LAYERS_4];
+    memcpy(kept, spare_4, sizeof kept);
+    must(gesarumbo257_write_image(fours, 6, LIVE, VOLUME, spare_4, LAYERS_4, image_4, IMAGE_4) == 0,
+         "an image is written");
+    print_bytes("header of tray 6:", image_4, IMAGE_4 - 2 * LAYERS_4);
+    printf("read as edition 1: refused %u\n",
+           gesarumbo_read_image(layout, VOLUME, image_4, IMAGE_4).refusal);
+    memset(spare_4, 0xFF, sizeof kept);
+    gesarumbo257_image read = gesarumbo257_read_image(fours, VOLUME, image_4, IMAGE_4, spare_4,
+                                                      LAYERS_4);
+    must(read.refusal == 0 && read.tray == 6, "an image is its tray's");
+    must(memcmp(spare_4, kept, sizeof kept) == 0, "reading copies the tray's symbols");
+}
+
 int main(void)
 {
     lend_all();
@@ -387,6 +475,9 @@ int main(void)
     margin();
     lend_nothing();
     repair_two_in_pieces();
+    store_fours();
+    repair_fours();
+    image_fours();
     must(guards_untouched(), "no byte beside a buffer is written");
     return 0;
 }

@@ -26,8 +26,8 @@
  *        image being written; not lists, not an image being read)
  *    3   a tray or rack number outside the layout, a state outside its values, an image to be
  *        written with volume number 0, a scrub record that breaks a rule named at gesarumbo_scrub,
- *        a run of layers outside 0 .. L or one that ends before it begins, or more groups done
- *        than there are
+ *        a run of layers outside 0 .. L or one that ends before it begins, more groups done than
+ *        there are, or a symbol of the second field above 256
  *    4   a list is not strictly rising
  *    5   more than r trays erased, or not exactly d helpers
  *   12   not 1 to u - v lost trays
@@ -46,6 +46,9 @@
  * Buffers. Each is a pointer and then its length in elements; one of length 0 may be NULL. A buffer
  * that is written must not overlap another one of the call; buffers that are only read may. A call
  * keeps no pointer, allocates nothing and remembers nothing, so calls may run side by side.
+ *
+ * The second field. Each call has a twin over the numbers modulo 257, for racks of 2, 4, 8 or 16
+ * trays: see "The second field" below.
  */
 #ifndef GESARUMBO_H
 #define GESARUMBO_H
@@ -321,6 +324,118 @@ gesarumbo_scrubbed gesarumbo_scrub_reset(gesarumbo_layout layout, gesarumbo_scru
 gesarumbo_scrubbed gesarumbo_scrub(gesarumbo_layout layout,
                                    const uint8_t *codeword, size_t codeword_length,
                                    gesarumbo_scrub_record record, uint64_t budget);
+
+/*
+ * The second field: the whole numbers modulo 257, with root 3 of order 256.
+ *
+ * Every call above has a twin gesarumbo257_.., with symbols lent as 16-bit numbers. What is said
+ * above of a call is said of its twin too, but for the following.
+ *
+ * Layouts. u is 1, 2, 4, 8 or 16; the other conditions are the same. Points and weights are powers
+ * of 3, with 256/u in place of 255/u.
+ *
+ * Symbols are the numbers 0 to 256, and every sum is one modulo 257 in place of the exclusive or.
+ * So signs matter: a tray fed twice to a share counts twice. Lengths count symbols; images and
+ * states stay bytes, and their lengths count bytes.
+ *
+ * Ground 3 applies also where a number above 256 stands where the call looks:
+ *
+ *    test                        every symbol, before it answers
+ *    store                       the data
+ *    recover                     the trays that are not listed
+ *    share, share_many           the helper's rack
+ *    share_add, share_add_many   the tray, and what the share holds
+ *    repair, repair_many         the share symbols of the groups that the call does, and the
+ *                                symbols of the host's sound trays in their layers
+ *    write_image                 the symbols
+ *    scrub                       the layers that the call tests
+ *
+ * It is looked at there also where a later ground applies: to a list that does not rise or is of
+ * the wrong length, to a host that helps, to too many lost trays. Nothing else is looked at: not
+ * what is only written, not erased and lost trays, not other groups and layers. With no lost tray
+ * (e = 0) and in read_part no symbol is looked at, and with a first group above L/s none either.
+ * What is said of repairs in pieces and of walks is said for symbols 0 to 256.
+ *
+ * Images have edition 2 and two bytes a symbol, low byte first: 24 + 2*L bytes. A reader of one
+ * edition refuses an image of the other with 9. Reading copies the symbols to L lent places;
+ * grounds: 1, the layout expected; 2, the places lent, by that layout; 9, also a symbol above 256,
+ * in a demonstration image too; 10; 11. Done: every place is written, whatever it held.
+ */
+typedef struct {
+    uint32_t refusal;
+    uint32_t tray;
+} gesarumbo257_image;
+
+gesarumbo_measured gesarumbo257_measure(gesarumbo_layout layout);
+
+gesarumbo_tested gesarumbo257_test(gesarumbo_layout layout,
+                                   const uint16_t *codeword, size_t codeword_length);
+
+uint32_t gesarumbo257_store(gesarumbo_layout layout,
+                            const uint16_t *data, size_t data_length,
+                            uint16_t *codeword, size_t codeword_length);
+
+uint32_t gesarumbo257_recover(gesarumbo_layout layout,
+                              uint16_t *codeword, size_t codeword_length,
+                              const uint32_t *erased, size_t erased_count);
+
+uint32_t gesarumbo257_share(gesarumbo_layout layout, uint32_t host, uint32_t helper,
+                            const uint16_t *rack, size_t rack_length,
+                            uint16_t *share, size_t share_length);
+
+uint32_t gesarumbo257_share_add(gesarumbo_layout layout, uint32_t host, uint32_t tray,
+                                const uint16_t *symbols, size_t symbols_length,
+                                uint16_t *share, size_t share_length);
+
+uint32_t gesarumbo257_share_many(gesarumbo_layout layout, uint32_t lost_count,
+                                 uint32_t host, uint32_t helper,
+                                 const uint16_t *rack, size_t rack_length,
+                                 uint16_t *share, size_t share_length);
+
+uint32_t gesarumbo257_share_add_many(gesarumbo_layout layout, uint32_t lost_count,
+                                     uint32_t host, uint32_t tray,
+                                     const uint16_t *symbols, size_t symbols_length,
+                                     uint16_t *share, size_t share_length);
+
+gesarumbo_repaired gesarumbo257_repair(gesarumbo_layout layout, uint32_t lost,
+                                       const uint32_t *helpers, size_t helpers_count,
+                                       const uint16_t *shares, size_t shares_length,
+                                       const uint16_t *host, size_t host_length,
+                                       uint16_t *spare, size_t spare_length,
+                                       uint64_t first, uint64_t budget);
+
+gesarumbo_repaired gesarumbo257_repair_many(gesarumbo_layout layout,
+                                            const uint32_t *lost, size_t lost_count,
+                                            const uint32_t *helpers, size_t helpers_count,
+                                            const uint16_t *shares, size_t shares_length,
+                                            const uint16_t *host, size_t host_length,
+                                            uint16_t *spare, size_t spare_length,
+                                            uint64_t first, uint64_t budget);
+
+gesarumbo_part gesarumbo257_read_part(gesarumbo_layout layout,
+                                      const uint16_t *codeword, size_t codeword_length,
+                                      const uint16_t *spare, size_t spare_length,
+                                      uint32_t lost, uint64_t groups,
+                                      uint32_t tray, uint32_t first, uint32_t end);
+
+uint32_t gesarumbo257_write_image(gesarumbo_layout layout,
+                                  uint32_t tray, uint32_t state, uint32_t volume,
+                                  const uint16_t *symbols, size_t symbols_length,
+                                  uint8_t *image, size_t image_length);
+
+gesarumbo257_image gesarumbo257_read_image(gesarumbo_layout layout, uint32_t volume,
+                                           const uint8_t *image, size_t image_length,
+                                           uint16_t *symbols, size_t symbols_length);
+
+gesarumbo_margin_result gesarumbo257_margin(gesarumbo_layout layout,
+                                            const uint8_t *states, size_t states_length);
+
+gesarumbo_scrubbed gesarumbo257_scrub_reset(gesarumbo_layout layout,
+                                            gesarumbo_scrub_record record);
+
+gesarumbo_scrubbed gesarumbo257_scrub(gesarumbo_layout layout,
+                                      const uint16_t *codeword, size_t codeword_length,
+                                      gesarumbo_scrub_record record, uint64_t budget);
 
 /*
  * The sixteen-tray box, a cabinet of its own with no layout. It has 16 trays of one symbol in four

@@ -42,6 +42,21 @@ fn wide(byte: u8) -> u64 {
     byte as u64
 }
 
+// Symbols of the second field in decimal, and the line's end.
+fn say_symbols(symbols: &[u16]) {
+    let mut i = 0usize;
+    while i < symbols.len() {
+        let symbol = symbols[i];
+        say_number(wider(symbol));
+        i += 1;
+    }
+    say(b"\n");
+}
+
+fn wider(symbol: u16) -> u64 {
+    symbol as u64
+}
+
 // What the layout call of the field whose root has so many powers answers: the refusal, L, r and the symbols that cross.
 fn measure(order: u32, b: u32, u: u32, k: u32, d: u32) {
     say(b"layout");
@@ -174,6 +189,46 @@ fn image() {
     say_bytes(&bytes);
 }
 
+// Racks of four, modulo 257 (document 02, W10): the (5, 4, 15, 4) cabinet of source 002 has 32 symbols a tray. Tray 0 holds 256, tray 7 holds 100.
+fn racks_of_four() {
+    measure(256, 5, 4, 15, 4);
+    measure(255, 5, 4, 15, 4);
+    let mut given = [0u16; 480];
+    kernel257::fill(&mut given, 0, 32, 256);
+    kernel257::fill(&mut given, 224, 32, 100);
+    let mut codeword = [0u16; 640];
+    store257::store(cabinet(5, 4, 15, 4), &given, &mut codeword);
+    say(b"tray 15");
+    say_symbols(&codeword[480..488]);
+}
+
+// (2, 2, 2, 1) modulo 257: the lost tray is minus the sum of the other three.
+fn repairing_modulo() {
+    let host = [0u16, 16];
+    let helper = [1u16, 2];
+    let mut given = [0u16; 1];
+    share257::share(
+        cabinet(2, 2, 2, 1),
+        Rack::of(0),
+        Rack::of(1),
+        &helper,
+        &mut given,
+    );
+    let mut spare = [0u16; 1];
+    repair257::repair(
+        cabinet(2, 2, 2, 1),
+        Tray::of(0),
+        &[1],
+        &given,
+        &host,
+        &mut spare,
+        0,
+        1,
+    );
+    say(b"lost");
+    say_symbols(&spare);
+}
+
 fn main() {
     layouts();
     storing();
@@ -181,4 +236,6 @@ fn main() {
     repairing();
     margins();
     image();
+    racks_of_four();
+    repairing_modulo();
 }

@@ -1,114 +1,121 @@
 //! The calls that are timed, one entry each.
 
 use crate::filled::Filled;
+use crate::symbol::Symbol;
 use crate::version::Version;
 use gesarumbo::{Rack, Tested, Tray};
 
-/// What a buffer that is to be written holds before.
-const CLEARED: u8 = 0;
-
 /// A call with one buffer: what it holds before and after, and how a version does it.
-pub struct Call {
+pub struct Call<S: 'static> {
     pub name: &'static str,
-    pub before: fn(&Filled) -> Vec<u8>,
-    pub run: fn(&dyn Version, &Filled, &mut [u8]),
-    pub after: fn(&Filled) -> Vec<u8>,
+    pub before: fn(&Filled<S>) -> Vec<S>,
+    pub run: fn(&dyn Version<S>, &Filled<S>, &mut [S]),
+    pub after: fn(&Filled<S>) -> Vec<S>,
 }
 
-pub const CALLS: [Call; 9] = [
-    Call {
-        name: "store",
-        before: |f| vec![CLEARED; f.codeword.len()],
-        run: |version, f, codeword| version.store(f.layout, &f.data, codeword),
-        after: |f| f.codeword.clone(),
-    },
-    Call {
-        name: "test",
-        before: |f| f.codeword.clone(),
-        run: |version, f, codeword| assert_eq!(version.test(f.layout, codeword), Tested::Sound),
-        after: |f| f.codeword.clone(),
-    },
-    Call {
-        name: "walk",
-        before: |f| f.codeword.clone(),
-        run: |version, f, codeword| assert_eq!(version.walk(f.layout, codeword), 0),
-        after: |f| f.codeword.clone(),
-    },
-    Call {
-        name: "recover-1",
-        before: |f| without(f, &[f.lost]),
-        run: |version, f, codeword| assert!(version.recover(f.layout, codeword, &[f.lost])),
-        after: |f| f.codeword.clone(),
-    },
-    Call {
-        name: "recover-r",
-        before: |f| without(f, &first_trays(f)),
-        run: |version, f, codeword| assert!(version.recover(f.layout, codeword, &first_trays(f))),
-        after: |f| f.codeword.clone(),
-    },
-    share_call(
-        "share-first",
-        |version, f, share| share_for(version, f, f.first_rack(), share),
-        |f| f.share_for(f.first_rack()),
-    ),
-    share_call(
-        "share-middle",
-        |version, f, share| share_for(version, f, f.host, share),
-        |f| f.share_for(f.host),
-    ),
-    share_call(
-        "share-last",
-        |version, f, share| share_for(version, f, f.last_rack(), share),
-        |f| f.share_for(f.last_rack()),
-    ),
-    Call {
-        name: "repair",
-        before: |f| vec![CLEARED; f.layers],
-        run: |version, f, spare| {
-            let host = f.rack(f.host);
-            version.repair(f.layout, f.lost, &f.helpers, &f.shares, host, spare);
+impl<S: Symbol> Call<S> {
+    pub const ALL: [Call<S>; 9] = [
+        Call {
+            name: "store",
+            before: |f| cleared(f.codeword.len()),
+            run: |version, f, codeword| version.store(f.layout, &f.data, codeword),
+            after: |f| f.codeword.clone(),
         },
-        after: |f| f.tray(f.lost).to_vec(),
-    },
-];
+        Call {
+            name: "test",
+            before: |f| f.codeword.clone(),
+            run: |version, f, codeword| assert_eq!(version.test(f.layout, codeword), Tested::Sound),
+            after: |f| f.codeword.clone(),
+        },
+        Call {
+            name: "walk",
+            before: |f| f.codeword.clone(),
+            run: |version, f, codeword| assert_eq!(version.walk(f.layout, codeword), 0),
+            after: |f| f.codeword.clone(),
+        },
+        Call {
+            name: "recover-1",
+            before: |f| without(f, &[f.lost]),
+            run: |version, f, codeword| assert!(version.recover(f.layout, codeword, &[f.lost])),
+            after: |f| f.codeword.clone(),
+        },
+        Call {
+            name: "recover-r",
+            before: |f| without(f, &first_trays(f)),
+            run: |version, f, codeword| {
+                assert!(version.recover(f.layout, codeword, &first_trays(f)))
+            },
+            after: |f| f.codeword.clone(),
+        },
+        share_call(
+            "share-first",
+            |version, f, share| share_for(version, f, f.first_rack(), share),
+            |f| f.share_for(f.first_rack()),
+        ),
+        share_call(
+            "share-middle",
+            |version, f, share| share_for(version, f, f.host, share),
+            |f| f.share_for(f.host),
+        ),
+        share_call(
+            "share-last",
+            |version, f, share| share_for(version, f, f.last_rack(), share),
+            |f| f.share_for(f.last_rack()),
+        ),
+        Call {
+            name: "repair",
+            before: |f| cleared(f.layers),
+            run: |version, f, spare| {
+                let host = f.rack(f.host);
+                version.repair(f.layout, f.lost, &f.helpers, &f.shares, host, spare);
+            },
+            after: |f| f.tray(f.lost).to_vec(),
+        },
+    ];
+}
 
 /// A call for a helper's share, which is written to a cleared buffer.
-const fn share_call(
+const fn share_call<S: Symbol>(
     name: &'static str,
-    run: fn(&dyn Version, &Filled, &mut [u8]),
-    after: fn(&Filled) -> Vec<u8>,
-) -> Call {
+    run: fn(&dyn Version<S>, &Filled<S>, &mut [S]),
+    after: fn(&Filled<S>) -> Vec<S>,
+) -> Call<S> {
     Call {
         name,
-        before: |f| vec![CLEARED; f.groups],
+        before: |f| cleared(f.groups),
         run,
         after,
     }
 }
 
+/// A buffer that is to be written, as it is before.
+fn cleared<S: Symbol>(length: usize) -> Vec<S> {
+    vec![S::default(); length]
+}
+
 /// The share of a helper for a host rack. Which layers follow one another in it depends on the host.
-fn share_for(version: &dyn Version, filled: &Filled, host: Rack, share: &mut [u8]) {
+fn share_for<S: Symbol>(version: &dyn Version<S>, filled: &Filled<S>, host: Rack, share: &mut [S]) {
     let helper = filled.helper_of(host);
     version.share(filled.layout, host, helper, filled.rack(helper), share);
 }
 
 /// As many trays as may be erased: the first ones.
-fn first_trays(filled: &Filled) -> Vec<Tray> {
+fn first_trays<S>(filled: &Filled<S>) -> Vec<Tray> {
     (0..filled.checks as u32).map(Tray::new).collect()
 }
 
 /// The codeword with some trays cleared.
-fn without(filled: &Filled, erased: &[Tray]) -> Vec<u8> {
+fn without<S: Symbol>(filled: &Filled<S>, erased: &[Tray]) -> Vec<S> {
     let mut codeword = filled.codeword.clone();
     for tray in erased {
-        codeword[tray.number() as usize * filled.layers..][..filled.layers].fill(CLEARED);
+        codeword[tray.number() as usize * filled.layers..][..filled.layers].fill(S::default());
     }
     codeword
 }
 
-impl Call {
+impl<S: Symbol> Call<S> {
     /// Asserts that every version writes the same.
-    pub fn check(&self, versions: &[Box<dyn Version>], filled: &Filled) {
+    pub fn check(&self, versions: &[Box<dyn Version<S>>], filled: &Filled<S>) {
         let after = (self.after)(filled);
         for version in versions {
             let mut buffer = (self.before)(filled);

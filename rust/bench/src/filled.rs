@@ -1,33 +1,34 @@
 //! A filled cabinet: what the calls are given.
 
-use gesarumbo::{measure, share, store, test, Layout, Rack, Tested, Tray};
+use crate::symbol::Symbol;
+use gesarumbo::{Layout, Rack, Tested, Tray};
 
 /// The inputs of every call for one layout.
-pub struct Filled {
+pub struct Filled<S> {
     pub layout: Layout,
     pub layers: usize,
     pub checks: usize,
     /// The symbols of a share.
     pub groups: usize,
-    pub data: Vec<u8>,
-    pub codeword: Vec<u8>,
+    pub data: Vec<S>,
+    pub codeword: Vec<S>,
     pub lost: Tray,
     pub host: Rack,
     /// The d helpers, and their shares in this order.
     pub helpers: Vec<Rack>,
-    pub shares: Vec<u8>,
+    pub shares: Vec<S>,
 }
 
-impl Filled {
+impl<S: Symbol> Filled<S> {
     /// A cabinet with data that only look random.
-    pub fn new(layout: Layout) -> Filled {
-        let numbers = measure(layout).expect("the layout is admissible");
+    pub fn new(layout: Layout) -> Filled<S> {
+        let numbers = S::measure(layout).expect("the layout is admissible");
         let (layers, helpers) = (numbers.layers as usize, layout.helpers as usize);
         let groups = numbers.traffic as usize / helpers;
-        let data = bytes(layout.dimension as usize * layers);
-        let mut codeword = vec![0; (layout.racks * layout.size) as usize * layers];
-        store(layout, &data, &mut codeword).expect("the lengths are right");
-        assert_eq!(test(layout, &codeword), Ok(Tested::Sound));
+        let data = symbols(layout.dimension as usize * layers);
+        let mut codeword = vec![S::default(); (layout.racks * layout.size) as usize * layers];
+        S::LIBRARY.store(layout, &data, &mut codeword);
+        assert_eq!(S::LIBRARY.test(layout, &codeword), Tested::Sound);
         let host = Rack::new(layout.racks / 2);
         let mut filled = Filled {
             layout,
@@ -43,7 +44,7 @@ impl Filled {
                 .filter(|&rack| rack != host)
                 .take(helpers)
                 .collect(),
-            shares: vec![0; helpers * groups],
+            shares: vec![S::default(); helpers * groups],
         };
         filled.collect_shares();
         filled
@@ -52,7 +53,7 @@ impl Filled {
     fn collect_shares(&mut self) {
         let mut shares = std::mem::take(&mut self.shares);
         for (&helper, part) in self.helpers.iter().zip(shares.chunks_mut(self.groups)) {
-            share(self.layout, self.host, helper, self.rack(helper), part).expect("it is a helper");
+            S::LIBRARY.share(self.layout, self.host, helper, self.rack(helper), part);
         }
         self.shares = shares;
     }
@@ -71,33 +72,33 @@ impl Filled {
     }
 
     /// Its share.
-    pub fn share_for(&self, host: Rack) -> Vec<u8> {
+    pub fn share_for(&self, host: Rack) -> Vec<S> {
         let helper = self.helper_of(host);
-        let mut symbols = vec![0; self.groups];
-        share(self.layout, host, helper, self.rack(helper), &mut symbols).expect("it is a helper");
+        let mut symbols = vec![S::default(); self.groups];
+        S::LIBRARY.share(self.layout, host, helper, self.rack(helper), &mut symbols);
         symbols
     }
 
     /// The symbols of a rack's trays.
-    pub fn rack(&self, rack: Rack) -> &[u8] {
+    pub fn rack(&self, rack: Rack) -> &[S] {
         let length = self.layout.size as usize * self.layers;
         &self.codeword[rack.number() as usize * length..][..length]
     }
 
     /// The symbols of a tray.
-    pub fn tray(&self, tray: Tray) -> &[u8] {
+    pub fn tray(&self, tray: Tray) -> &[S] {
         &self.codeword[tray.number() as usize * self.layers..][..self.layers]
     }
 }
 
-/// The same bytes in every run, by a xorshift.
-fn bytes(count: usize) -> Vec<u8> {
+/// The same symbols in every run, by a xorshift.
+fn symbols<S: Symbol>(count: usize) -> Vec<S> {
     let mut state = 0x2545_F491_4F6C_DD1D_u64;
     let mut next = || {
         state ^= state << 13;
         state ^= state >> 7;
         state ^= state << 17;
-        (state >> 32) as u8
+        S::of(state >> 32)
     };
     (0..count).map(|_| next()).collect()
 }

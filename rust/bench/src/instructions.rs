@@ -1,19 +1,19 @@
 //! Instructions of one call, counted by valgrind over this program itself.
 
-use crate::options::COUNT;
+use crate::options::{layout_words, COUNT, FIELD};
 use gesarumbo::Layout;
 use std::process::Command;
 
 /// Counts a call by a version; an error says what is missing.
-pub fn of(layout: Layout, call: &str, version: &str) -> Result<u64, String> {
+pub fn of(field: u32, layout: Layout, call: &str, version: &str) -> Result<u64, String> {
     let program = std::env::current_exe().map_err(|error| error.to_string())?;
-    let numbers = [layout.racks, layout.size, layout.dimension, layout.helpers];
     let output = Command::new("valgrind")
         .args(["--tool=callgrind", "--callgrind-out-file=/dev/null"])
         .arg("--toggle-collect=*counted*")
         .arg(program)
-        .args([COUNT, call, version, "--rounds", "1", "--layout"])
-        .args(numbers.map(|number| number.to_string()))
+        .args([COUNT, call, version, "--rounds", "1", FIELD])
+        .arg(field.to_string())
+        .args(layout_words(layout))
         .output()
         .map_err(|error| format!("valgrind: {error}"))?;
     let said = String::from_utf8_lossy(&output.stderr);

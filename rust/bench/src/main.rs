@@ -6,27 +6,18 @@ mod instructions;
 mod machine;
 mod options;
 mod ordinary;
+mod symbol;
 mod table;
 mod timing;
 mod version;
 
-use calls::{Call, CALLS};
+use calls::Call;
 use filled::Filled;
 use gesarumbo::Layout;
 use options::{Options, What};
-use ordinary::multiply::{LogExp, ProductTable};
-use ordinary::Ordinary;
 use std::process::ExitCode;
-use version::{Library, Version};
-
-/// The layouts that are timed: the one that W9 names, the usual one, one with three digits, and one
-/// with racks of five.
-const LAYOUTS: [Layout; 4] = [
-    Layout::new(10, 3, 24, 9),
-    Layout::new(4, 3, 8, 3),
-    Layout::new(5, 3, 4, 3),
-    Layout::new(9, 5, 35, 8),
-];
+use symbol::Symbol;
+use version::Version;
 
 /// How many times the instructions of an ordinary version storing may take.
 const LIMIT: u64 = 2;
@@ -36,59 +27,67 @@ fn main() -> ExitCode {
         eprintln!("{}", options::USAGE);
         return ExitCode::FAILURE;
     };
-    if let Err(error) = answer(asked) {
+    if let Err(error) = answer(&asked) {
         eprintln!("{error}");
         return ExitCode::FAILURE;
     }
     ExitCode::SUCCESS
 }
 
-/// Does what is asked for.
-fn answer(asked: Options) -> Result<(), String> {
-    let versions = versions();
-    let layouts = asked.layout.map_or(LAYOUTS.to_vec(), |layout| vec![layout]);
-    match asked.what {
-        What::Times => print_times(&layouts, &versions, asked.rounds),
-        What::Instructions if asked.quick => return quick_count(layouts[0], &versions),
-        What::Instructions => return print_instructions(&layouts, &versions),
-        What::Count(call, version) => {
-            let call = CALLS.iter().find(|known| known.name == call);
-            let version = versions.iter().find(|known| known.name() == version);
-            let (Some(call), Some(version)) = (call, version) else {
-                return Err(options::USAGE.to_string());
-            };
-            count(layouts[0], call, version.as_ref(), asked.rounds);
+/// Does what is asked for, in one field or in both.
+fn answer(asked: &Options) -> Result<(), String> {
+    if let What::Times = asked.what {
+        print_conditions(asked.rounds);
+    }
+    for field in [u8::COUNT, u16::COUNT] {
+        if asked.field.is_none_or(|only| only == field) {
+            match field {
+                u8::COUNT => answer_in::<u8>(asked)?,
+                _ => answer_in::<u16>(asked)?,
+            }
         }
     }
     Ok(())
 }
 
-/// The library, and what it is compared with.
-fn versions() -> [Box<dyn Version>; 3] {
-    [
-        Box::new(Library),
-        Box::new(Ordinary {
-            name: "log-exp",
-            multiply: LogExp::new(),
-        }),
-        Box::new(Ordinary {
-            name: "product-table",
-            multiply: ProductTable::new(),
-        }),
-    ]
+/// Does what is asked for, in one field.
+fn answer_in<S: Symbol>(asked: &Options) -> Result<(), String> {
+    let versions = S::versions();
+    let layouts = match &asked.layout {
+        Some(layout) => std::slice::from_ref(layout),
+        None => S::LAYOUTS,
+    };
+    match &asked.what {
+        What::Times => print_times(layouts, &versions, asked.rounds),
+        What::Instructions if asked.quick => return quick_count(layouts[0], &versions),
+        What::Instructions => return print_instructions(layouts, &versions),
+        What::Count(call, version) => {
+            let call = Call::ALL.into_iter().find(|known| known.name == call);
+            let version = versions.iter().find(|known| known.name() == version);
+            let (Some(call), Some(version)) = (call, version) else {
+                return Err(options::USAGE.to_string());
+            };
+            count(layouts[0], &call, version.as_ref(), asked.rounds);
+        }
+    }
+    Ok(())
 }
 
-/// Times every call of every layout.
-fn print_times(layouts: &[Layout], versions: &[Box<dyn Version>], rounds: usize) {
+/// What the times were taken on and how.
+fn print_conditions(rounds: usize) {
     println!("Processor: {}.", machine::processor());
     println!("Build: {}.", machine::build());
     println!("Least / median of {rounds} rounds; the versions take turns in each round.");
     println!("Buffers to be written were cleared before each turn; all versions wrote the same.");
+}
+
+/// Times every call of every layout.
+fn print_times<S: Symbol>(layouts: &[Layout], versions: &[Box<dyn Version<S>>], rounds: usize) {
     println!();
     table::heading(versions, ", µs");
     for &layout in layouts {
         let filled = Filled::new(layout);
-        for call in &CALLS {
+        for call in &Call::ALL {
             call.check(versions, &filled);
             let times = timing::time(call, versions, &filled, rounds);
             table::row(layout, call.name, &times);
@@ -97,10 +96,14 @@ fn print_times(layouts: &[Layout], versions: &[Box<dyn Version>], rounds: usize)
 }
 
 /// Counts every call of every layout.
-fn print_instructions(layouts: &[Layout], versions: &[Box<dyn Version>]) -> Result<(), String> {
+fn print_instructions<S: Symbol>(
+    layouts: &[Layout],
+    versions: &[Box<dyn Version<S>>],
+) -> Result<(), String> {
+    println!();
     table::heading(versions, "");
     for &layout in layouts {
-        for call in &CALLS {
+        for call in &Call::ALL {
             table::counts(layout, call.name, &instructions_of(layout, call, versions)?);
         }
     }
@@ -108,10 +111,12 @@ fn print_instructions(layouts: &[Layout], versions: &[Box<dyn Version>]) -> Resu
 }
 
 /// Counts storing, and fails where the library takes too many.
-fn quick_count(layout: Layout, versions: &[Box<dyn Version>]) -> Result<(), String> {
-    let all = instructions_of(layout, &CALLS[0], versions)?;
+fn quick_count<S: Symbol>(layout: Layout, versions: &[Box<dyn Version<S>>]) -> Result<(), String> {
+    let store = &Call::ALL[0];
+    let all = instructions_of(layout, store, versions)?;
+    println!();
     table::heading(versions, "");
-    table::counts(layout, CALLS[0].name, &all);
+    table::counts(layout, store.name, &all);
     match all[1..].iter().find(|&&ordinary| all[0] > LIMIT * ordinary) {
         Some(_) => Err(format!(
             "storing takes more than {LIMIT} times the instructions"
@@ -121,19 +126,19 @@ fn quick_count(layout: Layout, versions: &[Box<dyn Version>]) -> Result<(), Stri
 }
 
 /// The instructions of a call by each version.
-fn instructions_of(
+fn instructions_of<S: Symbol>(
     layout: Layout,
-    call: &Call,
-    versions: &[Box<dyn Version>],
+    call: &Call<S>,
+    versions: &[Box<dyn Version<S>>],
 ) -> Result<Vec<u64>, String> {
     let names = versions.iter().map(|version| version.name());
     names
-        .map(|name| instructions::of(layout, call.name, name))
+        .map(|name| instructions::of(S::COUNT, layout, call.name, name))
         .collect()
 }
 
 /// Does a call some times.
-fn count(layout: Layout, call: &Call, version: &dyn Version, rounds: usize) {
+fn count<S: Symbol>(layout: Layout, call: &Call<S>, version: &dyn Version<S>, rounds: usize) {
     let filled = Filled::new(layout);
     let mut buffer = (call.before)(&filled);
     for _ in 0..rounds {
@@ -144,7 +149,12 @@ fn count(layout: Layout, call: &Call, version: &dyn Version, rounds: usize) {
 
 /// One call, in a function of its own so that a profiler can count it by its name.
 #[inline(never)]
-fn counted(call: &Call, version: &dyn Version, filled: &Filled, buffer: &mut [u8]) {
+fn counted<S: Symbol>(
+    call: &Call<S>,
+    version: &dyn Version<S>,
+    filled: &Filled<S>,
+    buffer: &mut [S],
+) {
     (call.run)(version, filled, buffer);
 }
 
@@ -153,30 +163,34 @@ mod tests {
     use super::*;
     use gesarumbo::{Tested, Tray};
 
-    #[test]
-    fn all_versions_write_the_same() {
-        for layout in LAYOUTS {
-            let filled = Filled::new(layout);
-            for call in &CALLS {
-                call.check(&versions(), &filled);
+    fn all_versions_write_the_same<S: Symbol>() {
+        for &layout in S::LAYOUTS {
+            let filled = Filled::<S>::new(layout);
+            for call in &Call::ALL {
+                call.check(&S::versions(), &filled);
             }
         }
     }
 
+    #[test]
+    fn all_versions_write_the_same_in_both_fields() {
+        all_versions_write_the_same::<u8>();
+        all_versions_write_the_same::<u16>();
+    }
+
     /// A codeword with one symbol changed, and the layer it is in.
-    fn damaged(filled: &Filled) -> (Vec<u8>, usize) {
+    fn damaged<S: Symbol>(filled: &Filled<S>) -> (Vec<S>, usize) {
         let mut codeword = filled.codeword.clone();
         let place = codeword.len() / 2 + 3;
-        codeword[place] ^= 0x40;
+        codeword[place] = S::of(codeword[place].into() + 0x40);
         (codeword, place % filled.layers)
     }
 
-    #[test]
-    fn all_versions_see_a_damage() {
-        for layout in LAYOUTS {
-            let filled = Filled::new(layout);
+    fn all_versions_see_a_damage<S: Symbol>() {
+        for &layout in S::LAYOUTS {
+            let filled = Filled::<S>::new(layout);
             let (codeword, layer) = damaged(&filled);
-            for version in versions() {
+            for version in S::versions() {
                 let Tested::Bad { layer: bad, check } = version.test(layout, &codeword) else {
                     panic!("{} takes a damaged codeword for sound", version.name());
                 };
@@ -187,5 +201,11 @@ mod tests {
                 assert!(lent == codeword, "{} wrote", version.name());
             }
         }
+    }
+
+    #[test]
+    fn all_versions_see_a_damage_in_both_fields() {
+        all_versions_see_a_damage::<u8>();
+        all_versions_see_a_damage::<u16>();
     }
 }

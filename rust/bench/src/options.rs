@@ -1,24 +1,33 @@
 //! The command line.
 
+use crate::symbol::Symbol;
 use gesarumbo::Layout;
 
 pub const USAGE: &str = "\
 usage: bench [--rounds N] [--quick]
-           times every call by every version, and prints a table
+           times every call by every version, and prints a table for each field
        bench --instructions [--quick]
            counts the instructions of every call by every version with valgrind, and prints a
-           table; quick: of storing the first layout, and fails above twice the ordinary version's
+           table for each field; quick: of storing the first layout, and fails above twice the
+           ordinary version's
        bench --count CALL VERSION [--rounds N]
            does one call N times and prints nothing
-each for one layout only: --layout B u k d
+each for one field only: --field 256 or --field 257
+and for one layout only, in the field of 256 if none is named: --layout B u k d
 calls: store, test, walk, recover-1, recover-r, share-first, share-middle, share-last, repair
-versions: library, log-exp, product-table";
+versions in the field of 256: library, log-exp, product-table
+versions in the field of 257: library, remainder, delayed";
 
 /// The word that asks for one call only.
 pub const COUNT: &str = "--count";
+/// The word that asks for one field only.
+pub const FIELD: &str = "--field";
+const LAYOUT: &str = "--layout";
 
 /// What is asked for.
 pub struct Options {
+    /// One field, by its number of symbols; none for both.
+    pub field: Option<u32>,
     /// One layout; none for the usual ones.
     pub layout: Option<Layout>,
     pub rounds: usize,
@@ -39,14 +48,16 @@ const COUNT_ROUNDS: usize = 10;
 
 /// Reads the words of the command line; none where they make no sense.
 pub fn read(mut words: impl Iterator<Item = String>) -> Option<Options> {
-    let (mut layout, mut rounds, mut quick, mut what) = (None, None, false, What::Times);
+    let (mut field, mut layout) = (None, None);
+    let (mut rounds, mut quick, mut what) = (None, false, What::Times);
     while let Some(word) = words.next() {
         match word.as_str() {
             "--rounds" => rounds = Some(words.next()?.parse().ok().filter(|&n| n > 0)?),
             "--quick" => quick = true,
             "--instructions" => what = What::Instructions,
             COUNT => what = What::Count(words.next()?, words.next()?),
-            "--layout" => layout = Some(read_layout(&mut words)?),
+            FIELD => field = Some(words.next()?.parse().ok().filter(is_field)?),
+            LAYOUT => layout = Some(read_layout(&mut words)?),
             _ => return None,
         }
     }
@@ -55,12 +66,30 @@ pub fn read(mut words: impl Iterator<Item = String>) -> Option<Options> {
         _ if quick => QUICK_ROUNDS,
         _ => ROUNDS,
     };
+    let one = layout.is_some() || matches!(what, What::Count(..));
     Some(Options {
+        field: field.or(one.then_some(u8::COUNT)),
         layout,
         rounds: rounds.unwrap_or(usual),
         quick,
         what,
     })
+}
+
+fn is_field(number: &u32) -> bool {
+    [u8::COUNT, u16::COUNT].contains(number)
+}
+
+/// The words that ask for one layout only.
+pub fn layout_words(layout: Layout) -> [String; 5] {
+    let [b, u, k, d] = [layout.racks, layout.size, layout.dimension, layout.helpers];
+    [
+        LAYOUT.to_string(),
+        b.to_string(),
+        u.to_string(),
+        k.to_string(),
+        d.to_string(),
+    ]
 }
 
 fn read_layout(words: &mut impl Iterator<Item = String>) -> Option<Layout> {

@@ -5,7 +5,7 @@ use crate::version::Version;
 use gesarumbo::Layout;
 
 /// Prints the heading: the figures of each version, and the first against each of the others.
-pub fn heading(versions: &[Box<dyn Version>], unit: &str) {
+pub fn heading<S>(versions: &[Box<dyn Version<S>>], unit: &str) {
     let times = versions.iter().map(|v| format!("{}{unit}", v.name()));
     let first = versions[0].name();
     let ratios = versions[1..]

@@ -2,6 +2,7 @@
 
 use crate::calls::Call;
 use crate::filled::Filled;
+use crate::symbol::Symbol;
 use crate::version::Version;
 use std::time::{Duration, Instant};
 
@@ -15,15 +16,15 @@ pub struct Times {
 }
 
 /// Times a call by each version. The buffer is cleared before each turn, outside of the time.
-pub fn time(
-    call: &Call,
-    versions: &[Box<dyn Version>],
-    filled: &Filled,
+pub fn time<S: Symbol>(
+    call: &Call<S>,
+    versions: &[Box<dyn Version<S>>],
+    filled: &Filled<S>,
     rounds: usize,
 ) -> Vec<Times> {
     let before = (call.before)(filled);
     let mut buffer = before.clone();
-    let mut turn = |version: &dyn Version, repeats: u32| {
+    let mut turn = |version: &dyn Version<S>, repeats: u32| {
         buffer.copy_from_slice(&before);
         let start = Instant::now();
         for _ in 0..repeats {

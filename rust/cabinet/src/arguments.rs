@@ -190,15 +190,10 @@ fn range(name: &str, word: &OsStr) -> Result<Range<u32>, Failure> {
     Ok(number(name, OsStr::new(start))?..number(name, OsStr::new(end))?)
 }
 
-/// Document 01's four numbers B, u, k, d.
-pub fn layout(words: [&OsStr; 4]) -> Result<Layout, Failure> {
-    let [racks, size, dimension, helpers] = words;
-    Ok(Layout::new(
-        number("B", racks)?,
-        number("u", size)?,
-        number("k", dimension)?,
-        number("d", helpers)?,
-    ))
+/// A layout, by its numbers B, u, k, d.
+pub fn layout([b, u, k, d]: [&OsStr; 4]) -> Result<Layout, Failure> {
+    let [b, u] = [number("B", b)?, number("u", u)?];
+    Ok(Layout::new(b, u, number("k", k)?, number("d", d)?))
 }
 
 fn usage(words: String) -> Failure {

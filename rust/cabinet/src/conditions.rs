@@ -1,9 +1,10 @@
 //! The conditions of an admissible layout, one by one, for any four 32-bit numbers.
 
+use crate::field::Field;
+use crate::layout;
 use gesarumbo::Layout;
 use std::fmt;
 
-const RACK_SIZES: [u64; 5] = [1, 3, 5, 15, 17];
 const MOST_TRAYS: u64 = 60;
 const MOST_LAYERS: u64 = 4096;
 
@@ -27,7 +28,7 @@ impl From<bool> for Verdict {
 
 /// One condition of an admissible layout.
 pub struct Condition {
-    /// The condition, as document 01 writes it.
+    /// The condition, as documents 01 and 02 write it.
     pub rule: &'static str,
     /// What it asks for, in words.
     pub meaning: &'static str,
@@ -48,13 +49,12 @@ impl fmt::Display for Condition {
     }
 }
 
-/// All conditions of a layout, in document 01's order.
-pub fn conditions(layout: Layout) -> [Condition; 8] {
-    let numbers = [layout.racks, layout.size, layout.dimension, layout.helpers];
-    let [b, u, k, d] = numbers.map(u64::from);
+/// All conditions of a layout in a field, in document 01's order.
+pub fn conditions(layout: Layout, field: Field) -> [Condition; 8] {
+    let [b, u, k, d] = layout::numbers(layout).map(u64::from);
     [
         enough_racks(b),
-        rack_size(u),
+        rack_size(u, field),
         few_trays(b, u),
         enough_data(u, k),
         enough_parity(b, u, k),
@@ -73,12 +73,24 @@ fn enough_racks(b: u64) -> Condition {
     }
 }
 
-fn rack_size(u: u64) -> Condition {
+fn rack_size(u: u64, field: Field) -> Condition {
+    let (rule, meaning, sizes) = match field {
+        Field::Of256 => (
+            "u = 1, 3, 5, 15 or 17",
+            "a rack size that divides 255",
+            [1, 3, 5, 15, 17],
+        ),
+        Field::Of257 => (
+            "u = 1, 2, 4, 8 or 16",
+            "a rack size that divides 256",
+            [1, 2, 4, 8, 16],
+        ),
+    };
     Condition {
-        rule: "u = 1, 3, 5, 15 or 17",
-        meaning: "a rack size that divides 255",
+        rule,
+        meaning,
         here: format!("u = {u}"),
-        verdict: RACK_SIZES.contains(&u).into(),
+        verdict: sizes.contains(&u).into(),
     }
 }
 
@@ -166,32 +178,42 @@ fn power(base: u64, exponent: u64) -> Option<u64> {
 #[cfg(test)]
 mod tests {
     use super::{conditions, Verdict};
+    use crate::field::Field;
     use gesarumbo::Layout;
 
     /// Whether the conditions admit a layout, which the library must say too.
-    fn admitted([racks, size, dimension, helpers]: [u32; 4]) -> bool {
+    fn admitted([racks, size, dimension, helpers]: [u32; 4], field: Field) -> bool {
         let layout = Layout::new(racks, size, dimension, helpers);
-        let conditions = conditions(layout);
+        let conditions = conditions(layout, field);
         let admitted = conditions
             .iter()
             .all(|condition| condition.verdict == Verdict::Holds);
-        assert_eq!(admitted, gesarumbo::measure(layout).is_ok(), "{layout}");
+        let measured = field.measure(layout);
+        assert_eq!(admitted, measured.is_ok(), "{}", field.named(layout));
         admitted
     }
 
-    #[test]
-    fn conditions_agree_with_the_library() {
+    /// How many layouts a field admits, of these rack sizes.
+    fn count(field: Field, sizes: &[u32]) -> u32 {
         let mut count = 0;
         for racks in 0..=62 {
-            for size in [0, 1, 2, 3, 5, 15, 16, 17] {
+            for &size in sizes {
                 for dimension in 0..=62 {
                     for helpers in 0..=62 {
-                        count += u32::from(admitted([racks, size, dimension, helpers]));
+                        count += u32::from(admitted([racks, size, dimension, helpers], field));
                     }
                 }
             }
         }
-        assert_eq!(count, 3344, "as many layouts are admissible");
+        count
+    }
+
+    #[test]
+    fn conditions_agree_with_the_library() {
+        let bytes = count(Field::Of256, &[0, 1, 2, 3, 5, 15, 16, 17]);
+        assert_eq!(bytes, 3344, "as many layouts are admissible");
+        let modulo_257 = count(Field::Of257, &[0, 1, 2, 3, 4, 8, 16, 17]);
+        assert_eq!(modulo_257, 3849, "as many layouts are admissible");
     }
 
     /// Products and powers that wrap in 32 or 64 bits.
@@ -207,7 +229,8 @@ mod tests {
             [most, most, most, most],
         ];
         for layout in wide {
-            assert!(!admitted(layout));
+            assert!(!admitted(layout, Field::Of256));
+            assert!(!admitted(layout, Field::Of257));
         }
     }
 
@@ -216,15 +239,18 @@ mod tests {
     #[test]
     fn conditions_fail_alone() {
         let alone = [
-            (1, [2, 2, 2, 1]),
-            (2, [4, 17, 17, 1]),
-            (3, [2, 1, 0, 0]),
-            (4, [2, 3, 4, 1]),
-            (6, [2, 1, 1, 2]),
-            (7, [7, 1, 1, 4]),
+            (1, [2, 2, 2, 1], Field::Of256),
+            (1, [2, 3, 3, 1], Field::Of257),
+            (2, [4, 17, 17, 1], Field::Of256),
+            (2, [4, 16, 16, 1], Field::Of257),
+            (3, [2, 1, 0, 0], Field::Of256),
+            (4, [2, 3, 4, 1], Field::Of256),
+            (4, [2, 4, 5, 1], Field::Of257),
+            (6, [2, 1, 1, 2], Field::Of257),
+            (7, [7, 1, 1, 4], Field::Of257),
         ];
-        for (place, [racks, size, dimension, helpers]) in alone {
-            let conditions = conditions(Layout::new(racks, size, dimension, helpers));
+        for (place, [racks, size, dimension, helpers], field) in alone {
+            let conditions = conditions(Layout::new(racks, size, dimension, helpers), field);
             for (other, condition) in conditions.iter().enumerate() {
                 let fails = condition.verdict == Verdict::Fails;
                 assert_eq!(

@@ -6,6 +6,7 @@ use crate::files::{self, Page};
 use crate::numbers::Numbers;
 use crate::plate::Plate;
 use crate::screen::{Paint, Screen};
+use crate::symbol::Symbol;
 use crate::words;
 use gesarumbo::{Rack, Refusal, Tested, Tray, ABSENT, DEMONSTRATION, LIVE};
 use std::path::{Path, PathBuf};
@@ -14,9 +15,9 @@ use std::path::{Path, PathBuf};
 pub const HEADER: usize = 24;
 
 /// What stands at a tray's place in the folder.
-pub enum Found {
+pub enum Found<S> {
     /// The symbols that the library handed out.
-    Live(Vec<u8>),
+    Live(Vec<S>),
     Absent,
     Unreadable(String),
     /// The library handed out nothing.
@@ -25,17 +26,17 @@ pub enum Found {
     Misplaced(Tray),
 }
 
-impl Found {
+impl<S: Symbol> Found<S> {
     /// Reads one image; only the library decides whether it is handed out.
-    fn look(path: &Path, plate: Plate, tray: Tray) -> Found {
+    fn look(path: &Path, plate: Plate, tray: Tray) -> Found<S> {
         let bytes = match files::read(path) {
             Ok(Some(bytes)) => bytes,
             Ok(None) => return Found::Absent,
             Err(error) => return Found::Unreadable(error.to_string()),
         };
-        match gesarumbo::read_image(plate.layout, plate.volume, &bytes) {
-            Ok(image) if image.tray == tray => Found::Live(image.symbols.to_vec()),
-            Ok(image) => Found::Misplaced(image.tray),
+        match S::read_image(plate.layout, plate.volume, &bytes) {
+            Ok((found, symbols)) if found == tray => Found::Live(symbols),
+            Ok((found, _)) => Found::Misplaced(found),
             Err(refusal) => Found::Refused(refusal),
         }
     }
@@ -61,27 +62,43 @@ impl Found {
     }
 }
 
-/// A cabinet's folder, with every tray image read.
-pub struct Folder {
+/// Where a cabinet is, and which one is expected there.
+pub struct Place {
     path: PathBuf,
     pub plate: Plate,
-    pub numbers: Numbers,
-    found: Vec<Found>,
 }
 
-impl Folder {
-    /// Reads the folder as the cabinet that its name plate or the settings say.
-    pub fn open(path: impl AsRef<Path>, arguments: &Arguments) -> Result<Folder, Failure> {
+impl Place {
+    /// The folder as the place of the cabinet that its name plate or the settings say.
+    pub fn find(path: impl AsRef<Path>, arguments: &Arguments) -> Result<Place, Failure> {
         let path = path.as_ref();
         if !path.is_dir() {
             return Err(Failure::File(format!("{}: no such folder", path.display())));
         }
-        Folder::read(path, Plate::expected(path, arguments, None)?)
+        Ok(Place {
+            path: path.to_path_buf(),
+            plate: Plate::expected(path, arguments, None)?,
+        })
+    }
+}
+
+/// A cabinet's folder, with every tray image read: a cabinet of the symbol's field.
+pub struct Folder<S> {
+    path: PathBuf,
+    pub plate: Plate,
+    pub numbers: Numbers,
+    found: Vec<Found<S>>,
+}
+
+impl<S: Symbol> Folder<S> {
+    /// Reads the folder at a place.
+    pub fn open(place: &Place) -> Result<Folder<S>, Failure> {
+        Folder::read(&place.path, place.plate)
     }
 
     /// Reads the folder as this cabinet.
-    pub fn read(path: &Path, plate: Plate) -> Result<Folder, Failure> {
-        let numbers = Numbers::of(plate.layout)?;
+    pub fn read(path: &Path, plate: Plate) -> Result<Folder<S>, Failure> {
+        let numbers = Numbers::of(plate.layout, S::FIELD)?;
         let look = |tray| Found::look(&image_path(path, tray), plate, tray);
         Ok(Folder {
             path: path.to_path_buf(),
@@ -102,7 +119,7 @@ impl Folder {
     }
 
     /// What stands at a tray's place; a tray outside the layout is absent.
-    pub fn found(&self, tray: Tray) -> &Found {
+    pub fn found(&self, tray: Tray) -> &Found<S> {
         self.found
             .get(tray.number() as usize)
             .unwrap_or(&Found::Absent)
@@ -120,7 +137,7 @@ impl Folder {
     }
 
     /// A live tray's symbols.
-    pub fn symbols(&self, tray: Tray) -> Result<&[u8], Failure> {
+    pub fn symbols(&self, tray: Tray) -> Result<&[S], Failure> {
         let about = || self.image_path(tray).display().to_string();
         match self.found(tray) {
             Found::Live(symbols) => Ok(symbols),
@@ -140,26 +157,26 @@ impl Folder {
         &self,
         trays: impl Iterator<Item = Tray>,
         but: &[Tray],
-    ) -> Result<Vec<u8>, Failure> {
-        let mut bytes = Vec::new();
+    ) -> Result<Vec<S>, Failure> {
+        let mut joined = Vec::new();
         for tray in trays {
             if but.contains(&tray) {
-                bytes.resize(bytes.len() + self.numbers.layers, 0);
+                joined.resize(joined.len() + self.numbers.layers, S::default());
             } else {
-                bytes.extend_from_slice(self.symbols(tray)?);
+                joined.extend_from_slice(self.symbols(tray)?);
             }
         }
-        Ok(bytes)
+        Ok(joined)
     }
 
     /// The whole codeword; every tray must be live.
-    pub fn codeword(&self) -> Result<Vec<u8>, Failure> {
+    pub fn codeword(&self) -> Result<Vec<S>, Failure> {
         self.joined(self.numbers.all_trays(), &[])
     }
 
     /// The codeword as far as it is there, with zeros for the other trays.
-    pub fn remains(&self) -> Vec<u8> {
-        let mut codeword = vec![0; self.numbers.codeword()];
+    pub fn remains(&self) -> Vec<S> {
+        let mut codeword = vec![S::default(); self.numbers.codeword()];
         for (place, found) in codeword.chunks_mut(self.numbers.layers).zip(&self.found) {
             if let Found::Live(symbols) = found {
                 place.copy_from_slice(symbols);
@@ -170,7 +187,7 @@ impl Folder {
 
     /// The codeword with these symbols for some trays, one after another; nothing if another tray
     /// is missing too.
-    pub fn codeword_with(&self, trays: &[Tray], symbols: &[u8]) -> Option<Vec<u8>> {
+    pub fn codeword_with(&self, trays: &[Tray], symbols: &[S]) -> Option<Vec<S>> {
         let layers = self.numbers.layers;
         let mut codeword = self.joined(self.numbers.all_trays(), trays).ok()?;
         for (tray, symbols) in trays.iter().zip(symbols.chunks(layers)) {
@@ -182,32 +199,32 @@ impl Folder {
 
     /// Tests the codeword with these symbols for some trays; nothing if another tray is missing
     /// too.
-    pub fn test_with(&self, trays: &[Tray], symbols: &[u8]) -> Result<Option<Tested>, Failure> {
-        let test = |codeword: Vec<u8>| gesarumbo::test(self.plate.layout, &codeword);
+    pub fn test_with(&self, trays: &[Tray], symbols: &[S]) -> Result<Option<Tested>, Failure> {
+        let test = |codeword: Vec<S>| (S::CALLS.test)(self.plate.layout, &codeword);
         let tested = self.codeword_with(trays, symbols).map(test);
         tested.transpose().map_err(Failure::refused("test"))
     }
 
     /// What a helper rack sends for the repair of so many trays of a host rack, worked out from the
     /// helper's trays: as many shares, one after another.
-    pub fn share(&self, count: u32, host: Rack, helper: Rack) -> Result<Vec<u8>, Failure> {
+    pub fn share(&self, count: u32, host: Rack, helper: Rack) -> Result<Vec<S>, Failure> {
         let trays = words::count(count as usize, "tray");
         let about = format!("share of rack {helper} for {trays} of rack {host}");
         // Any count above a rack's trays is refused as one more than these is.
         let count = count.min(self.plate.layout.size + 1);
-        let mut share = vec![0; count as usize * self.numbers.groups()];
-        let mut call = |rack: &[u8]| {
-            gesarumbo::share_many(self.plate.layout, count, host, helper, rack, &mut share)
+        let mut share = vec![S::default(); count as usize * self.numbers.groups()];
+        let mut call = |rack: &[S]| {
+            (S::CALLS.share_many)(self.plate.layout, count, host, helper, rack, &mut share)
                 .map_err(Failure::refused(&about))
         };
         // The library judges the numbers first, over zeros; then there is a rack to read.
-        call(&vec![0; self.numbers.size * self.numbers.layers])?;
+        call(&vec![S::default(); self.numbers.size * self.numbers.layers])?;
         call(&self.joined(self.numbers.trays_of(helper), &[])?)?;
         Ok(share)
     }
 
     /// A live image of a tray of this cabinet, as a file to be written.
-    pub fn page(&self, tray: Tray, symbols: &[u8]) -> Result<Page, Failure> {
+    pub fn page(&self, tray: Tray, symbols: &[S]) -> Result<Page, Failure> {
         image(&self.path, self.plate, tray, LIVE, symbols)
     }
 
@@ -228,16 +245,16 @@ pub fn image_path(folder: &Path, tray: Tray) -> PathBuf {
 }
 
 /// A tray's image, as a file to be written.
-pub fn image(
+pub fn image<S: Symbol>(
     folder: &Path,
     plate: Plate,
     tray: Tray,
     state: u8,
-    symbols: &[u8],
+    symbols: &[S],
 ) -> Result<Page, Failure> {
-    let mut image = vec![0; HEADER + symbols.len()];
+    let mut image = vec![0; HEADER + S::WIDTH * symbols.len()];
     let about = format!("image of tray {tray}");
-    gesarumbo::write_image(
+    (S::CALLS.write_image)(
         plate.layout,
         tray,
         state.into(),

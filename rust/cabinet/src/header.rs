@@ -1,6 +1,7 @@
 //! A tray image's header put into words, for people. Whether the image is handed out only the
 //! library decides.
 
+use crate::field::Field;
 use crate::folder::HEADER;
 use crate::plate::Plate;
 use gesarumbo::{Layout, DEMONSTRATION, LIVE};
@@ -15,18 +16,19 @@ impl Header {
         bytes.try_into().ok().map(Header)
     }
 
-    /// The layout and volume that the image claims.
+    /// The layout, volume and field that the image claims; bytes, if its edition is of no field.
     pub fn plate(&self) -> Plate {
         let [b, u, k, d] = [4, 5, 6, 7].map(|at| u32::from(self.0[at]));
         Plate {
             layout: Layout::new(b, u, k, d),
             volume: self.long(12),
+            field: Field::with_edition(self.0[2]).unwrap_or_default(),
         }
     }
 
     /// One line a number.
     pub fn words(&self) -> Vec<String> {
-        let Plate { layout, volume } = self.plate();
+        let Plate { layout, volume, .. } = self.plate();
         let short = u16::from_le_bytes([self.0[0], self.0[1]]);
         let unused = &self.0[9..12];
         vec![

@@ -10,7 +10,8 @@ pub const VERSION: &str = concat!("cabinet ", env!("CARGO_PKG_VERSION"));
 
 const OPENING: &str = "\
 Plans, stores, tests, recovers and repairs cabinets of trays. A cabinet is a
-folder of tray images, tray-00.img and on, with a name plate, cabinet.txt.
+folder of tray images, tray-00.img and on, with a name plate, cabinet.txt. Its
+symbols are bytes, or modulo 257 (--field 257) for racks of 2, 4, 8 or 16 trays.
 
   cabinet COMMAND WORDS..      do it
   cabinet help COMMAND         what a command does, and how it is written

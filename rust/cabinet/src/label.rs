@@ -45,19 +45,21 @@ impl Label {
 
 /// The line up to the helpers: what anyone knows who knows the lost trays and their cabinet.
 fn subject(plate: Plate, lost: &[Tray]) -> String {
-    let (lost, Plate { layout, volume }) = (trays(lost), plate);
-    format!("repair of {lost} of {layout} volume {volume} by racks ")
+    let (lost, cabinet, volume) = (trays(lost), plate.name(), plate.volume);
+    format!("repair of {lost} of {cabinet} volume {volume} by racks ")
 }
 
 #[cfg(test)]
 mod tests {
     use super::Label;
+    use crate::field::Field;
     use crate::plate::Plate;
     use gesarumbo::{Layout, Rack, Tray};
 
     const PLATE: Plate = Plate {
         layout: Layout::new(4, 3, 8, 3),
         volume: 7,
+        field: Field::Of256,
     };
 
     #[test]
@@ -93,6 +95,8 @@ mod tests {
         assert!(!reads(line, Plate { volume: 8, ..PLATE }, 4));
         let layout = Layout::new(4, 3, 7, 3);
         assert!(!reads(line, Plate { layout, ..PLATE }, 4));
+        let field = Field::Of257;
+        assert!(!reads(line, Plate { field, ..PLATE }, 4));
         for broken in ["", "repair", &line[..60], &line.replace("0 2", "0  2")] {
             assert!(!reads(broken, PLATE, 4), "{broken}");
         }

@@ -2,10 +2,11 @@
 
 use crate::folder::{Folder, Found};
 use crate::screen::{Paint, Screen};
+use crate::symbol::Symbol;
 use gesarumbo::{Rack, Refusal, Tray};
 
 /// Prints the cabinet, and what the cells of trays that are not live mean.
-pub fn print(folder: &Folder, screen: &mut Screen) {
+pub fn print<S: Symbol>(folder: &Folder<S>, screen: &mut Screen) {
     for rack in (0..folder.plate.layout.racks).map(Rack::new) {
         let trays = folder.numbers.trays_of(rack);
         let cells: String = trays
@@ -26,7 +27,7 @@ pub fn print(folder: &Folder, screen: &mut Screen) {
 }
 
 /// Four columns a tray, so that 17 of them fit on a line.
-fn cell(found: &Found, tray: Tray, screen: &Screen) -> String {
+fn cell<S>(found: &Found<S>, tray: Tray, screen: &Screen) -> String {
     let (paint, words) = match found {
         Found::Live(_) => (Paint::Good, tray.to_string()),
         Found::Refused(Refusal::Demonstration) => (Paint::Warning, format!("({tray})")),
@@ -36,7 +37,7 @@ fn cell(found: &Found, tray: Tray, screen: &Screen) -> String {
     screen.paint(paint, &format!("{words:>4}"))
 }
 
-fn meaning(found: &Found) -> &'static str {
+fn meaning<S>(found: &Found<S>) -> &'static str {
     match found {
         Found::Live(_) => "live",
         Found::Refused(Refusal::Demonstration) => "in brackets: demonstration",

@@ -7,6 +7,7 @@ use crate::folder::Folder;
 use crate::progress;
 use crate::screen::{Paint, Screen};
 use crate::spare::Spare;
+use crate::symbol::Symbol;
 use crate::task::Task;
 use crate::words::trays;
 use gesarumbo::{Rack, Tested, Tray};
@@ -19,19 +20,23 @@ pub const SPARE: Setting = Setting::with(
 );
 
 /// The work file that is named, or the one beside the trays' images.
-pub fn work_file(arguments: &Arguments, folder: &Folder, lost: &[Tray]) -> PathBuf {
+pub fn work_file<S: Symbol>(arguments: &Arguments, folder: &Folder<S>, lost: &[Tray]) -> PathBuf {
     let named = arguments.value(SPARE).map(PathBuf::from);
     named.unwrap_or_else(|| spare_path(folder, lost))
 }
 
 /// The work file beside the trays' images.
-pub fn spare_path(folder: &Folder, lost: &[Tray]) -> PathBuf {
+pub fn spare_path<S: Symbol>(folder: &Folder<S>, lost: &[Tray]) -> PathBuf {
     let numbers: String = lost.iter().map(|tray| format!("-{tray:02}")).collect();
     folder.file(&format!("tray{numbers}.spare"))
 }
 
 /// All helpers' shares, from the folder's own trays.
-pub fn shares(folder: &Folder, lost: &[Tray], helpers: &[Rack]) -> Result<Vec<u8>, Failure> {
+pub fn shares<S: Symbol>(
+    folder: &Folder<S>,
+    lost: &[Tray],
+    helpers: &[Rack],
+) -> Result<Vec<S>, Failure> {
     let (count, host) = (lost.len() as u32, folder.numbers.host_of(lost));
     let shares: Result<Vec<_>, _> = helpers
         .iter()
@@ -41,9 +46,9 @@ pub fn shares(folder: &Folder, lost: &[Tray], helpers: &[Rack]) -> Result<Vec<u8
 }
 
 /// Does the groups from the first on, piece by piece, as far as the budget goes.
-pub fn work(
-    task: &Task,
-    spare: &mut Spare,
+pub fn work<S: Symbol>(
+    task: &Task<S>,
+    spare: &mut Spare<S>,
     first: u64,
     budget: u64,
     screen: &mut Screen,
@@ -64,10 +69,10 @@ pub fn work(
 }
 
 /// Tests the finished trays with the others, writes their images and removes the work file.
-pub fn finish(
-    folder: &Folder,
+pub fn finish<S: Symbol>(
+    folder: &Folder<S>,
     lost: &[Tray],
-    spare: Spare,
+    spare: Spare<S>,
     screen: &mut Screen,
 ) -> Result<(), Failure> {
     let names = trays(lost);

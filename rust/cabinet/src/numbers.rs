@@ -2,6 +2,7 @@
 
 use crate::conditions::{conditions, Verdict};
 use crate::failure::Failure;
+use crate::field::Field;
 use crate::words::count;
 use gesarumbo::{Layout, Measured, Rack, Tray};
 
@@ -9,6 +10,7 @@ use gesarumbo::{Layout, Measured, Rack, Tray};
 #[derive(Clone, Copy, Debug)]
 pub struct Numbers {
     pub layout: Layout,
+    pub field: Field,
     /// B, racks.
     pub racks: usize,
     /// u, trays in a rack.
@@ -34,23 +36,24 @@ pub struct Numbers {
 }
 
 impl Numbers {
-    /// The numbers of a layout. One that is not admissible is refused, with the first condition
-    /// that fails in words.
-    pub fn of(layout: Layout) -> Result<Numbers, Failure> {
-        let failing = conditions(layout)
+    /// The numbers of a layout in a field. One that is not admissible is refused, with the first
+    /// condition that fails in words.
+    pub fn of(layout: Layout, field: Field) -> Result<Numbers, Failure> {
+        let failing = conditions(layout, field)
             .into_iter()
             .find(|condition| condition.verdict == Verdict::Fails);
-        match (gesarumbo::measure(layout), failing) {
-            (Ok(measured), None) => Numbers::work_out(layout).agreeing_with(measured),
+        let name = field.named(layout);
+        match (field.measure(layout), failing) {
+            (Ok(measured), None) => Numbers::work_out(layout, field).agreeing_with(measured),
             (Err(refusal), Some(condition)) => Err(Failure::Refused {
-                about: format!("layout {layout}: {condition}"),
+                about: format!("layout {name}: {condition}"),
                 refusal,
             }),
-            _ => Err(disagreement(layout)),
+            _ => Err(disagreement(&name)),
         }
     }
 
-    fn work_out(layout: Layout) -> Numbers {
+    fn work_out(layout: Layout, field: Field) -> Numbers {
         let racks = layout.racks as usize;
         let size = layout.size as usize;
         let dimension = layout.dimension as usize;
@@ -59,6 +62,7 @@ impl Numbers {
         let base = helpers - whole + 1;
         Numbers {
             layout,
+            field,
             racks,
             size,
             dimension,
@@ -80,8 +84,13 @@ impl Numbers {
         if ours == theirs {
             Ok(self)
         } else {
-            Err(disagreement(self.layout))
+            Err(disagreement(&self.name()))
         }
+    }
+
+    /// The layout in words.
+    pub fn name(&self) -> String {
+        self.field.named(self.layout)
     }
 
     /// L/s: groups in a repair, and symbols in a share.
@@ -105,7 +114,7 @@ impl Numbers {
         (self.dimension + 1 - self.size) * self.layers
     }
 
-    /// n·L: bytes of a codeword.
+    /// n·L: symbols of a codeword.
     pub fn codeword(&self) -> usize {
         self.trays * self.layers
     }
@@ -145,8 +154,8 @@ impl Numbers {
     }
 }
 
-fn disagreement(layout: Layout) -> Failure {
+fn disagreement(name: &str) -> Failure {
     Failure::Internal(format!(
-        "layout {layout}: the command and the library disagree"
+        "layout {name}: the command and the library disagree"
     ))
 }

@@ -56,7 +56,7 @@ const MARKS: &str = "\
 /// The whole picture.
 pub fn draw(numbers: &Numbers) -> String {
     let grid = Grid::new(numbers);
-    let title = format!("Cabinet {}", numbers.layout);
+    let title = format!("Cabinet {}", numbers.name());
     let height = grid.bottom() + PANEL;
     let mut svg = frame::begin(height, &title, &words(numbers));
     draw_legend(numbers, &mut svg);

@@ -1,10 +1,13 @@
-//! A cabinet's name plate: the layout and volume that every tray image of a folder must have.
+//! A cabinet's name plate: the layout, volume and field that every tray image of a folder must
+//! have.
 //!
 //! They are never taken from the images: a factory-reset tray names a layout and volume too.
 
 use crate::arguments::{Arguments, Setting};
 use crate::failure::Failure;
+use crate::field::Field;
 use crate::files::{self, Page};
+use crate::layout;
 use gesarumbo::Layout;
 use std::path::Path;
 
@@ -19,6 +22,15 @@ pub const VOLUME: Setting = Setting::with(
     "the volume expected, in place of that in cabinet.txt",
 );
 
+pub const FIELD: Setting = Setting::with(
+    "--field",
+    "N",
+    "the field expected, 256 or 257, in place of that in cabinet.txt",
+);
+
+/// The settings in place of a name plate, or of a part of it.
+pub const SETTINGS: [Setting; 3] = [LAYOUT, VOLUME, FIELD];
+
 /// The name plate's file.
 pub const NAME: &str = "cabinet.txt";
 
@@ -27,27 +39,31 @@ pub const NAME: &str = "cabinet.txt";
 pub struct Plate {
     pub layout: Layout,
     pub volume: u32,
+    pub field: Field,
 }
 
 impl Plate {
-    /// What is expected of the images in a folder: the settings' numbers, else those of its name
-    /// plate, else the fallback's.
+    /// What is expected of the images in a folder: what the settings say, else what its name plate
+    /// says, else the fallback.
     pub fn expected(
         folder: &Path,
         arguments: &Arguments,
         fallback: Option<Plate>,
     ) -> Result<Plate, Failure> {
-        let layout = arguments.list(LAYOUT)?.map(four_numbers).transpose()?;
+        let layout = arguments.list(LAYOUT)?.map(listed).transpose()?;
         let volume = arguments.number(VOLUME)?;
-        if let (Some(layout), Some(volume)) = (layout, volume) {
-            return Ok(Plate { layout, volume });
-        }
-        let plate = Plate::of(folder)?
-            .or(fallback)
+        let field = Field::asked(arguments)?;
+        let known = match (layout, volume, field) {
+            (Some(_), Some(_), Some(_)) => None,
+            _ => Plate::of(folder)?.or(fallback),
+        };
+        let plate = known
+            .or(named(layout, volume))
             .ok_or_else(|| unknown(folder))?;
         Ok(Plate {
             layout: layout.unwrap_or(plate.layout),
             volume: volume.unwrap_or(plate.volume),
+            field: field.unwrap_or(plate.field),
         })
     }
 
@@ -66,14 +82,14 @@ impl Plate {
 
     /// The name plate as a file of a folder.
     pub fn page(&self, folder: &Path) -> Page {
-        let Layout {
-            racks,
-            size,
-            dimension,
-            helpers,
-        } = self.layout;
+        let numbers = layout::numbers(self.layout).map(|number| number.to_string());
+        let field = match self.field {
+            Field::Of256 => String::new(),
+            other => format!("field {}\n", other.number()),
+        };
         let text = format!(
-            "layout {racks} {size} {dimension} {helpers}\nvolume {}\n",
+            "layout {}\nvolume {}\n{field}",
+            numbers.join(" "),
             self.volume
         );
         (folder.join(NAME), text.into_bytes())
@@ -82,19 +98,27 @@ impl Plate {
     fn parse(text: &str) -> Option<Plate> {
         let mut lines = text.lines();
         let layout = numbers_after("layout", lines.next()?)?;
-        let volume = numbers_after("volume", lines.next()?)?;
-        match (&layout[..], &volume[..], lines.next()) {
-            (&[b, u, k, d], &[volume], None) => {
-                let layout = Layout::new(b, u, k, d);
-                Some(Plate { layout, volume })
-            }
-            _ => None,
-        }
+        let volume = number_after("volume", lines.next()?)?;
+        let field = match lines.next() {
+            None => Field::default(),
+            Some(line) => Field::with(number_after("field", line)?)?,
+        };
+        let plate = Plate {
+            layout: layout::of(&layout)?,
+            volume,
+            field,
+        };
+        lines.next().is_none().then_some(plate)
+    }
+
+    /// Layout and field in words.
+    pub fn name(&self) -> String {
+        self.field.named(self.layout)
     }
 
     /// The plate in words.
     pub fn words(&self) -> String {
-        format!("Cabinet {}, volume {}", self.layout, self.volume)
+        format!("Cabinet {}, volume {}", self.name(), self.volume)
     }
 }
 
@@ -104,14 +128,27 @@ fn numbers_after(name: &str, line: &str) -> Option<Vec<u32>> {
     rest.split(' ').map(|word| word.parse().ok()).collect()
 }
 
-fn four_numbers(list: Vec<u32>) -> Result<Layout, Failure> {
-    match list[..] {
-        [b, u, k, d] => Ok(Layout::new(b, u, k, d)),
-        _ => Err(Failure::Usage(format!(
-            "{} needs four numbers B,u,k,d",
-            LAYOUT.name
-        ))),
+/// The number of a line that begins with a name.
+fn number_after(name: &str, line: &str) -> Option<u32> {
+    match numbers_after(name, line)?[..] {
+        [number] => Some(number),
+        _ => None,
     }
+}
+
+/// The layout of a list in the settings.
+fn listed(list: Vec<u32>) -> Result<Layout, Failure> {
+    let words = || format!("{} needs the numbers B,u,k,d", LAYOUT.name);
+    layout::of(&list).ok_or_else(|| Failure::Usage(words()))
+}
+
+/// What the settings name where there is no name plate; the field need not be named.
+fn named(layout: Option<Layout>, volume: Option<u32>) -> Option<Plate> {
+    Some(Plate {
+        layout: layout?,
+        volume: volume?,
+        field: Field::default(),
+    })
 }
 
 fn unknown(folder: &Path) -> Failure {

@@ -5,18 +5,19 @@ use crate::folder::Folder;
 use crate::label::Label;
 use crate::mending;
 use crate::spare::{foreign, Spare};
+use crate::symbol::Symbol;
 use crate::task::{judge, Task};
 use gesarumbo::{Layer, Refusal, ScrubRecord, Tray};
 use std::ops::Range;
 use std::path::Path;
 
 /// What is read from: the store, and the spare of a lost tray.
-pub struct Reading<'a> {
-    folder: &'a Folder,
+pub struct Reading<'a, S> {
+    folder: &'a Folder<S>,
     /// With zeros for trays that are not live.
-    store: Vec<u8>,
+    store: Vec<S>,
     lost: Tray,
-    pub spare: Spare,
+    pub spare: Spare<S>,
 }
 
 /// What a spare's work file was held against.
@@ -40,14 +41,14 @@ pub enum Source {
     Untested,
 }
 
-impl<'a> Reading<'a> {
+impl<'a, S: Symbol> Reading<'a, S> {
     /// Reading while one tray is under repair. Its work file must be of this tray alone and of this
     /// cabinet, and of these shares and trays if they are all here.
     pub fn open(
-        folder: &'a Folder,
+        folder: &'a Folder<S>,
         lost: Tray,
         path: &Path,
-    ) -> Result<(Reading<'a>, Origin), Failure> {
+    ) -> Result<(Reading<'a, S>, Origin), Failure> {
         let found = Spare::find(path, &folder.numbers, folder.plate, &[lost])?;
         let (spare, origin) = match found {
             None => (Spare::fresh(path, &folder.numbers, 1), Origin::NoFile),
@@ -57,13 +58,13 @@ impl<'a> Reading<'a> {
     }
 
     /// Reading a tray while none is under repair: another one, not asked for, stands in as lost.
-    pub fn of_store(folder: &'a Folder, tray: Tray) -> Reading<'a> {
+    pub fn of_store(folder: &'a Folder<S>, tray: Tray) -> Reading<'a, S> {
         let other = Tray::new(u32::from(tray.number() == 0));
         let spare = Spare::fresh(Path::new(""), &folder.numbers, 1);
         Reading::of(folder, other, spare)
     }
 
-    fn of(folder: &'a Folder, lost: Tray, spare: Spare) -> Reading<'a> {
+    fn of(folder: &'a Folder<S>, lost: Tray, spare: Spare<S>) -> Reading<'a, S> {
         Reading {
             folder,
             store: folder.remains(),
@@ -74,7 +75,7 @@ impl<'a> Reading<'a> {
 
     /// Layers of a tray. A lost one is read from the spare, and must fit to the other trays if they
     /// are all here; any other is read from the store, and must be live.
-    pub fn read(&self, tray: Tray, layers: Range<Layer>) -> Result<(&[u8], Source), Failure> {
+    pub fn read(&self, tray: Tray, layers: Range<Layer>) -> Result<(&[S], Source), Failure> {
         let about = format!("tray {tray}, layers {}..{}", layers.start, layers.end);
         let part = self
             .part(tray, layers.clone())
@@ -97,9 +98,9 @@ impl<'a> Reading<'a> {
     }
 
     /// The library's answer; for a tray that is not live it is a part of zeros.
-    fn part(&self, tray: Tray, layers: Range<Layer>) -> Result<&[u8], Refusal> {
+    fn part(&self, tray: Tray, layers: Range<Layer>) -> Result<&[S], Refusal> {
         let (layout, spare) = (self.folder.plate.layout, &self.spare);
-        gesarumbo::read_part(
+        (S::CALLS.read_part)(
             layout,
             &self.store,
             &spare.symbols,
@@ -119,7 +120,7 @@ impl<'a> Reading<'a> {
         let [first, end] = [layers.start, layers.end].map(Layer::number);
         let mut record = ScrubRecord::new(first, 0, folder.numbers.layers as u32);
         let budget = u64::from(end - first);
-        gesarumbo::scrub(folder.plate.layout, &codeword, &mut record, budget)
+        (S::CALLS.scrub)(folder.plate.layout, &codeword, &mut record, budget)
             .map_err(Failure::refused("test"))?;
         match record.bad {
             0 => Ok(Source::Tested),
@@ -133,9 +134,9 @@ impl<'a> Reading<'a> {
 }
 
 /// Holds a label against the folder's own shares and trays, if they are all here.
-fn compare(folder: &Folder, label: &Label, path: &Path) -> Result<Origin, Failure> {
+fn compare<S: Symbol>(folder: &Folder<S>, label: &Label, path: &Path) -> Result<Origin, Failure> {
     let Label { lost, helpers, .. } = label;
-    judge(&folder.numbers, lost, helpers, 0).map_err(|_| foreign(path))?;
+    judge::<S>(&folder.numbers, lost, helpers, 0).map_err(|_| foreign(path))?;
     let task = mending::shares(folder, lost, helpers)
         .and_then(|shares| Task::new(folder, lost.clone(), helpers.clone(), shares));
     match task {

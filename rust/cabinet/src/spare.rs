@@ -9,6 +9,7 @@ use crate::files;
 use crate::label::Label;
 use crate::numbers::Numbers;
 use crate::plate::Plate;
+use crate::symbol::Symbol;
 use crate::task::Task;
 use gesarumbo::Tray;
 use std::path::{Path, PathBuf};
@@ -17,26 +18,26 @@ use std::path::{Path, PathBuf};
 const DONE: &str = ", groups done ";
 
 /// A spare and how far its repair is.
-pub struct Spare {
+pub struct Spare<S> {
     path: PathBuf,
     /// Tray after tray, as they are listed.
-    pub symbols: Vec<u8>,
+    pub symbols: Vec<S>,
     /// Groups done, from group 0.
     pub done: u64,
 }
 
-impl Spare {
+impl<S: Symbol> Spare<S> {
     /// A spare of so many trays in which no group is done.
-    pub fn fresh(path: &Path, numbers: &Numbers, trays: usize) -> Spare {
+    pub fn fresh(path: &Path, numbers: &Numbers, trays: usize) -> Spare<S> {
         Spare {
             path: path.to_path_buf(),
-            symbols: vec![0; trays * numbers.layers],
+            symbols: vec![S::default(); trays * numbers.layers],
             done: 0,
         }
     }
 
     /// The spare of this repair as its work file has it; a fresh one if there is no such file.
-    pub fn open(path: &Path, task: &Task) -> Result<Spare, Failure> {
+    pub fn open(path: &Path, task: &Task<S>) -> Result<Spare<S>, Failure> {
         let label = task.label();
         match Spare::find(path, task.numbers(), label.plate, &label.lost)? {
             None => Ok(Spare::fresh(path, task.numbers(), label.lost.len())),
@@ -52,7 +53,7 @@ impl Spare {
         numbers: &Numbers,
         plate: Plate,
         lost: &[Tray],
-    ) -> Result<Option<(Label, Spare)>, Failure> {
+    ) -> Result<Option<(Label, Spare<S>)>, Failure> {
         let Some(bytes) = files::read(path).map_err(Failure::file(path))? else {
             return Ok(None);
         };
@@ -61,16 +62,16 @@ impl Spare {
             .ok_or_else(|| foreign(path))?;
         let spare = Spare {
             path: path.to_path_buf(),
-            symbols: symbols.to_vec(),
+            symbols,
             done,
         };
         Ok(Some((label, spare)))
     }
 
     /// Writes the work file.
-    pub fn save(&self, task: &Task) -> Result<(), Failure> {
+    pub fn save(&self, task: &Task<S>) -> Result<(), Failure> {
         let mut bytes = format!("{}{DONE}{}\n", task.label().line(), self.done).into_bytes();
-        bytes.extend_from_slice(&self.symbols);
+        bytes.extend(S::to_bytes(&self.symbols));
         files::write_one(&self.path, bytes)
     }
 
@@ -85,11 +86,11 @@ impl Spare {
 }
 
 /// The label, the groups done and the symbols of a work file of these trays and this cabinet.
-fn parse<'a>(bytes: &'a [u8], plate: Plate, lost: &[Tray]) -> Option<(Label, u64, &'a [u8])> {
+fn parse<S: Symbol>(bytes: &[u8], plate: Plate, lost: &[Tray]) -> Option<(Label, u64, Vec<S>)> {
     let end = bytes.iter().position(|byte| *byte == b'\n')?;
     let (label, done) = str::from_utf8(&bytes[..end]).ok()?.split_once(DONE)?;
     let label = Label::parse(label, plate, lost)?;
-    Some((label, done.parse().ok()?, &bytes[end + 1..]))
+    Some((label, done.parse().ok()?, S::from_bytes(&bytes[end + 1..])?))
 }
 
 /// A work file that must not be used here.

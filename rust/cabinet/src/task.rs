@@ -6,16 +6,17 @@ use crate::folder::Folder;
 use crate::label::Label;
 use crate::numbers::Numbers;
 use crate::progress;
+use crate::symbol::Symbol;
 use crate::words::trays;
 use gesarumbo::{Rack, Tray};
 
 /// What stays fixed over all pieces of a repair.
-pub struct Task {
+pub struct Task<S> {
     numbers: Numbers,
     label: Label,
-    shares: Vec<u8>,
+    shares: Vec<S>,
     /// The host rack's trays, with zeros for the lost ones.
-    host: Vec<u8>,
+    host: Vec<S>,
 }
 
 /// What one piece did, and how far the whole repair is.
@@ -33,16 +34,16 @@ pub struct Piece {
 
 /// Lets the library judge the numbers of a repair before any share is needed: a repair of no group
 /// over zeros.
-pub fn judge(
+pub fn judge<S: Symbol>(
     numbers: &Numbers,
     lost: &[Tray],
     helpers: &[Rack],
     first: u64,
 ) -> Result<(), Failure> {
-    let shares = vec![0; lost.len() * numbers.traffic()];
-    let host = vec![0; numbers.size * numbers.layers];
-    let mut spare = vec![0; lost.len() * numbers.layers];
-    gesarumbo::repair_many(
+    let shares = vec![S::default(); lost.len() * numbers.traffic()];
+    let host = vec![S::default(); numbers.size * numbers.layers];
+    let mut spare = vec![S::default(); lost.len() * numbers.layers];
+    (S::CALLS.repair_many)(
         numbers.layout,
         lost,
         helpers,
@@ -56,14 +57,14 @@ pub fn judge(
     .map_err(Failure::refused(format!("repair of {}", trays(lost))))
 }
 
-impl Task {
+impl<S: Symbol> Task<S> {
     /// The repair of trays of this folder by these helpers' shares, of numbers already judged.
     pub fn new(
-        folder: &Folder,
+        folder: &Folder<S>,
         lost: Vec<Tray>,
         helpers: Vec<Rack>,
-        shares: Vec<u8>,
-    ) -> Result<Task, Failure> {
+        shares: Vec<S>,
+    ) -> Result<Task<S>, Failure> {
         let numbers = folder.numbers;
         let rack = numbers.trays_of(numbers.host_of(&lost));
         let host = folder.joined(rack, &lost)?;
@@ -101,7 +102,7 @@ impl Task {
     }
 
     /// Does one piece.
-    pub fn piece(&self, spare: &mut [u8], first: u64, budget: u64) -> Result<Piece, Failure> {
+    pub fn piece(&self, spare: &mut [S], first: u64, budget: u64) -> Result<Piece, Failure> {
         let Label {
             plate,
             lost,
@@ -110,7 +111,7 @@ impl Task {
         } = &self.label;
         let (layout, shares, host) = (plate.layout, &self.shares, &self.host);
         let done =
-            gesarumbo::repair_many(layout, lost, helpers, shares, host, spare, first, budget)
+            (S::CALLS.repair_many)(layout, lost, helpers, shares, host, spare, first, budget)
                 .map_err(Failure::refused(format!("repair of {}", trays(lost))))?;
         let of_group = (lost.len() * self.numbers.helpers) as u64;
         Ok(Piece {

@@ -8,6 +8,7 @@ use crate::failure::Failure;
 use crate::files;
 use crate::fingerprint;
 use crate::folder::Folder;
+use crate::symbol::Symbol;
 use gesarumbo::{Layer, Layout, ScrubRecord, Scrubbed};
 use std::path::{Path, PathBuf};
 
@@ -27,18 +28,26 @@ pub struct Walk {
 
 impl Walk {
     /// A new walk over a folder's codeword.
-    pub fn begin(path: PathBuf, folder: &Folder, codeword: &[u8]) -> Result<Walk, Failure> {
+    pub fn begin<S: Symbol>(
+        path: PathBuf,
+        folder: &Folder<S>,
+        codeword: &[S],
+    ) -> Result<Walk, Failure> {
         Ok(Walk {
             path,
             name: name(folder, codeword),
             layout: folder.plate.layout,
-            record: fresh(folder.plate.layout)?,
+            record: fresh::<S>(folder.plate.layout)?,
             bad: Vec::new(),
         })
     }
 
     /// The walk as its file has it; a new one if there is no such file.
-    pub fn go_on(path: PathBuf, folder: &Folder, codeword: &[u8]) -> Result<Walk, Failure> {
+    pub fn go_on<S: Symbol>(
+        path: PathBuf,
+        folder: &Folder<S>,
+        codeword: &[S],
+    ) -> Result<Walk, Failure> {
         let mut walk = Walk::begin(path, folder, codeword)?;
         let Some(bytes) = files::read(&walk.path).map_err(Failure::file(&walk.path))? else {
             return Ok(walk);
@@ -54,7 +63,7 @@ impl Walk {
 
     /// Looks at the next layers, as many as the budget allows and are left, one at a time: a layer
     /// is bad when the library counts one more.
-    pub fn look(&mut self, codeword: &[u8], budget: u64) -> Result<Scrubbed, Failure> {
+    pub fn look<S: Symbol>(&mut self, codeword: &[S], budget: u64) -> Result<Scrubbed, Failure> {
         let mut report = self.step(codeword, 0)?;
         let mut left = budget;
         while left > 0 && report == Scrubbed::Unfinished {
@@ -64,9 +73,9 @@ impl Walk {
         Ok(report)
     }
 
-    fn step(&mut self, codeword: &[u8], budget: u64) -> Result<Scrubbed, Failure> {
+    fn step<S: Symbol>(&mut self, codeword: &[S], budget: u64) -> Result<Scrubbed, Failure> {
         let before = self.record;
-        let report = gesarumbo::scrub(self.layout, codeword, &mut self.record, budget)
+        let report = (S::CALLS.scrub)(self.layout, codeword, &mut self.record, budget)
             .map_err(Failure::refused(self.path.display()))?;
         if self.record.bad > before.bad {
             self.bad.push(before.next);
@@ -105,17 +114,17 @@ impl Walk {
     }
 }
 
-fn fresh(layout: Layout) -> Result<ScrubRecord, Failure> {
+fn fresh<S: Symbol>(layout: Layout) -> Result<ScrubRecord, Failure> {
     let mut record = ScrubRecord::new(0, 0, 0);
-    gesarumbo::scrub_reset(layout, &mut record).map_err(Failure::refused("scrub"))?;
+    (S::CALLS.scrub_reset)(layout, &mut record).map_err(Failure::refused("scrub"))?;
     Ok(record)
 }
 
 /// What makes this walk this one: everything that its calls must have in common.
-fn name(folder: &Folder, codeword: &[u8]) -> String {
-    let (layout, volume) = (folder.plate.layout, folder.plate.volume);
+fn name<S: Symbol>(folder: &Folder<S>, codeword: &[S]) -> String {
+    let (cabinet, volume) = (folder.plate.name(), folder.plate.volume);
     let trays = fingerprint::of(codeword.iter());
-    format!("scrub of {layout} volume {volume} over {trays:016x}")
+    format!("scrub of {cabinet} volume {volume} over {trays:016x}")
 }
 
 /// The record and the bad layers, if the file is of this very walk.

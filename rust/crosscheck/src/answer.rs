@@ -1,7 +1,8 @@
 //! What a call answers, in the vector format's words.
 
-use crate::inputs::hex;
-use crate::lent::Lent;
+use crate::field::{numbers, Field, Symbol};
+use crate::inputs::{byte_word, symbol_word, Inputs};
+use crate::lent::{Guarded, Lent};
 use std::fmt;
 
 /// The grounds of both programs have document 01's numbers.
@@ -21,14 +22,21 @@ impl Ground for reference::Refusal {
     }
 }
 
+/// What a buffer holds.
+#[derive(Clone, Debug, PartialEq, Eq)]
+enum Buffer {
+    Bytes(Vec<u8>),
+    Symbols(Field, Vec<Symbol>),
+}
+
 /// The final buffer of an answer.
 #[derive(Clone, Debug, PartialEq, Eq)]
 enum Final {
     None,
     /// A lent buffer: as it was before, and as it is now.
-    Lent(Vec<u8>, Vec<u8>),
+    Lent(Buffer, Buffer),
     /// A part of one.
-    Part(Vec<u8>),
+    Part(Buffer),
 }
 
 #[derive(Clone, Debug, PartialEq, Eq)]
@@ -66,28 +74,71 @@ impl Answer {
         answer
     }
 
-    /// An answer that is a buffer alone: what it holds afterwards, or a refusal.
-    pub fn filled<R: Ground>(before: &[u8], after: Result<Vec<u8>, R>) -> Answer {
-        let held = after.as_deref().unwrap_or(before).to_vec();
-        Answer::new(after.map(|_| [])).lent(before, &held)
+    /// An answer that is an input of symbols alone: what it holds afterwards, or a
+    /// refusal.
+    pub fn filled<S, R>(inputs: &Inputs, at: usize, after: Result<Vec<S>, R>) -> Answer
+    where
+        S: Copy + Into<Symbol>,
+        R: Ground + Copy,
+    {
+        let done = after.as_ref().map(|_| []).map_err(|&refusal| refusal);
+        Answer::new(done).lent(inputs.field, inputs.symbols(at), after.as_deref().ok())
     }
 
-    pub fn lent(mut self, before: &[u8], after: &[u8]) -> Answer {
-        self.buffer = Final::Lent(before.to_vec(), after.to_vec());
+    /// The same for bytes.
+    pub fn filled_bytes<R: Ground + Copy>(before: &[u8], after: Result<Vec<u8>, R>) -> Answer {
+        let done = after.as_ref().map(|_| []).map_err(|&refusal| refusal);
+        Answer::new(done).lent_bytes(before, after.as_deref().ok())
+    }
+
+    /// With symbols that were lent: what they were, and what they are now where
+    /// the call was not refused.
+    pub fn lent<S: Copy + Into<Symbol>>(
+        mut self,
+        field: Field,
+        before: &[Symbol],
+        after: Option<&[S]>,
+    ) -> Answer {
+        let after = after.map_or(before.to_vec(), numbers);
+        let [before, after] = [before.to_vec(), after].map(|held| Buffer::Symbols(field, held));
+        self.buffer = Final::Lent(before, after);
         self
     }
 
-    pub fn part(mut self, part: &[u8]) -> Answer {
-        self.buffer = Final::Part(part.to_vec());
+    /// The same for bytes.
+    pub fn lent_bytes(mut self, before: &[u8], after: Option<&[u8]>) -> Answer {
+        let after = after.unwrap_or(before);
+        let [before, after] = [before, after].map(|held| Buffer::Bytes(held.to_vec()));
+        self.buffer = Final::Lent(before, after);
         self
     }
 
-    /// The buffer the library was lent to write: its ends must be kept.
-    pub fn written(mut self, lent: &Lent<u8>) -> Answer {
+    /// With symbols that are a part of a lent buffer.
+    pub fn part<S: Copy + Into<Symbol>>(mut self, field: Field, part: &[S]) -> Answer {
+        self.buffer = Final::Part(Buffer::Symbols(field, numbers(part)));
+        self
+    }
+
+    /// The symbols the library was lent to write: their ends must be kept.
+    pub fn written<S>(self, field: Field, lent: &Lent<S>) -> Answer
+    where
+        S: Guarded + Into<Symbol>,
+    {
+        let before = numbers(lent.before());
+        self.ends_of(lent).lent(field, &before, Some(lent.part()))
+    }
+
+    /// The same for bytes.
+    pub fn written_bytes(self, lent: &Lent<u8>) -> Answer {
+        self.ends_of(lent)
+            .lent_bytes(lent.before(), Some(lent.part()))
+    }
+
+    fn ends_of<T: Copy + PartialEq>(mut self, lent: &Lent<T>) -> Answer {
         if !lent.ends_kept() {
             self.spoilt.push("what lies around the written buffer");
         }
-        self.lent(lent.before(), lent.part())
+        self
     }
 
     /// A buffer the library was lent to read: all of it must be kept.
@@ -98,12 +149,31 @@ impl Answer {
         self
     }
 
-    /// The final buffer's bytes.
-    pub fn buffer(&self) -> &[u8] {
+    /// The final buffer's symbols. Asking for another kind of buffer than the
+    /// call has is a mistake of its own file, and panics; here and below.
+    pub fn symbols(&self) -> &[Symbol] {
         match &self.buffer {
-            Final::None => &[],
-            Final::Lent(_, after) => after,
-            Final::Part(part) => part,
+            Final::Lent(_, Buffer::Symbols(_, held)) | Final::Part(Buffer::Symbols(_, held)) => {
+                held
+            }
+            _ => panic!("the answer has no symbols"),
+        }
+    }
+
+    /// The final buffer's bytes.
+    pub fn bytes(&self) -> &[u8] {
+        match &self.buffer {
+            Final::Lent(_, Buffer::Bytes(held)) => held,
+            _ => panic!("the answer has no bytes"),
+        }
+    }
+}
+
+impl fmt::Display for Buffer {
+    fn fmt(&self, f: &mut fmt::Formatter) -> fmt::Result {
+        match self {
+            Buffer::Bytes(held) => f.write_str(&byte_word(held)),
+            Buffer::Symbols(field, held) => f.write_str(&symbol_word(*field, held)),
         }
     }
 }
@@ -117,7 +187,7 @@ impl fmt::Display for Answer {
         match &self.buffer {
             Final::None => Ok(()),
             Final::Lent(before, after) if before == after => f.write_str(" ~"),
-            Final::Lent(_, bytes) | Final::Part(bytes) => write!(f, " {}", hex(bytes)),
+            Final::Lent(_, held) | Final::Part(held) => write!(f, " {held}"),
         }
     }
 }

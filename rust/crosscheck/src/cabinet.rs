@@ -1,21 +1,37 @@
 //! An admissible layout with its numbers, and parts of its codewords.
 
+use crate::field::{in_field, numbers, symbols, Field, Symbol};
+use crate::inputs::{Inputs, Value};
 use crate::random::Random;
 use reference::{Layout, Numbers};
 use std::ops::Range;
 
 #[derive(Clone, Copy, Debug)]
 pub struct Cabinet {
+    pub field: Field,
     /// B, u, k, d.
     pub layout: [u32; 4],
     pub numbers: Numbers,
 }
 
 impl Cabinet {
-    /// The cabinet of a layout, none where it is not admissible.
-    pub fn new(layout: [u32; 4]) -> Option<Cabinet> {
-        let numbers = Layout::from(layout).numbers().ok()?;
-        Some(Cabinet { layout, numbers })
+    /// The cabinet of a layout, none where it is not admissible in the field.
+    pub fn new(field: Field, layout: [u32; 4]) -> Option<Cabinet> {
+        let numbers = in_field!(field, Layout::<F>::from(layout).numbers()).ok()?;
+        Some(Cabinet {
+            field,
+            layout,
+            numbers,
+        })
+    }
+
+    /// The inputs of a call over this layout: it, then the others.
+    pub fn inputs(&self, others: impl IntoIterator<Item = Value>) -> Inputs {
+        let layout = Value::Layout(self.layout);
+        Inputs {
+            field: self.field,
+            values: std::iter::once(layout).chain(others).collect(),
+        }
     }
 
     /// The length of a codeword.
@@ -65,10 +81,13 @@ impl Cabinet {
     }
 
     /// The codeword of random data, by the second program.
-    pub fn codeword(&self, random: &mut Random) -> Vec<u8> {
-        let data = random.bytes(self.numbers.dimension * self.numbers.layers);
-        let stored = reference::store(self.layout.into(), &data, &vec![0; self.symbols()]);
-        stored.expect("the lengths are right")
+    pub fn codeword(&self, random: &mut Random) -> Vec<Symbol> {
+        let data = random.symbols(self.field, self.numbers.dimension * self.numbers.layers);
+        in_field!(self.field, {
+            let lent = symbols::<F>(&vec![0; self.symbols()]);
+            let stored = reference::store::<F>(self.layout.into(), &symbols::<F>(&data), &lent);
+            numbers(&stored.expect("the lengths are right"))
+        })
     }
 
     /// A tray's place in a codeword.

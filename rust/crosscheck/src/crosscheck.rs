@@ -1,6 +1,5 @@
 //! The whole comparison: its parts in their order.
 
-use crate::calls::CALLS;
 use crate::draws::DRAWS;
 use crate::run::Run;
 use crate::source::Source;
@@ -56,7 +55,7 @@ impl Crosscheck {
             self.part(draw.name, |all| (0..cases).for_each(|_| (draw.case)(all)));
         }
         if effort == Effort::Gate {
-            self.run.require_grounds(&CALLS);
+            self.run.require_grounds();
         }
         self.part("vectors", |all| vectors::replay(&mut all.run, vectors));
     }
@@ -94,7 +93,7 @@ impl Crosscheck {
     /// The counts, and the one sentence that sums them up. True where nothing
     /// differed.
     pub fn report(&self) -> bool {
-        print!("{}", self.run.table(&CALLS));
+        print!("{}", self.run.table());
         println!("crosscheck: {}", self.run.summary());
         self.run.differing == 0
     }

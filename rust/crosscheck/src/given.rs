@@ -4,6 +4,7 @@ use crate::answer::Answer;
 use crate::cabinet::Cabinet;
 use crate::calls::repair::budget;
 use crate::calls::{many_shares, Call};
+use crate::field::Symbol;
 use crate::inputs::{Inputs, Value};
 use crate::pair;
 use crate::random::Random;
@@ -14,8 +15,8 @@ pub struct Given {
     /// Trays of one rack, rising.
     pub lost: Vec<u32>,
     pub helpers: Vec<u32>,
-    pub shares: Vec<u8>,
-    pub host: Vec<u8>,
+    pub shares: Vec<Symbol>,
+    pub host: Vec<Symbol>,
 }
 
 impl Given {
@@ -35,7 +36,7 @@ impl Given {
     pub fn of_codeword(
         random: &mut Random,
         cabinet: &Cabinet,
-        codeword: &[u8],
+        codeword: &[Symbol],
         lost: Vec<u32>,
         mut answer: impl FnMut(&Call, &Inputs) -> Answer,
     ) -> Given {
@@ -44,10 +45,11 @@ impl Given {
         let mut shares = vec![];
         for &helper in &helpers {
             let rack = &codeword[cabinet.rack(helper)];
-            let noise = random.bytes(lost.len() * cabinet.numbers.groups);
+            // Where too many are lost, these stay: shares of anything.
+            let noise = random.symbols(cabinet.field, lost.len() * cabinet.numbers.groups);
             let inputs = many_shares(cabinet, lost.len(), host, helper, rack, noise);
             let (call, inputs) = pair::SHARE.either(random, inputs);
-            shares.extend(answer(call, &inputs).buffer());
+            shares.extend(answer(call, &inputs).symbols());
         }
         let host = codeword[cabinet.rack(host)].to_vec();
         Given {
@@ -61,8 +63,9 @@ impl Given {
 
     fn of_no_codeword(random: &mut Random, cabinet: &Cabinet, lost: Vec<u32>) -> Given {
         let helpers = helpers(random, cabinet, rack_of(cabinet, &lost));
-        let shares = random.bytes(lost.len() * cabinet.numbers.helpers * cabinet.numbers.groups);
-        let host = random.bytes(cabinet.rack(0).len());
+        let length = lost.len() * cabinet.numbers.helpers * cabinet.numbers.groups;
+        let shares = random.symbols(cabinet.field, length);
+        let host = random.symbols(cabinet.field, cabinet.rack(0).len());
         Given {
             cabinet: *cabinet,
             lost,
@@ -73,8 +76,9 @@ impl Given {
     }
 
     /// A spare that holds anything.
-    pub fn spare(&self, random: &mut Random) -> Vec<u8> {
-        random.bytes(self.lost.len() * self.cabinet.numbers.layers)
+    pub fn spare(&self, random: &mut Random) -> Vec<Symbol> {
+        let length = self.lost.len() * self.cabinet.numbers.layers;
+        random.noise(self.cabinet.field, length)
     }
 
     /// The group of a place in the spare or in the host rack.
@@ -98,7 +102,7 @@ impl Given {
     pub fn piece(
         &self,
         random: &mut Random,
-        spare: &[u8],
+        spare: &[Symbol],
         first: u64,
         budget: u64,
     ) -> (&'static Call, Inputs) {
@@ -119,21 +123,21 @@ impl Given {
         self.inputs(random, &spare, first as u64, budget)
     }
 
-    /// The host rack's bytes at the lost trays, which nobody looks at, are noise
+    /// The host rack's symbols at the lost trays, which nobody looks at, are noise
     /// of each piece's own.
-    fn inputs(&self, random: &mut Random, spare: &[u8], first: u64, budget: u64) -> Inputs {
+    fn inputs(&self, random: &mut Random, spare: &[Symbol], first: u64, budget: u64) -> Inputs {
+        let cabinet = &self.cabinet;
         let mut host = self.host.clone();
         for tray in &self.lost {
-            let place = self.cabinet.tray(tray % self.cabinet.layout[1]);
-            host[place].copy_from_slice(&random.bytes(self.cabinet.numbers.layers));
+            let noise = random.noise(cabinet.field, cabinet.numbers.layers);
+            host[cabinet.tray(tray % cabinet.layout[1])].copy_from_slice(&noise);
         }
-        Inputs(vec![
-            Value::Layout(self.cabinet.layout),
+        cabinet.inputs([
             Value::List(self.lost.clone()),
             Value::List(self.helpers.clone()),
-            Value::Bytes(self.shares.clone()),
-            Value::Bytes(host),
-            Value::Bytes(spare.to_vec()),
+            Value::Symbols(self.shares.clone()),
+            Value::Symbols(host),
+            Value::Symbols(spare.to_vec()),
             Value::Wide(first),
             Value::Wide(budget),
         ])

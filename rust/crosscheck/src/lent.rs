@@ -1,5 +1,6 @@
 //! Buffers lent to the library, with guarded ends.
 
+use crate::field::{symbol, Symbol};
 use std::hint::black_box;
 
 /// How many places stand before and after a lent part.
@@ -11,13 +12,39 @@ pub struct Lent<T> {
     as_lent: Vec<T>,
 }
 
+/// What stands in a guarded place.
+pub trait Guarded: Copy + PartialEq {
+    fn guard(at: usize) -> Self;
+}
+
+impl Guarded for u8 {
+    fn guard(at: usize) -> u8 {
+        (at * 151 + 77) as u8
+    }
+}
+
+/// Symbols, and numbers above them.
+impl Guarded for u16 {
+    fn guard(at: usize) -> u16 {
+        (at * 24_991 + 77) as u16
+    }
+}
+
 impl Lent<u8> {
     pub fn bytes(part: &[u8]) -> Lent<u8> {
-        Lent::new(part.iter().copied(), |at| (at * 151 + 77) as u8)
+        Lent::new(part.iter().copied(), u8::guard)
     }
 }
 
 impl<T: Copy + PartialEq> Lent<T> {
+    /// Numbers as a field's symbols are lent.
+    pub fn symbols<F: reference::Field<Symbol = T>>(part: &[Symbol]) -> Lent<T>
+    where
+        T: Guarded,
+    {
+        Lent::new(part.iter().map(|&number| symbol::<F>(number)), T::guard)
+    }
+
     /// A list of numbers of a kind.
     pub fn list(numbers: &[u32], kind: fn(u32) -> T) -> Lent<T> {
         Lent::new(numbers.iter().map(|&number| kind(number)), |at| {
@@ -65,25 +92,32 @@ impl<T: Copy + PartialEq> Lent<T> {
 #[cfg(test)]
 mod tests {
     use super::*;
+    use reference::{Field256, Field257};
 
-    #[test]
-    fn a_touched_end_is_seen() {
+    fn a_touched_end_is_seen<F: reference::Field<Symbol: Guarded>>() {
         for at in [0, GUARD - 1, GUARD + 3, 2 * GUARD + 2] {
-            let mut lent = Lent::bytes(&[1, 2, 3]);
+            let mut lent = Lent::symbols::<F>(&[1, 2, 3]);
             assert!(lent.ends_kept() && lent.kept());
-            lent.whole[at] ^= 1;
+            let other: u16 = lent.whole[at].into();
+            lent.whole[at] = symbol::<F>(other ^ 1);
             assert!(!lent.ends_kept() && !lent.kept());
         }
     }
 
     #[test]
+    fn touched_ends_are_seen() {
+        a_touched_end_is_seen::<Field256>();
+        a_touched_end_is_seen::<Field257>();
+    }
+
+    #[test]
     fn a_written_part_leaves_the_ends() {
-        let mut lent = Lent::bytes(&[1, 2, 3]);
+        let mut lent = Lent::symbols::<Field257>(&[1, 2, 300]);
         lent.part_mut()[2] = 9;
         assert!(lent.ends_kept() && !lent.kept());
         assert_eq!(
             (lent.before(), lent.part()),
-            (&[1, 2, 3][..], &[1, 2, 9][..])
+            (&[1, 2, 300][..], &[1, 2, 9][..])
         );
     }
 }

@@ -1,4 +1,5 @@
-//! Compares the library with the second program and with the vectors.
+//! Compares the library with the second program and with the vectors, over both
+//! fields and for the sixteen-tray box.
 //!
 //! Every case is a line of the vector format: a call's name and its inputs. The
 //! library answers it through the wrapper, the second program by itself, and
@@ -19,6 +20,7 @@ pub mod calls;
 pub mod crosscheck;
 pub mod damage;
 pub mod draws;
+pub mod field;
 pub mod given;
 pub mod inputs;
 pub mod lent;

@@ -45,9 +45,9 @@ impl Pair {
 /// where not one is lost. The count is left out, and the list is its tray.
 pub fn for_one(inputs: &Inputs) -> Option<Inputs> {
     let mut same = inputs.clone();
-    match same.0.remove(1) {
+    match same.values.remove(1) {
         Value::Small(1) => {}
-        Value::List(lost) if lost.len() == 1 => same.0.insert(1, Value::Small(lost[0])),
+        Value::List(lost) if lost.len() == 1 => same.values.insert(1, Value::Small(lost[0])),
         _ => return None,
     }
     Some(same)
@@ -56,10 +56,14 @@ pub fn for_one(inputs: &Inputs) -> Option<Inputs> {
 #[cfg(test)]
 mod tests {
     use super::*;
+    use crate::field::Field;
 
     fn one_of(second: Value) -> Option<Vec<Value>> {
-        let inputs = vec![Value::Layout([4, 3, 6, 3]), second, Value::Small(9)];
-        for_one(&Inputs(inputs)).map(|same| same.0[1..].to_vec())
+        let inputs = Inputs {
+            field: Field::Of256,
+            values: vec![Value::Layout([4, 3, 6, 3]), second, Value::Small(9)],
+        };
+        for_one(&inputs).map(|same| same.values[1..].to_vec())
     }
 
     #[test]

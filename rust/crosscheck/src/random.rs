@@ -1,5 +1,7 @@
 //! A random generator that gives the same numbers for the same seed.
 
+use crate::field::{Field, Symbol};
+
 /// The generator xorshift64*.
 pub struct Random(u64);
 
@@ -25,6 +27,15 @@ impl Random {
         (self.word() >> 11) as usize % bound
     }
 
+    /// A place of so many: the first, the last, or any.
+    pub fn place(&mut self, count: usize) -> usize {
+        match self.below(4) {
+            0 => 0,
+            1 => count - 1,
+            _ => self.below(count),
+        }
+    }
+
     /// True once in so many times.
     pub fn one_in(&mut self, times: usize) -> bool {
         self.below(times) == 0
@@ -38,12 +49,47 @@ impl Random {
         (self.word() >> 56) as u8
     }
 
-    pub fn nonzero(&mut self) -> u8 {
-        1 + self.below(255) as u8
-    }
-
     pub fn bytes(&mut self, length: usize) -> Vec<u8> {
         (0..length).map(|_| self.byte()).collect()
+    }
+
+    pub fn symbol(&mut self, field: Field) -> Symbol {
+        self.below(field.symbols()) as Symbol
+    }
+
+    pub fn nonzero(&mut self, field: Field) -> Symbol {
+        1 + self.below(field.symbols() - 1) as Symbol
+    }
+
+    /// Symbols of all kinds, or of the least and the greatest only.
+    pub fn symbols(&mut self, field: Field, length: usize) -> Vec<Symbol> {
+        if self.one_in(8) {
+            let greatest = field.symbols() as Symbol - 1;
+            let ends = [0, 1, greatest - 1, greatest];
+            return (0..length).map(|_| self.pick(&ends)).collect();
+        }
+        (0..length).map(|_| self.symbol(field)).collect()
+    }
+
+    /// A number that can be lent as a symbol of the field of 257 and is none.
+    pub fn above(&mut self) -> Symbol {
+        let any = 257 + self.below(65_536 - 257) as Symbol;
+        self.pick(&[257, 258, 512, 513, 0x8000, 0xFF00, 0xFFFF, any])
+    }
+
+    /// A number to be lent as a symbol: one, or in the field of 257 none half of
+    /// the time.
+    pub fn lendable(&mut self, field: Field) -> Symbol {
+        if field == Field::Of257 && self.one_in(2) {
+            self.above()
+        } else {
+            self.symbol(field)
+        }
+    }
+
+    /// What a buffer holds that nobody looks at.
+    pub fn noise(&mut self, field: Field, length: usize) -> Vec<Symbol> {
+        (0..length).map(|_| self.lendable(field)).collect()
     }
 
     /// So many of the numbers given, in their order there.
@@ -65,6 +111,18 @@ mod tests {
         let mut random = Random::new(1);
         assert_eq!(random.word(), 5_180_492_295_206_395_165);
         assert_ne!(random.word(), random.word());
+    }
+
+    #[test]
+    fn symbols_are_below_their_number() {
+        let mut random = Random::new(3);
+        for field in [Field::Of256, Field::Of257] {
+            let drawn = random.symbols(field, 10_000);
+            let greatest = drawn.iter().copied().max();
+            assert_eq!(greatest, Some(field.symbols() as Symbol - 1));
+        }
+        assert!((0..1000).all(|_| random.above() > 256));
+        assert!((0..1000).all(|_| random.lendable(Field::Of256) < 256));
     }
 
     #[test]

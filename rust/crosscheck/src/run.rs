@@ -1,7 +1,8 @@
 //! The comparison itself, and what is counted of it.
 
 use crate::answer::Answer;
-use crate::calls::Call;
+use crate::calls::{calls, groups, Call, Group, Looks};
+use crate::field::Field;
 use crate::inputs::Inputs;
 use std::collections::BTreeMap;
 
@@ -11,8 +12,10 @@ const SHOWN_LENGTH: usize = 2000;
 
 #[derive(Default)]
 pub struct Run {
-    /// Calls compared, by call and ground.
-    counts: BTreeMap<(&'static str, u32), u64>,
+    /// Calls compared, by field, call and ground.
+    counts: BTreeMap<(Field, &'static str, u32), u64>,
+    /// Numbers that are no symbols, by call and whether it looks at them.
+    large: BTreeMap<(&'static str, bool), u64>,
     pub compared: u64,
     pub claims: u64,
     pub differing: u64,
@@ -23,7 +26,7 @@ impl Run {
     pub fn compare(&mut self, call: &Call, inputs: &Inputs) -> Answer {
         let answer = (call.library)(inputs);
         let expected = (call.reference)(inputs).to_string();
-        self.count(call, &answer);
+        self.count(call, inputs, &answer);
         self.judge(call, inputs, &answer, &expected, "the second program");
         answer
     }
@@ -31,7 +34,7 @@ impl Run {
     /// Puts a vector to both programs and compares each with its text.
     pub fn replay(&mut self, call: &Call, inputs: &Inputs, expected: &str) {
         let answer = (call.library)(inputs);
-        self.count(call, &answer);
+        self.count(call, inputs, &answer);
         self.judge(call, inputs, &answer, expected, "the vector");
         let second = (call.reference)(inputs).to_string();
         self.require(second == expected, || {
@@ -44,9 +47,15 @@ impl Run {
         });
     }
 
-    fn count(&mut self, call: &Call, answer: &Answer) {
+    fn count(&mut self, call: &Call, inputs: &Inputs, answer: &Answer) {
         self.compared += 1;
-        *self.counts.entry((call.name, answer.refusal)).or_default() += 1;
+        let met = (inputs.field, call.name, answer.refusal);
+        *self.counts.entry(met).or_default() += 1;
+    }
+
+    /// Counts a number that is no symbol, put where a call looks or does not.
+    pub fn count_large(&mut self, call: &Call, looked_at: bool) {
+        *self.large.entry((call.name, looked_at)).or_default() += 1;
     }
 
     fn judge(&mut self, call: &Call, inputs: &Inputs, answer: &Answer, expected: &str, by: &str) {
@@ -77,34 +86,61 @@ impl Run {
         }
     }
 
-    /// Requires that each call was done and met each of its grounds.
-    pub fn require_grounds(&mut self, calls: &[&Call]) {
-        for call in calls {
-            for ground in [0].iter().chain(call.grounds) {
-                let met = self.counts.contains_key(&(call.name, *ground));
-                self.require(met, || format!("{} never answered {ground}", call.name));
+    /// Requires that each call of each field and of the box was done and met each of
+    /// its grounds, and that numbers which are no symbols stood where it looks and
+    /// where it doesn't.
+    pub fn require_grounds(&mut self) {
+        for group in groups() {
+            for call in &group.calls {
+                for ground in [0].into_iter().chain(call.grounds_in(group.field)) {
+                    let (of, name) = (&group.name, call.name);
+                    let met = self.counts.contains_key(&(group.field, name, ground));
+                    self.require(met, || format!("{of}: {name} never answered {ground}"));
+                }
+            }
+        }
+        for call in calls(Field::Of257).iter().filter(|call| call.has_symbols()) {
+            let kinds: &[bool] = match call.looks {
+                Looks::AtAll => &[true],
+                Looks::AtNone => &[false],
+                Looks::AtSome(_) => &[true, false],
+            };
+            for looked_at in kinds {
+                let met = self.large.contains_key(&(call.name, *looked_at));
+                let name = call.name;
+                self.require(met, || format!("{name}: no number above 256, {looked_at}"));
             }
         }
     }
 
-    /// The calls by call and ground, a line each.
-    pub fn table(&self, calls: &[&Call]) -> String {
-        let of_call = |call: &&Call| {
-            let counts = self
-                .counts
-                .iter()
-                .filter(|((name, _), _)| *name == call.name);
-            let cells = counts.map(|((_, ground), count)| match ground {
+    /// The calls of each field and of the box by ground, a line each.
+    pub fn table(&self) -> String {
+        groups().map(|group| self.table_of(&group)).concat()
+    }
+
+    fn table_of(&self, group: &Group) -> String {
+        let field = group.field;
+        let line = |call: &&Call| {
+            let counts = self.counts.iter();
+            let own = counts.filter(|((of, name, _), _)| (*of, *name) == (field, call.name));
+            let cells = own.map(|((.., ground), count)| match ground {
                 0 => format!("done {count}"),
                 ground => format!("ground {ground} {count}"),
             });
-            format!(
-                "  {:<12} {}\n",
-                call.name,
-                cells.collect::<Vec<String>>().join(", ")
-            )
+            let cells: Vec<String> = cells.chain(self.large_cell(field, call)).collect();
+            format!("  {:<12} {}\n", call.name, cells.join(", "))
         };
-        calls.iter().map(of_call).collect()
+        let lines: String = group.calls.iter().map(line).collect();
+        format!("{}\n{lines}", group.name)
+    }
+
+    /// How many numbers that are no symbols were put where the call looks, and
+    /// where it doesn't.
+    fn large_cell(&self, field: Field, call: &Call) -> Option<String> {
+        let count = |looked_at| self.large.get(&(call.name, looked_at)).copied();
+        let [seen, unseen] = [true, false].map(|looked_at| count(looked_at).unwrap_or(0));
+        let any = field == Field::Of257 && seen + unseen > 0;
+        any.then(|| format!("above 256: {seen} looked at, {unseen} not"))
     }
 
     pub fn summary(&self) -> String {

@@ -2,6 +2,7 @@
 //! time is changed by its kind.
 
 use crate::cabinet::Cabinet;
+use crate::field::{Field, Symbol};
 use crate::inputs::{Inputs, Value};
 use crate::random::Random;
 use crate::source::Source;
@@ -9,9 +10,9 @@ use crate::source::Source;
 /// Changes one input, or several where more grounds shall stand together.
 pub fn spoil(source: &mut Source, cabinet: &Cabinet, inputs: &mut Inputs, times: usize) {
     for _ in 0..times {
-        let at = source.random.below(inputs.0.len());
-        match &mut inputs.0[at] {
-            Value::Layout(layout) => spoil_layout(source, layout),
+        let at = source.random.below(inputs.values.len());
+        match &mut inputs.values[at] {
+            Value::Layout(layout) => spoil_layout(source, cabinet.field, layout),
             Value::Small(number) => {
                 *number = number_near(&mut source.random, cabinet, u64::from(*number), 32) as u32
             }
@@ -19,18 +20,19 @@ pub fn spoil(source: &mut Source, cabinet: &Cabinet, inputs: &mut Inputs, times:
             Value::List(list) => spoil_list(&mut source.random, cabinet, list),
             Value::Record(record) => spoil_record(&mut source.random, cabinet, record),
             Value::Bytes(bytes) => spoil_bytes(&mut source.random, cabinet, bytes),
+            Value::Symbols(symbols) => spoil_symbols(&mut source.random, cabinet, symbols),
         }
     }
 }
 
-fn spoil_layout(source: &mut Source, layout: &mut [u32; 4]) {
+fn spoil_layout(source: &mut Source, field: Field, layout: &mut [u32; 4]) {
     let random = &mut source.random;
     let at = random.below(4);
     match random.below(8) {
         0 | 1 => layout[at] = layout[at].wrapping_add(random.pick(&[1, u32::MAX])),
         2 => layout[at] = random.pick(&[0, u32::MAX]),
         3 => layout[at] = layout[at].wrapping_add(random.pick(&[1 << 8, 1 << 16, 1 << 31])),
-        4 => *layout = wrapping_trays(random),
+        4 => *layout = wrapping_trays(random, field),
         5 => *layout = many_layers(random),
         6 => *layout = [(); 4].map(|()| random.below(20) as u32),
         _ => *layout = source.cabinet().layout,
@@ -38,20 +40,21 @@ fn spoil_layout(source: &mut Source, layout: &mut [u32; 4]) {
 }
 
 /// A layout whose number of trays is small in 32 bits only.
-fn wrapping_trays(random: &mut Random) -> [u32; 4] {
-    let size: u32 = random.pick(&[3, 5, 15, 17]);
-    // Newton's steps to the inverse of an odd number in 32 bits.
-    let inverse = (0..5).fold(size, |near, _| {
-        near.wrapping_mul(2u32.wrapping_sub(size.wrapping_mul(near)))
-    });
-    let trays = 2 + random.below(47) as u32;
+fn wrapping_trays(random: &mut Random, field: Field) -> [u32; 4] {
+    let size: u32 = random.pick(&field.rack_sizes()[1..]);
+    let racks = match field {
+        Field::Of256 => {
+            // Newton's steps to the inverse of an odd number in 32 bits.
+            let inverse = (0..5).fold(size, |near, _| {
+                near.wrapping_mul(2u32.wrapping_sub(size.wrapping_mul(near)))
+            });
+            inverse.wrapping_mul(2 + random.below(47) as u32)
+        }
+        // The size is a power of 2, and 2^32 trays are none.
+        Field::Of257 => (u32::MAX / size + 1) + 1 + random.below(3) as u32,
+    };
     let dimension = size + random.below(4) as u32;
-    [
-        inverse.wrapping_mul(trays),
-        size,
-        dimension,
-        1 + random.below(3) as u32,
-    ]
+    [racks, size, dimension, 1 + random.below(3) as u32]
 }
 
 /// A layout whose number of layers may be small in 32 or 64 bits only.
@@ -146,19 +149,45 @@ fn long(random: &mut Random, cabinet: &Cabinet) -> Vec<u32> {
         .collect()
 }
 
+/// Another length, near the one there.
+fn other_length(random: &mut Random, cabinet: &Cabinet, length: usize) -> usize {
+    let step = random.pick(&landmarks(cabinet));
+    match random.below(5) {
+        0 => length + 1,
+        1 => length.saturating_sub(1),
+        2 => length + step,
+        3 => length.saturating_sub(step),
+        _ => step,
+    }
+}
+
+/// Another length, or one place changed: to the least or the greatest symbol, to
+/// one near, to any, or to a number that is none. Where there are such numbers,
+/// the place is changed more often than the length.
+fn spoil_symbols(random: &mut Random, cabinet: &Cabinet, symbols: &mut Vec<Symbol>) {
+    let (length, count) = (symbols.len(), cabinet.field.symbols() as Symbol);
+    let one_in = match cabinet.field {
+        Field::Of256 => 2,
+        Field::Of257 => 4,
+    };
+    if length == 0 || random.one_in(one_in) {
+        let new = other_length(random, cabinet, length);
+        symbols.resize(new, random.lendable(cabinet.field));
+    } else {
+        let at = random.place(length);
+        let old = symbols[at];
+        let near = [old.saturating_add(1), old.saturating_sub(1)].map(|near| near.min(count - 1));
+        let any = random.lendable(cabinet.field);
+        symbols[at] = random.pick(&[0, 1, count - 1, near[0], near[1], any, any, any]);
+    }
+}
+
+/// Another length, or one byte changed, in the front half of the time.
 fn spoil_bytes(random: &mut Random, cabinet: &Cabinet, bytes: &mut Vec<u8>) {
     let length = bytes.len();
     if length == 0 || random.one_in(2) {
-        let step = random.pick(&landmarks(cabinet));
-        let new = match random.below(5) {
-            0 => length + 1,
-            1 => length.saturating_sub(1),
-            2 => length + step,
-            3 => length.saturating_sub(step),
-            _ => step,
-        };
-        let fill = random.byte();
-        bytes.resize(new, fill);
+        let new = other_length(random, cabinet, length);
+        bytes.resize(new, random.byte());
     } else {
         let headed = random.one_in(2);
         let at = random.below(if headed { length.min(24) } else { length });
@@ -180,23 +209,26 @@ fn spoil_bytes(random: &mut Random, cabinet: &Cabinet, bytes: &mut Vec<u8>) {
 #[cfg(test)]
 mod tests {
     use super::*;
+    use crate::field::FIELDS;
 
     #[test]
     fn trays_that_wrap_are_few_in_32_bits_only() {
         let mut random = Random::new(9);
-        let mut wrapped = 0;
-        for _ in 0..1000 {
-            let [racks, size, ..] = wrapping_trays(&mut random);
-            assert!((2..=48).contains(&racks.wrapping_mul(size)));
-            wrapped += u32::from(u64::from(racks) * u64::from(size) > 48);
+        for field in FIELDS {
+            let mut wrapped = 0;
+            for _ in 0..1000 {
+                let [racks, size, ..] = wrapping_trays(&mut random, field);
+                assert!((2..=48).contains(&racks.wrapping_mul(size)));
+                wrapped += u32::from(u64::from(racks) * u64::from(size) > 48);
+            }
+            assert!(wrapped > 500);
         }
-        assert!(wrapped > 500);
     }
 
     #[test]
     fn a_spoilt_number_keeps_its_width() {
         let mut random = Random::new(10);
-        let cabinet = Cabinet::new([4, 3, 8, 3]).unwrap();
+        let cabinet = Cabinet::new(Field::Of256, [4, 3, 8, 3]).unwrap();
         let near = |random: &mut Random, bits| number_near(random, &cabinet, 5, bits);
         assert!((0..1000).all(|_| near(&mut random, 32) <= u64::from(u32::MAX)));
         assert!((0..1000).any(|_| near(&mut random, 64) == u64::MAX));

@@ -1,6 +1,7 @@
 //! The replay of the vector files.
 
-use crate::calls::CALLS;
+use crate::calls::groups;
+use crate::field::{Field, FIELDS};
 use crate::inputs::Inputs;
 use crate::run::Run;
 use std::fs;
@@ -8,7 +9,7 @@ use std::io;
 use std::path::{Path, PathBuf};
 
 /// The requests that have landed. Each new one is named here.
-pub const LANDED: &[&str] = &["W1", "W2", "W4", "W5", "W6", "W7", "W8", "W11"];
+pub const LANDED: &[&str] = &["W1", "W2", "W4", "W5", "W6", "W7", "W8", "W10", "W11"];
 
 /// Cases replayed and left out.
 #[derive(Debug, Default, PartialEq, Eq)]
@@ -61,6 +62,9 @@ fn replay_text(run: &mut Run, replayed: &mut Replayed, name: &str, text: &str, l
         return run.require(false, || format!("{name} names no rules"));
     };
     let in_force = rules.split(' ').all(|rule| holds(rule, landed));
+    let Some(field) = field_of(rules) else {
+        return run.require(false, || format!("{name} names no field"));
+    };
     for line in text
         .lines()
         .filter(|line| !line.is_empty() && !line.starts_with('#'))
@@ -70,17 +74,27 @@ fn replay_text(run: &mut Run, replayed: &mut Replayed, name: &str, text: &str, l
             continue;
         }
         replayed.run += 1;
-        if let Err(words) = replay_line(run, line) {
+        if let Err(words) = replay_line(run, field, line) {
             run.require(false, || format!("{name}: {words} in: {line}"));
         }
     }
 }
 
-/// Whether a rule of a file's first line is in force: the field of 256, and a
-/// request that has landed or is not asked for.
+/// The field that a file's first line names.
+fn field_of(rules: &str) -> Option<Field> {
+    let number = rules
+        .split(' ')
+        .find_map(|rule| rule.strip_prefix("field="))?;
+    let mut fields = FIELDS.into_iter();
+    fields.find(|field| field.symbols().to_string() == number)
+}
+
+/// Whether a rule of a file's first line is in force: the first field, the second
+/// where it has landed, and a request that has landed or is not asked for.
 fn holds(rule: &str, landed: &[&str]) -> bool {
     match rule.split_once('=') {
-        Some(("field", field)) => field == "256",
+        Some(("field", "256")) => true,
+        Some(("field", _)) => landed.contains(&"W10"),
         Some((_, "0")) => true,
         Some((request, "1")) => landed.contains(&request.to_uppercase().as_str()),
         _ => false,
@@ -93,14 +107,15 @@ fn superseded(line: &str, landed: &[&str]) -> bool {
     until.split(',').any(|request| landed.contains(&request))
 }
 
-fn replay_line(run: &mut Run, line: &str) -> Result<(), String> {
+fn replay_line(run: &mut Run, field: Field, line: &str) -> Result<(), String> {
     let (case, expected) = line.split_once(" > ").ok_or("no answer")?;
     let words: Vec<&str> = case.split(' ').collect();
-    let call = CALLS
-        .iter()
+    let groups = groups().into_iter().filter(|group| group.field == field);
+    let call = groups
+        .flat_map(|group| group.calls)
         .find(|call| call.name == words[0])
         .ok_or("an unknown call")?;
-    let inputs = Inputs::parse(call.shape, words.get(3..).ok_or("no inputs")?)?;
+    let inputs = Inputs::parse(field, call.shape, words.get(3..).ok_or("no inputs")?)?;
     run.replay(call, &inputs, expected);
     Ok(())
 }
@@ -142,6 +157,20 @@ mod tests {
         assert_eq!(outcome(&file, &[]), (0, 1, 0));
         let other_field = format!("{}{case}", RULES.replace("256", "257"));
         assert_eq!(outcome(&other_field, &[]), (0, 1, 0));
+        assert_eq!(outcome(&other_field, &["W10"]), (1, 0, 0));
+    }
+
+    #[test]
+    fn symbols_are_written_by_the_field() {
+        let rules = RULES.replace("256", "257");
+        let file = |words: &str| format!("{rules}store a-1 - 2,1,1,1 {words}\n");
+        let right = file("w00a7 w01010000 > 0 w00a7005a");
+        assert_eq!(outcome(&right, &["W10"]), (1, 0, 0));
+        let wrong = file("w00a7 w01010000 > 0 w00a700a7");
+        assert_eq!(outcome(&wrong, &["W10"]), (1, 0, 2));
+        assert_eq!(outcome(&file("xa7 x0000 > 0 xa7a7"), &["W10"]), (1, 0, 1));
+        let no_field = right.replace("257", "258");
+        assert_eq!(outcome(&no_field, &["W10"]), (0, 0, 1));
     }
 
     #[test]

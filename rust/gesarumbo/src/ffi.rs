@@ -44,13 +44,20 @@ pub struct Part {
     pub length: usize,
 }
 
-/// The answer to the reading of an image: where its symbols lie in it.
+/// The answer to the reading of an image of the first field: where its symbols lie in it.
 #[repr(C)]
 pub struct Image {
     pub refusal: u32,
     pub tray: Tray,
     pub offset: usize,
     pub length: usize,
+}
+
+/// The answer to the reading of an image of the second field, whose symbols are copied.
+#[repr(C)]
+pub struct Image257 {
+    pub refusal: u32,
+    pub tray: Tray,
 }
 
 /// The answer to a question for the margin.
@@ -68,366 +75,455 @@ pub struct Scrubbed {
     pub record: ScrubRecord,
 }
 
-extern "C" {
-    fn gesarumbo_measure(layout: Layout) -> Measured;
-    fn gesarumbo_test(layout: Layout, codeword: *const u8, length: usize) -> Tested;
-    fn gesarumbo_store(
-        layout: Layout,
-        data: *const u8,
-        data_length: usize,
-        codeword: *mut u8,
-        length: usize,
-    ) -> u32;
-    fn gesarumbo_recover(
-        layout: Layout,
-        codeword: *mut u8,
-        length: usize,
-        erased: *const Tray,
-        count: usize,
-    ) -> u32;
-    fn gesarumbo_share(
-        layout: Layout,
-        host: Rack,
-        helper: Rack,
-        rack: *const u8,
-        rack_length: usize,
-        share: *mut u8,
-        share_length: usize,
-    ) -> u32;
-    fn gesarumbo_share_add(
-        layout: Layout,
-        host: Rack,
-        tray: Tray,
-        symbols: *const u8,
-        symbols_length: usize,
-        share: *mut u8,
-        share_length: usize,
-    ) -> u32;
-    fn gesarumbo_share_many(
-        layout: Layout,
-        lost_count: u32,
-        host: Rack,
-        helper: Rack,
-        rack: *const u8,
-        rack_length: usize,
-        share: *mut u8,
-        share_length: usize,
-    ) -> u32;
-    fn gesarumbo_share_add_many(
-        layout: Layout,
-        lost_count: u32,
-        host: Rack,
-        tray: Tray,
-        symbols: *const u8,
-        symbols_length: usize,
-        share: *mut u8,
-        share_length: usize,
-    ) -> u32;
-    fn gesarumbo_repair(
-        layout: Layout,
-        lost: Tray,
-        helpers: *const Rack,
-        count: usize,
-        shares: *const u8,
-        shares_length: usize,
-        host: *const u8,
-        host_length: usize,
-        spare: *mut u8,
-        spare_length: usize,
-        first: u64,
-        budget: u64,
-    ) -> Repaired;
-    fn gesarumbo_repair_many(
-        layout: Layout,
-        lost: *const Tray,
-        lost_count: usize,
-        helpers: *const Rack,
-        count: usize,
-        shares: *const u8,
-        shares_length: usize,
-        host: *const u8,
-        host_length: usize,
-        spare: *mut u8,
-        spare_length: usize,
-        first: u64,
-        budget: u64,
-    ) -> Repaired;
-    fn gesarumbo_read_part(
-        layout: Layout,
-        codeword: *const u8,
-        length: usize,
-        spare: *const u8,
-        spare_length: usize,
-        lost: Tray,
-        groups: u64,
-        tray: Tray,
-        first: Layer,
-        end: Layer,
-    ) -> Part;
-    fn gesarumbo_write_image(
-        layout: Layout,
-        tray: Tray,
-        state: u32,
-        volume: u32,
-        symbols: *const u8,
-        symbols_length: usize,
-        image: *mut u8,
-        image_length: usize,
-    ) -> u32;
-    fn gesarumbo_read_image(layout: Layout, volume: u32, image: *const u8, length: usize) -> Image;
-    fn gesarumbo_margin(layout: Layout, states: *const u8, length: usize) -> Margin;
-    fn gesarumbo_scrub_reset(layout: Layout, record: ScrubRecord) -> Scrubbed;
-    fn gesarumbo_scrub(
-        layout: Layout,
-        codeword: *const u8,
-        length: usize,
-        record: ScrubRecord,
-        budget: u64,
-    ) -> Scrubbed;
+/// The calls that both fields have alike: the C functions with this prefix over symbols of this
+/// type, and each of them as a safe function over slices.
+macro_rules! calls {
+    ($prefix:literal, $symbol:ty) => {
+        mod c {
+            use super::*;
+
+            extern "C" {
+                #[link_name = concat!($prefix, "_measure")]
+                pub fn measure(layout: Layout) -> Measured;
+                #[link_name = concat!($prefix, "_test")]
+                pub fn test(layout: Layout, codeword: *const $symbol, length: usize) -> Tested;
+                #[link_name = concat!($prefix, "_store")]
+                pub fn store(
+                    layout: Layout,
+                    data: *const $symbol,
+                    data_length: usize,
+                    codeword: *mut $symbol,
+                    length: usize,
+                ) -> u32;
+                #[link_name = concat!($prefix, "_recover")]
+                pub fn recover(
+                    layout: Layout,
+                    codeword: *mut $symbol,
+                    length: usize,
+                    erased: *const Tray,
+                    count: usize,
+                ) -> u32;
+                #[link_name = concat!($prefix, "_share")]
+                pub fn share(
+                    layout: Layout,
+                    host: Rack,
+                    helper: Rack,
+                    rack: *const $symbol,
+                    rack_length: usize,
+                    share: *mut $symbol,
+                    share_length: usize,
+                ) -> u32;
+                #[link_name = concat!($prefix, "_share_add")]
+                pub fn share_add(
+                    layout: Layout,
+                    host: Rack,
+                    tray: Tray,
+                    symbols: *const $symbol,
+                    symbols_length: usize,
+                    share: *mut $symbol,
+                    share_length: usize,
+                ) -> u32;
+                #[link_name = concat!($prefix, "_share_many")]
+                pub fn share_many(
+                    layout: Layout,
+                    lost_count: u32,
+                    host: Rack,
+                    helper: Rack,
+                    rack: *const $symbol,
+                    rack_length: usize,
+                    share: *mut $symbol,
+                    share_length: usize,
+                ) -> u32;
+                #[link_name = concat!($prefix, "_share_add_many")]
+                pub fn share_add_many(
+                    layout: Layout,
+                    lost_count: u32,
+                    host: Rack,
+                    tray: Tray,
+                    symbols: *const $symbol,
+                    symbols_length: usize,
+                    share: *mut $symbol,
+                    share_length: usize,
+                ) -> u32;
+                #[link_name = concat!($prefix, "_repair")]
+                pub fn repair(
+                    layout: Layout,
+                    lost: Tray,
+                    helpers: *const Rack,
+                    count: usize,
+                    shares: *const $symbol,
+                    shares_length: usize,
+                    host: *const $symbol,
+                    host_length: usize,
+                    spare: *mut $symbol,
+                    spare_length: usize,
+                    first: u64,
+                    budget: u64,
+                ) -> Repaired;
+                #[link_name = concat!($prefix, "_repair_many")]
+                pub fn repair_many(
+                    layout: Layout,
+                    lost: *const Tray,
+                    lost_count: usize,
+                    helpers: *const Rack,
+                    count: usize,
+                    shares: *const $symbol,
+                    shares_length: usize,
+                    host: *const $symbol,
+                    host_length: usize,
+                    spare: *mut $symbol,
+                    spare_length: usize,
+                    first: u64,
+                    budget: u64,
+                ) -> Repaired;
+                #[link_name = concat!($prefix, "_read_part")]
+                pub fn read_part(
+                    layout: Layout,
+                    codeword: *const $symbol,
+                    length: usize,
+                    spare: *const $symbol,
+                    spare_length: usize,
+                    lost: Tray,
+                    groups: u64,
+                    tray: Tray,
+                    first: Layer,
+                    end: Layer,
+                ) -> Part;
+                #[link_name = concat!($prefix, "_write_image")]
+                pub fn write_image(
+                    layout: Layout,
+                    tray: Tray,
+                    state: u32,
+                    volume: u32,
+                    symbols: *const $symbol,
+                    symbols_length: usize,
+                    image: *mut u8,
+                    image_length: usize,
+                ) -> u32;
+                #[link_name = concat!($prefix, "_margin")]
+                pub fn margin(layout: Layout, states: *const u8, length: usize) -> Margin;
+                #[link_name = concat!($prefix, "_scrub_reset")]
+                pub fn scrub_reset(layout: Layout, record: ScrubRecord) -> Scrubbed;
+                #[link_name = concat!($prefix, "_scrub")]
+                pub fn scrub(
+                    layout: Layout,
+                    codeword: *const $symbol,
+                    length: usize,
+                    record: ScrubRecord,
+                    budget: u64,
+                ) -> Scrubbed;
+            }
+        }
+
+        pub fn measure(layout: Layout) -> Measured {
+            // SAFETY: numbers only.
+            unsafe { c::measure(layout) }
+        }
+
+        pub fn test(layout: Layout, codeword: &[$symbol]) -> Tested {
+            // SAFETY: the slice is lent for the call.
+            unsafe { c::test(layout, codeword.as_ptr(), codeword.len()) }
+        }
+
+        pub fn store(layout: Layout, data: &[$symbol], codeword: &mut [$symbol]) -> u32 {
+            // SAFETY: both slices are lent for the call, the written one alone.
+            unsafe {
+                c::store(
+                    layout,
+                    data.as_ptr(),
+                    data.len(),
+                    codeword.as_mut_ptr(),
+                    codeword.len(),
+                )
+            }
+        }
+
+        pub fn recover(layout: Layout, codeword: &mut [$symbol], erased: &[Tray]) -> u32 {
+            // SAFETY: both slices are lent for the call, the written one alone; a tray is a 32-bit number.
+            unsafe {
+                c::recover(
+                    layout,
+                    codeword.as_mut_ptr(),
+                    codeword.len(),
+                    erased.as_ptr(),
+                    erased.len(),
+                )
+            }
+        }
+
+        pub fn share(
+            layout: Layout,
+            host: Rack,
+            helper: Rack,
+            rack: &[$symbol],
+            share: &mut [$symbol],
+        ) -> u32 {
+            // SAFETY: both slices are lent for the call, the written one alone.
+            unsafe {
+                c::share(
+                    layout,
+                    host,
+                    helper,
+                    rack.as_ptr(),
+                    rack.len(),
+                    share.as_mut_ptr(),
+                    share.len(),
+                )
+            }
+        }
+
+        pub fn share_add(
+            layout: Layout,
+            host: Rack,
+            tray: Tray,
+            symbols: &[$symbol],
+            share: &mut [$symbol],
+        ) -> u32 {
+            // SAFETY: both slices are lent for the call, the written one alone.
+            unsafe {
+                c::share_add(
+                    layout,
+                    host,
+                    tray,
+                    symbols.as_ptr(),
+                    symbols.len(),
+                    share.as_mut_ptr(),
+                    share.len(),
+                )
+            }
+        }
+
+        pub fn share_many(
+            layout: Layout,
+            lost_count: u32,
+            host: Rack,
+            helper: Rack,
+            rack: &[$symbol],
+            share: &mut [$symbol],
+        ) -> u32 {
+            // SAFETY: both slices are lent for the call, the written one alone.
+            unsafe {
+                c::share_many(
+                    layout,
+                    lost_count,
+                    host,
+                    helper,
+                    rack.as_ptr(),
+                    rack.len(),
+                    share.as_mut_ptr(),
+                    share.len(),
+                )
+            }
+        }
+
+        pub fn share_add_many(
+            layout: Layout,
+            lost_count: u32,
+            host: Rack,
+            tray: Tray,
+            symbols: &[$symbol],
+            share: &mut [$symbol],
+        ) -> u32 {
+            // SAFETY: both slices are lent for the call, the written one alone.
+            unsafe {
+                c::share_add_many(
+                    layout,
+                    lost_count,
+                    host,
+                    tray,
+                    symbols.as_ptr(),
+                    symbols.len(),
+                    share.as_mut_ptr(),
+                    share.len(),
+                )
+            }
+        }
+
+        #[allow(clippy::too_many_arguments)] // a repair has as many
+        pub fn repair(
+            layout: Layout,
+            lost: Tray,
+            helpers: &[Rack],
+            shares: &[$symbol],
+            host: &[$symbol],
+            spare: &mut [$symbol],
+            first: u64,
+            budget: u64,
+        ) -> Repaired {
+            // SAFETY: all slices are lent for the call, the written one alone; a rack is a 32-bit number.
+            unsafe {
+                c::repair(
+                    layout,
+                    lost,
+                    helpers.as_ptr(),
+                    helpers.len(),
+                    shares.as_ptr(),
+                    shares.len(),
+                    host.as_ptr(),
+                    host.len(),
+                    spare.as_mut_ptr(),
+                    spare.len(),
+                    first,
+                    budget,
+                )
+            }
+        }
+
+        #[allow(clippy::too_many_arguments)] // a repair has as many
+        pub fn repair_many(
+            layout: Layout,
+            lost: &[Tray],
+            helpers: &[Rack],
+            shares: &[$symbol],
+            host: &[$symbol],
+            spare: &mut [$symbol],
+            first: u64,
+            budget: u64,
+        ) -> Repaired {
+            // SAFETY: all slices are lent for the call, the written one alone; trays and racks are 32-bit
+            // numbers.
+            unsafe {
+                c::repair_many(
+                    layout,
+                    lost.as_ptr(),
+                    lost.len(),
+                    helpers.as_ptr(),
+                    helpers.len(),
+                    shares.as_ptr(),
+                    shares.len(),
+                    host.as_ptr(),
+                    host.len(),
+                    spare.as_mut_ptr(),
+                    spare.len(),
+                    first,
+                    budget,
+                )
+            }
+        }
+
+        #[allow(clippy::too_many_arguments)] // a read while repairing has as many
+        pub fn read_part(
+            layout: Layout,
+            codeword: &[$symbol],
+            spare: &[$symbol],
+            lost: Tray,
+            groups: u64,
+            tray: Tray,
+            first: Layer,
+            end: Layer,
+        ) -> Part {
+            // SAFETY: both slices are lent for the call.
+            unsafe {
+                c::read_part(
+                    layout,
+                    codeword.as_ptr(),
+                    codeword.len(),
+                    spare.as_ptr(),
+                    spare.len(),
+                    lost,
+                    groups,
+                    tray,
+                    first,
+                    end,
+                )
+            }
+        }
+
+        pub fn write_image(
+            layout: Layout,
+            tray: Tray,
+            state: u32,
+            volume: u32,
+            symbols: &[$symbol],
+            image: &mut [u8],
+        ) -> u32 {
+            let (from, to) = (symbols.as_ptr(), image.as_mut_ptr());
+            // SAFETY: both slices are lent for the call, the written one alone.
+            unsafe {
+                c::write_image(
+                    layout,
+                    tray,
+                    state,
+                    volume,
+                    from,
+                    symbols.len(),
+                    to,
+                    image.len(),
+                )
+            }
+        }
+
+        pub fn margin(layout: Layout, states: &[u8]) -> Margin {
+            // SAFETY: the slice is lent for the call.
+            unsafe { c::margin(layout, states.as_ptr(), states.len()) }
+        }
+
+        pub fn scrub_reset(layout: Layout, record: ScrubRecord) -> Scrubbed {
+            // SAFETY: numbers only.
+            unsafe { c::scrub_reset(layout, record) }
+        }
+
+        pub fn scrub(
+            layout: Layout,
+            codeword: &[$symbol],
+            record: ScrubRecord,
+            budget: u64,
+        ) -> Scrubbed {
+            // SAFETY: the slice is lent for the call.
+            unsafe { c::scrub(layout, codeword.as_ptr(), codeword.len(), record, budget) }
+        }
+    };
 }
 
-pub fn measure(layout: Layout) -> Measured {
-    // SAFETY: numbers only.
-    unsafe { gesarumbo_measure(layout) }
-}
+/// The first field, with symbols of one byte.
+pub mod field256 {
+    use super::*;
 
-pub fn test(layout: Layout, codeword: &[u8]) -> Tested {
-    // SAFETY: the slice is lent for the call.
-    unsafe { gesarumbo_test(layout, codeword.as_ptr(), codeword.len()) }
-}
+    calls!("gesarumbo", u8);
 
-pub fn store(layout: Layout, data: &[u8], codeword: &mut [u8]) -> u32 {
-    // SAFETY: both slices are lent for the call, the written one alone.
-    unsafe {
-        gesarumbo_store(
-            layout,
-            data.as_ptr(),
-            data.len(),
-            codeword.as_mut_ptr(),
-            codeword.len(),
-        )
+    extern "C" {
+        fn gesarumbo_read_image(
+            layout: Layout,
+            volume: u32,
+            image: *const u8,
+            length: usize,
+        ) -> Image;
+    }
+
+    pub fn read_image(layout: Layout, volume: u32, image: &[u8]) -> Image {
+        // SAFETY: the slice is lent for the call.
+        unsafe { gesarumbo_read_image(layout, volume, image.as_ptr(), image.len()) }
     }
 }
 
-pub fn recover(layout: Layout, codeword: &mut [u8], erased: &[Tray]) -> u32 {
-    // SAFETY: both slices are lent for the call, the written one alone; a tray is a 32-bit number.
-    unsafe {
-        gesarumbo_recover(
-            layout,
-            codeword.as_mut_ptr(),
-            codeword.len(),
-            erased.as_ptr(),
-            erased.len(),
-        )
+/// The second field, with symbols of 16 bits.
+pub mod field257 {
+    use super::*;
+
+    calls!("gesarumbo257", u16);
+
+    extern "C" {
+        fn gesarumbo257_read_image(
+            layout: Layout,
+            volume: u32,
+            image: *const u8,
+            length: usize,
+            symbols: *mut u16,
+            symbols_length: usize,
+        ) -> Image257;
     }
-}
 
-pub fn share(layout: Layout, host: Rack, helper: Rack, rack: &[u8], share: &mut [u8]) -> u32 {
-    // SAFETY: both slices are lent for the call, the written one alone.
-    unsafe {
-        gesarumbo_share(
-            layout,
-            host,
-            helper,
-            rack.as_ptr(),
-            rack.len(),
-            share.as_mut_ptr(),
-            share.len(),
-        )
+    pub fn read_image(layout: Layout, volume: u32, image: &[u8], symbols: &mut [u16]) -> Image257 {
+        // SAFETY: both slices are lent for the call, the written one alone.
+        unsafe {
+            gesarumbo257_read_image(
+                layout,
+                volume,
+                image.as_ptr(),
+                image.len(),
+                symbols.as_mut_ptr(),
+                symbols.len(),
+            )
+        }
     }
-}
-
-pub fn share_add(layout: Layout, host: Rack, tray: Tray, symbols: &[u8], share: &mut [u8]) -> u32 {
-    // SAFETY: both slices are lent for the call, the written one alone.
-    unsafe {
-        gesarumbo_share_add(
-            layout,
-            host,
-            tray,
-            symbols.as_ptr(),
-            symbols.len(),
-            share.as_mut_ptr(),
-            share.len(),
-        )
-    }
-}
-
-pub fn share_many(
-    layout: Layout,
-    lost_count: u32,
-    host: Rack,
-    helper: Rack,
-    rack: &[u8],
-    share: &mut [u8],
-) -> u32 {
-    // SAFETY: both slices are lent for the call, the written one alone.
-    unsafe {
-        gesarumbo_share_many(
-            layout,
-            lost_count,
-            host,
-            helper,
-            rack.as_ptr(),
-            rack.len(),
-            share.as_mut_ptr(),
-            share.len(),
-        )
-    }
-}
-
-pub fn share_add_many(
-    layout: Layout,
-    lost_count: u32,
-    host: Rack,
-    tray: Tray,
-    symbols: &[u8],
-    share: &mut [u8],
-) -> u32 {
-    // SAFETY: both slices are lent for the call, the written one alone.
-    unsafe {
-        gesarumbo_share_add_many(
-            layout,
-            lost_count,
-            host,
-            tray,
-            symbols.as_ptr(),
-            symbols.len(),
-            share.as_mut_ptr(),
-            share.len(),
-        )
-    }
-}
-
-#[allow(clippy::too_many_arguments)] // a repair has as many
-pub fn repair(
-    layout: Layout,
-    lost: Tray,
-    helpers: &[Rack],
-    shares: &[u8],
-    host: &[u8],
-    spare: &mut [u8],
-    first: u64,
-    budget: u64,
-) -> Repaired {
-    // SAFETY: all slices are lent for the call, the written one alone; a rack is a 32-bit number.
-    unsafe {
-        gesarumbo_repair(
-            layout,
-            lost,
-            helpers.as_ptr(),
-            helpers.len(),
-            shares.as_ptr(),
-            shares.len(),
-            host.as_ptr(),
-            host.len(),
-            spare.as_mut_ptr(),
-            spare.len(),
-            first,
-            budget,
-        )
-    }
-}
-
-#[allow(clippy::too_many_arguments)] // a repair has as many
-pub fn repair_many(
-    layout: Layout,
-    lost: &[Tray],
-    helpers: &[Rack],
-    shares: &[u8],
-    host: &[u8],
-    spare: &mut [u8],
-    first: u64,
-    budget: u64,
-) -> Repaired {
-    // SAFETY: all slices are lent for the call, the written one alone; trays and racks are 32-bit
-    // numbers.
-    unsafe {
-        gesarumbo_repair_many(
-            layout,
-            lost.as_ptr(),
-            lost.len(),
-            helpers.as_ptr(),
-            helpers.len(),
-            shares.as_ptr(),
-            shares.len(),
-            host.as_ptr(),
-            host.len(),
-            spare.as_mut_ptr(),
-            spare.len(),
-            first,
-            budget,
-        )
-    }
-}
-
-#[allow(clippy::too_many_arguments)] // a read while repairing has as many
-pub fn read_part(
-    layout: Layout,
-    codeword: &[u8],
-    spare: &[u8],
-    lost: Tray,
-    groups: u64,
-    tray: Tray,
-    first: Layer,
-    end: Layer,
-) -> Part {
-    // SAFETY: both slices are lent for the call.
-    unsafe {
-        gesarumbo_read_part(
-            layout,
-            codeword.as_ptr(),
-            codeword.len(),
-            spare.as_ptr(),
-            spare.len(),
-            lost,
-            groups,
-            tray,
-            first,
-            end,
-        )
-    }
-}
-
-pub fn write_image(
-    layout: Layout,
-    tray: Tray,
-    state: u32,
-    volume: u32,
-    symbols: &[u8],
-    image: &mut [u8],
-) -> u32 {
-    let (from, to) = (symbols.as_ptr(), image.as_mut_ptr());
-    // SAFETY: both slices are lent for the call, the written one alone.
-    unsafe {
-        gesarumbo_write_image(
-            layout,
-            tray,
-            state,
-            volume,
-            from,
-            symbols.len(),
-            to,
-            image.len(),
-        )
-    }
-}
-
-pub fn read_image(layout: Layout, volume: u32, image: &[u8]) -> Image {
-    // SAFETY: the slice is lent for the call.
-    unsafe { gesarumbo_read_image(layout, volume, image.as_ptr(), image.len()) }
-}
-
-pub fn margin(layout: Layout, states: &[u8]) -> Margin {
-    // SAFETY: the slice is lent for the call.
-    unsafe { gesarumbo_margin(layout, states.as_ptr(), states.len()) }
-}
-
-pub fn scrub_reset(layout: Layout, record: ScrubRecord) -> Scrubbed {
-    // SAFETY: numbers only.
-    unsafe { gesarumbo_scrub_reset(layout, record) }
-}
-
-pub fn scrub(layout: Layout, codeword: &[u8], record: ScrubRecord, budget: u64) -> Scrubbed {
-    // SAFETY: the slice is lent for the call.
-    unsafe { gesarumbo_scrub(layout, codeword.as_ptr(), codeword.len(), record, budget) }
 }

@@ -1,6 +1,7 @@
 //! Tray images: a header of 24 bytes and the symbols of one tray.
 
-use crate::{ffi, Layout, Refusal, Tray};
+use crate::ffi::{self, field256};
+use crate::{Layout, Refusal, Tray};
 
 /// What a live image of the layout and volume expected holds.
 #[derive(Clone, Copy, Debug, PartialEq, Eq)]
@@ -41,7 +42,7 @@ pub fn write_image(
     image: &mut [u8],
 ) -> Result<(), Refusal> {
     Refusal::unless_done(
-        ffi::write_image(layout, tray, state, volume, symbols, image),
+        field256::write_image(layout, tray, state, volume, symbols, image),
         (),
     )
 }
@@ -76,7 +77,7 @@ pub fn read_image(layout: Layout, volume: u32, image: &[u8]) -> Result<Image<'_>
         tray,
         offset,
         length,
-    } = ffi::read_image(layout, volume, image);
+    } = field256::read_image(layout, volume, image);
     // The part lies in the image, and is empty where the call is refused.
     Refusal::unless_done(
         refusal,

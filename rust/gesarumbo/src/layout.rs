@@ -16,7 +16,8 @@ use std::fmt;
 pub struct Layout {
     /// B, the number of racks: at least 2.
     pub racks: u32,
-    /// u, the trays of a rack: 1, 3, 5, 15 or 17, and B·u at most 60.
+    /// u, the trays of a rack: 1, 3, 5, 15 or 17 (1, 2, 4, 8 or 16 in
+    /// [`field257`](crate::field257)), and B·u at most 60.
     pub size: u32,
     /// k, the trays' worth of data: from u to B·u − u.
     pub dimension: u32,

@@ -37,6 +37,9 @@
 //! first that does, and a refused call has changed no byte of any buffer. A call that is done has
 //! written what it says and nothing else.
 //!
+//! A second field, in which racks of two, four, eight and sixteen trays can be had, has the same
+//! calls in [`field257`].
+//!
 //! These are theorems about the library that this crate links, and not tests. The crate adds the
 //! kinds, and nothing of its own happens between a call and the proved function.
 
@@ -47,6 +50,7 @@
 #[allow(unsafe_code)]
 mod ffi;
 
+pub mod field257;
 mod image;
 mod kinds;
 mod layout;

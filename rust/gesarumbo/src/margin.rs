@@ -1,6 +1,7 @@
 //! The loss margin.
 
-use crate::{ffi, Layout, Refusal};
+use crate::ffi::{self, field256};
+use crate::{Layout, Refusal};
 
 /// How many more trays may be lost: the number of live trays, less k.
 ///
@@ -21,6 +22,11 @@ use crate::{ffi, Layout, Refusal};
 /// assert_eq!(margin(layout, &states), Ok(-1));
 /// ```
 pub fn margin(layout: Layout, states: &[u8]) -> Result<i32, Refusal> {
-    let ffi::Margin { refusal, margin } = ffi::margin(layout, states);
+    answered(field256::margin(layout, states))
+}
+
+/// What the library's answer means.
+pub(crate) fn answered(answer: ffi::Margin) -> Result<i32, Refusal> {
+    let ffi::Margin { refusal, margin } = answer;
     Refusal::unless_done(refusal, margin)
 }

@@ -1,6 +1,7 @@
 //! The numbers that follow from a layout.
 
-use crate::{ffi, Layout, Refusal};
+use crate::ffi::{self, field256};
+use crate::{Layout, Refusal};
 
 /// What follows from an admissible layout.
 #[derive(Clone, Copy, Debug, PartialEq, Eq)]
@@ -26,12 +27,17 @@ pub struct Measured {
 /// # Ok::<(), Refusal>(())
 /// ```
 pub fn measure(layout: Layout) -> Result<Measured, Refusal> {
+    answered(field256::measure(layout))
+}
+
+/// What the library's answer means.
+pub(crate) fn answered(answer: ffi::Measured) -> Result<Measured, Refusal> {
     let ffi::Measured {
         refusal,
         layers,
         checks,
         traffic,
-    } = ffi::measure(layout);
+    } = answer;
     Refusal::unless_done(
         refusal,
         Measured {

@@ -2,7 +2,8 @@
 
 use std::ops::Range;
 
-use crate::{ffi, Layer, Layout, Refusal, Tray};
+use crate::ffi::{self, field256};
+use crate::{Layer, Layout, Refusal, Tray};
 
 /// Reads a run of layers of a tray while the tray `lost` is being repaired in `spare`.
 ///
@@ -50,21 +51,23 @@ pub fn read_part<'a>(
     tray: Tray,
     layers: Range<Layer>,
 ) -> Result<&'a [u8], Refusal> {
+    let Range { start, end } = layers;
+    let answer = field256::read_part(layout, codeword, spare, lost, groups, tray, start, end);
+    answered(answer, codeword, spare)
+}
+
+/// What the library's answer over these two buffers means.
+pub(crate) fn answered<'a, S>(
+    answer: ffi::Part,
+    codeword: &'a [S],
+    spare: &'a [S],
+) -> Result<&'a [S], Refusal> {
     let ffi::Part {
         refusal,
         source,
         offset,
         length,
-    } = ffi::read_part(
-        layout,
-        codeword,
-        spare,
-        lost,
-        groups,
-        tray,
-        layers.start,
-        layers.end,
-    );
+    } = answer;
     let from = if source == 2 { spare } else { codeword };
     // The part lies in the buffer named, and is empty where the call is refused.
     Refusal::unless_done(refusal, &from[offset..][..length])

@@ -1,6 +1,7 @@
 //! Recovering erased trays.
 
-use crate::{ffi, Layout, Refusal, Tray};
+use crate::ffi::field256;
+use crate::{Layout, Refusal, Tray};
 
 /// Fills the erased trays of a codeword from all the others.
 ///
@@ -32,5 +33,5 @@ use crate::{ffi, Layout, Refusal, Tray};
 /// # Ok::<(), Refusal>(())
 /// ```
 pub fn recover(layout: Layout, codeword: &mut [u8], erased: &[Tray]) -> Result<(), Refusal> {
-    Refusal::unless_done(ffi::recover(layout, codeword, erased), ())
+    Refusal::unless_done(field256::recover(layout, codeword, erased), ())
 }

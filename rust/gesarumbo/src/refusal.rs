@@ -25,8 +25,9 @@ pub enum Refusal {
     /// image being written.
     Length = 2,
     /// A tray, rack, state or volume number is outside its values, a run of layers or a number of
-    /// groups done is, or a scrub record breaks a rule that [`scrub`](crate::scrub()) names; in
-    /// [`sixteen`](crate::sixteen), also a value above 15.
+    /// groups done is, or a scrub record breaks a rule that [`scrub`](crate::scrub()) names; or a
+    /// symbol of [`field257`](crate::field257) is above 256, or a value of
+    /// [`sixteen`](crate::sixteen) above 15.
     Number = 3,
     /// A list is not strictly rising.
     Order = 4,
@@ -60,8 +61,8 @@ const GROUNDS: [(Refusal, &str); 13] = [
     ),
     (
         Refusal::Number,
-        "a tray, rack, state, volume, layer or group number or a symbol is outside its values, or \
-         a scrub record breaks its rules",
+        "a tray, rack, state, volume, layer or group number or a symbol is outside its values, \
+         or a scrub record breaks its rules",
     ),
     (Refusal::Order, "a list is not strictly rising"),
     (

@@ -1,6 +1,7 @@
 //! The repair of lost trays of one rack from shares, whole or in pieces.
 
-use crate::{ffi, Layout, Rack, Refusal, Tray};
+use crate::ffi::{self, field256};
+use crate::{Layout, Rack, Refusal, Tray};
 
 /// What a piece of a repair did.
 #[derive(Clone, Copy, Debug, PartialEq, Eq)]
@@ -62,7 +63,7 @@ pub fn repair(
     first: u64,
     budget: u64,
 ) -> Result<Repaired, Refusal> {
-    answered(ffi::repair(
+    answered(field256::repair(
         layout, lost, helpers, shares, host, spare, first, budget,
     ))
 }
@@ -120,13 +121,13 @@ pub fn repair_many(
     first: u64,
     budget: u64,
 ) -> Result<Repaired, Refusal> {
-    answered(ffi::repair_many(
+    answered(field256::repair_many(
         layout, lost, helpers, shares, host, spare, first, budget,
     ))
 }
 
 /// What the library's answer means.
-fn answered(answer: ffi::Repaired) -> Result<Repaired, Refusal> {
+pub(crate) fn answered(answer: ffi::Repaired) -> Result<Repaired, Refusal> {
     let ffi::Repaired {
         refusal,
         groups,

@@ -1,6 +1,7 @@
 //! The testing of a stored codeword some layers at a time.
 
-use crate::{ffi, Layer, Layout, Refusal};
+use crate::ffi::{self, field256};
+use crate::{Layer, Layout, Refusal};
 
 /// The record of a walk over a codeword's layers.
 ///
@@ -58,7 +59,11 @@ pub enum Scrubbed {
 /// assert_eq!(record, ScrubRecord::new(0, 0, 8));
 /// ```
 pub fn scrub_reset(layout: Layout, record: &mut ScrubRecord) -> Result<(), Refusal> {
-    let answer = ffi::scrub_reset(layout, *record);
+    reset(field256::scrub_reset(layout, *record), record)
+}
+
+/// What the library's answer to a reset means; the record is the one it hands back.
+pub(crate) fn reset(answer: ffi::Scrubbed, record: &mut ScrubRecord) -> Result<(), Refusal> {
     *record = answer.record;
     Refusal::unless_done(answer.refusal, ())
 }
@@ -103,7 +108,15 @@ pub fn scrub(
     record: &mut ScrubRecord,
     budget: u64,
 ) -> Result<Scrubbed, Refusal> {
-    let answer = ffi::scrub(layout, codeword, *record, budget);
+    let answer = field256::scrub(layout, codeword, *record, budget);
+    answered(answer, record)
+}
+
+/// What the library's answer to a call means; the record is the one it hands back.
+pub(crate) fn answered(
+    answer: ffi::Scrubbed,
+    record: &mut ScrubRecord,
+) -> Result<Scrubbed, Refusal> {
     *record = answer.record;
     let scrubbed = match answer.report {
         1 => Scrubbed::Unfinished,

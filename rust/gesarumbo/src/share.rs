@@ -1,6 +1,7 @@
 //! A helper rack's shares in a repair: from the whole rack, or built up tray by tray.
 
-use crate::{ffi, Layout, Rack, Refusal, Tray};
+use crate::ffi::field256;
+use crate::{Layout, Rack, Refusal, Tray};
 
 /// Works out what a helper rack sends for the repair of a tray of the host rack.
 ///
@@ -33,7 +34,7 @@ pub fn share(
     rack: &[u8],
     share: &mut [u8],
 ) -> Result<(), Refusal> {
-    Refusal::unless_done(ffi::share(layout, host, helper, rack, share), ())
+    Refusal::unless_done(field256::share(layout, host, helper, rack, share), ())
 }
 
 /// Adds one tray's part to the share of its rack for the repair of a tray of the host rack.
@@ -69,7 +70,7 @@ pub fn share_add(
     symbols: &[u8],
     share: &mut [u8],
 ) -> Result<(), Refusal> {
-    Refusal::unless_done(ffi::share_add(layout, host, tray, symbols, share), ())
+    Refusal::unless_done(field256::share_add(layout, host, tray, symbols, share), ())
 }
 
 /// Works out what a helper rack sends for the repair of `count` lost trays of the host rack.
@@ -107,7 +108,7 @@ pub fn share_many(
     share: &mut [u8],
 ) -> Result<(), Refusal> {
     Refusal::unless_done(
-        ffi::share_many(layout, count, host, helper, rack, share),
+        field256::share_many(layout, count, host, helper, rack, share),
         (),
     )
 }
@@ -147,7 +148,7 @@ pub fn share_add_many(
     share: &mut [u8],
 ) -> Result<(), Refusal> {
     Refusal::unless_done(
-        ffi::share_add_many(layout, count, host, tray, symbols, share),
+        field256::share_add_many(layout, count, host, tray, symbols, share),
         (),
     )
 }

@@ -1,6 +1,7 @@
 //! Storing.
 
-use crate::{ffi, Layout, Refusal};
+use crate::ffi::field256;
+use crate::{Layout, Refusal};
 
 /// Turns k·L bytes of data into the one codeword whose trays 0 to k − 1 they are.
 ///
@@ -29,5 +30,5 @@ use crate::{ffi, Layout, Refusal};
 /// # Ok::<(), Refusal>(())
 /// ```
 pub fn store(layout: Layout, data: &[u8], codeword: &mut [u8]) -> Result<(), Refusal> {
-    Refusal::unless_done(ffi::store(layout, data, codeword), ())
+    Refusal::unless_done(field256::store(layout, data, codeword), ())
 }

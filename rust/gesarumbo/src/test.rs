@@ -1,6 +1,7 @@
 //! The testing of a codeword.
 
-use crate::{ffi, Layer, Layout, Refusal};
+use crate::ffi::{self, field256};
+use crate::{Layer, Layout, Refusal};
 
 /// What a test found.
 #[derive(Clone, Copy, Debug, PartialEq, Eq)]
@@ -31,12 +32,17 @@ pub enum Tested {
 /// assert_eq!(test(layout, &[0xA7, 0xA6]), Ok(Tested::Bad { layer: Layer::new(0), check: 0 }));
 /// ```
 pub fn test(layout: Layout, codeword: &[u8]) -> Result<Tested, Refusal> {
+    answered(field256::test(layout, codeword))
+}
+
+/// What the library's answer means.
+pub(crate) fn answered(answer: ffi::Tested) -> Result<Tested, Refusal> {
     let ffi::Tested {
         refusal,
         verdict,
         layer,
         check,
-    } = ffi::test(layout, codeword);
+    } = answer;
     let tested = match verdict {
         1 => Tested::Sound,
         _ => Tested::Bad {

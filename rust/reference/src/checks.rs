@@ -1,29 +1,30 @@
 //! The parity checks of a layout.
 
 use crate::elimination::{solve, Equation};
-use crate::field::{multiply, power, ORDER, ROOT};
+use crate::field::Field;
 use crate::layout::Numbers;
 
 /// The checks of a layout, their coefficients worked out once.
-pub struct Checks {
+pub struct Checks<F: Field> {
     numbers: Numbers,
     /// By tray, digit of its rack, and t.
-    coefficients: Vec<Vec<Vec<u8>>>,
+    coefficients: Vec<Vec<Vec<F::Symbol>>>,
 }
 
 /// The point of a rack, a digit and a place.
-pub fn point(numbers: &Numbers, rack: usize, digit: usize, place: usize) -> u8 {
-    power(
-        ROOT,
-        rack * numbers.base + digit + place * (ORDER / numbers.size),
+pub fn point<F: Field>(numbers: &Numbers, rack: usize, digit: usize, place: usize) -> F::Symbol {
+    F::power(
+        F::ROOT,
+        rack * numbers.base + digit + place * (F::ORDER / numbers.size),
     )
 }
 
-impl Checks {
-    pub fn new(numbers: Numbers) -> Checks {
+impl<F: Field> Checks<F> {
+    pub fn new(numbers: Numbers) -> Checks<F> {
         let of_digit = |tray: usize, digit| {
-            let point = point(&numbers, tray / numbers.size, digit, tray % numbers.size);
-            let powers = std::iter::successors(Some(1), |&last| Some(multiply(last, point)));
+            let point = point::<F>(&numbers, tray / numbers.size, digit, tray % numbers.size);
+            let powers =
+                std::iter::successors(Some(F::ONE), |&last| Some(F::multiply(last, point)));
             powers.take(numbers.checks).collect()
         };
         let of_tray = |tray| {
@@ -38,41 +39,51 @@ impl Checks {
     }
 
     /// What check t multiplies a tray's symbol in a layer by.
-    pub fn coefficient(&self, tray: usize, layer: usize, t: usize) -> u8 {
+    pub fn coefficient(&self, tray: usize, layer: usize, t: usize) -> F::Symbol {
         let digit = self.numbers.digit(layer, tray / self.numbers.size);
         self.coefficients[tray][digit][t]
     }
 
     /// The sum of check t in a layer over the trays named.
-    pub fn sum(&self, codeword: &[u8], trays: &[usize], layer: usize, t: usize) -> u8 {
+    pub fn sum(
+        &self,
+        codeword: &[F::Symbol],
+        trays: &[usize],
+        layer: usize,
+        t: usize,
+    ) -> F::Symbol {
         let term = |&tray: &usize| {
             let symbol = codeword[tray * self.numbers.layers + layer];
-            multiply(self.coefficient(tray, layer, t), symbol)
+            F::multiply(self.coefficient(tray, layer, t), symbol)
         };
-        trays.iter().map(term).fold(0, |sum, term| sum ^ term)
+        F::sum(trays.iter().map(term))
     }
 
     /// The symbols in a layer of the unknown trays, by all r checks, or none
     /// where no codeword has the symbols of the others. The old symbols of the
     /// unknown trays are not looked at.
-    pub fn complete(&self, codeword: &[u8], unknown: &[usize], layer: usize) -> Option<Vec<u8>> {
+    pub fn complete(
+        &self,
+        codeword: &[F::Symbol],
+        unknown: &[usize],
+        layer: usize,
+    ) -> Option<Vec<F::Symbol>> {
         let known: Vec<usize> = (0..self.numbers.trays)
             .filter(|tray| !unknown.contains(tray))
             .collect();
-        let equation = |t| -> Equation {
+        // The unknown part of a check and the known one add up to zero.
+        let equation = |t| -> Equation<F> {
             let coefficients = unknown.iter().map(|&tray| self.coefficient(tray, layer, t));
             coefficients
-                .chain([self.sum(codeword, &known, layer, t)])
+                .chain([F::negate(self.sum(codeword, &known, layer, t))])
                 .collect()
         };
-        solve(
-            (0..self.numbers.checks).map(equation).collect(),
-            unknown.len(),
-        )
+        let equations = (0..self.numbers.checks).map(equation).collect();
+        solve::<F>(equations, unknown.len())
     }
 
     /// The codeword with the unknown trays filled in, layer by layer.
-    pub fn fill(&self, codeword: &[u8], unknown: &[usize]) -> Option<Vec<u8>> {
+    pub fn fill(&self, codeword: &[F::Symbol], unknown: &[usize]) -> Option<Vec<F::Symbol>> {
         let mut filled = codeword.to_vec();
         for layer in 0..self.numbers.layers {
             let symbols = self.complete(codeword, unknown, layer)?;

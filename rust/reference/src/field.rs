@@ -1,77 +1,130 @@
-//! The field of 256 with polynomial x^8 + x^4 + x^3 + x^2 + 1.
+//! What the calls need of a field, and what they do alike in both.
 
-/// The polynomial, bit i for x^i.
-pub const POLYNOMIAL: u16 = 0x11D;
-/// The root z.
-pub const ROOT: u8 = 2;
-/// The number of powers of the root.
-pub const ORDER: usize = 255;
+use std::fmt::Debug;
 
-/// The product: b's bits from the lowest, a doubled at each.
-pub fn multiply(a: u8, b: u8) -> u8 {
-    let mut sum = 0;
-    let mut doubled = u16::from(a);
-    for bit in 0..8 {
-        if b >> bit & 1 == 1 {
-            sum ^= doubled;
-        }
-        doubled <<= 1;
-        if doubled & 0x100 != 0 {
-            doubled ^= POLYNOMIAL;
-        }
+/// A field: its symbols as they are lent, its root, and what goes by the field
+/// in layouts and images.
+pub trait Field: Copy + Debug + Eq + 'static {
+    /// A symbol as it is lent. Not every number of this type need be one.
+    type Symbol: Copy + Debug + Eq + Into<u16> + TryFrom<u16, Error: Debug>;
+
+    const ZERO: Self::Symbol;
+    const ONE: Self::Symbol;
+    /// The root z.
+    const ROOT: Self::Symbol;
+    /// The number of powers of the root.
+    const ORDER: usize;
+    /// The rack sizes that can be had.
+    const RACK_SIZES: [u32; 5];
+    /// The edition of its tray images.
+    const EDITION: u32;
+    /// The bytes of a symbol in a tray image.
+    const BYTES: usize;
+
+    /// Whether a number that is lent is a symbol. The operations are for
+    /// symbols only.
+    fn is_symbol(number: Self::Symbol) -> bool;
+
+    fn add(a: Self::Symbol, b: Self::Symbol) -> Self::Symbol;
+
+    /// The symbol that gives zero with this one.
+    fn negate(a: Self::Symbol) -> Self::Symbol;
+
+    fn multiply(a: Self::Symbol, b: Self::Symbol) -> Self::Symbol;
+
+    fn subtract(a: Self::Symbol, b: Self::Symbol) -> Self::Symbol {
+        Self::add(a, Self::negate(b))
     }
-    sum as u8
-}
 
-/// The power by repeated multiplication; a zeroth power is 1.
-pub fn power(a: u8, exponent: usize) -> u8 {
-    (0..exponent).fold(1, |product, _| multiply(product, a))
-}
-
-/// The inverse of a nonzero symbol: its 254th power, which is the product of
-/// its 2nd, 4th, .. 128th.
-pub fn inverse(a: u8) -> u8 {
-    let mut square = a;
-    let mut product = 1;
-    for _ in 0..7 {
-        square = multiply(square, square);
-        product = multiply(product, square);
+    fn sum(terms: impl IntoIterator<Item = Self::Symbol>) -> Self::Symbol {
+        terms.into_iter().fold(Self::ZERO, Self::add)
     }
-    product
+
+    /// The power by repeated multiplication; a zeroth power is 1.
+    fn power(a: Self::Symbol, exponent: usize) -> Self::Symbol {
+        (0..exponent).fold(Self::ONE, |product, _| Self::multiply(product, a))
+    }
+
+    /// The inverse of a nonzero symbol: its power one below the order, by the
+    /// bits of that number.
+    fn inverse(a: Self::Symbol) -> Self::Symbol {
+        let (mut square, mut product, mut bits) = (a, Self::ONE, Self::ORDER - 1);
+        while bits > 0 {
+            if bits & 1 == 1 {
+                product = Self::multiply(product, square);
+            }
+            square = Self::multiply(square, square);
+            bits >>= 1;
+        }
+        product
+    }
+
+    /// Whether all of these numbers are symbols.
+    fn are_symbols(numbers: &[Self::Symbol]) -> bool {
+        numbers.iter().all(|&number| Self::is_symbol(number))
+    }
 }
 
 #[cfg(test)]
 mod tests {
     use super::*;
+    use crate::{Field256, Field257};
 
-    #[test]
-    fn the_root_runs_through_every_nonzero_symbol() {
-        let mut seen = [false; 256];
-        (0..ORDER).for_each(|exponent| seen[power(ROOT, exponent) as usize] = true);
-        assert!(!seen[0] && seen[1..].iter().all(|&met| met));
-        assert_eq!(power(ROOT, ORDER), 1);
+    fn symbols<F: Field>() -> Vec<F::Symbol> {
+        let all = (0..=u16::MAX).map_while(|number| F::Symbol::try_from(number).ok());
+        all.filter(|&number| F::is_symbol(number)).collect()
     }
 
-    #[test]
-    fn the_eighth_power_of_the_root_is_the_polynomial_without_its_top() {
-        assert_eq!(power(ROOT, 8), 0x1D);
+    fn the_root_runs_through_every_nonzero_symbol<F: Field>() {
+        let powers: Vec<F::Symbol> = (0..F::ORDER).map(|e| F::power(F::ROOT, e)).collect();
+        let met = |symbol: &F::Symbol| powers.contains(symbol);
+        let (zero, others) = (&symbols::<F>()[0], &symbols::<F>()[1..]);
+        assert!(!met(zero) && *zero == F::ZERO);
+        assert!(others.iter().all(met) && others.len() == F::ORDER);
+        assert_eq!(F::power(F::ROOT, F::ORDER), F::ONE);
     }
 
-    #[test]
-    fn inverses_invert() {
-        assert!((1..=255).all(|a| multiply(a, inverse(a)) == 1));
+    fn inverses_invert<F: Field>() {
+        for &a in &symbols::<F>()[1..] {
+            assert_eq!(F::multiply(a, F::inverse(a)), F::ONE);
+        }
     }
 
-    #[test]
-    fn multiplication_is_a_fields() {
-        for a in 0..=255 {
-            for b in 0..=255 {
-                assert_eq!(multiply(a, b), multiply(b, a));
-                assert_eq!(multiply(a, b) == 0, a == 0 || b == 0);
-                let c = a.wrapping_mul(29) ^ b;
-                assert_eq!(multiply(a, b ^ c), multiply(a, b) ^ multiply(a, c));
-                assert_eq!(multiply(a, multiply(b, c)), multiply(multiply(a, b), c));
+    fn the_laws_hold<F: Field>() {
+        for &a in &symbols::<F>() {
+            assert_eq!(F::add(a, F::negate(a)), F::ZERO);
+            assert_eq!((F::add(a, F::ZERO), F::multiply(a, F::ONE)), (a, a));
+            for &b in &symbols::<F>() {
+                assert_eq!(F::multiply(a, b), F::multiply(b, a));
+                assert_eq!(F::multiply(a, b) == F::ZERO, a == F::ZERO || b == F::ZERO);
+                assert_eq!(F::add(a, b), F::add(b, a));
+                assert_eq!(F::add(F::subtract(a, b), b), a);
+                let c = F::add(F::multiply(a, F::ROOT), b);
+                let apart = F::add(F::multiply(a, b), F::multiply(a, c));
+                assert_eq!(F::multiply(a, F::add(b, c)), apart);
+                let inner = F::multiply(a, F::multiply(b, c));
+                assert_eq!(inner, F::multiply(F::multiply(a, b), c));
+                assert_eq!(F::add(a, F::add(b, c)), F::add(F::add(a, b), c));
+                assert!(F::is_symbol(c) && F::is_symbol(inner));
             }
         }
+    }
+
+    fn is_a_field<F: Field>() {
+        the_root_runs_through_every_nonzero_symbol::<F>();
+        inverses_invert::<F>();
+        the_laws_hold::<F>();
+    }
+
+    #[test]
+    fn both_are_fields() {
+        is_a_field::<Field256>();
+        is_a_field::<Field257>();
+    }
+
+    #[test]
+    fn as_many_symbols_as_they_say() {
+        assert_eq!(symbols::<Field256>().len(), 256);
+        assert_eq!(symbols::<Field257>().len(), 257);
     }
 }

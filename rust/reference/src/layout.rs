@@ -1,13 +1,13 @@
 //! Layouts, their numbers, and the digits and groups of layers.
 
+use crate::field::Field;
 use crate::Refusal;
+use std::marker::PhantomData;
 
 /// The most trays in a cabinet.
 pub const MOST_TRAYS: u64 = 60;
 /// The most layers in a tray.
 pub const MOST_LAYERS: u64 = 4096;
-/// The rack sizes that can be had.
-pub const RACK_SIZES: [u32; 5] = [1, 3, 5, 15, 17];
 
 #[derive(Clone, Copy, Debug, PartialEq, Eq, PartialOrd, Ord)]
 pub struct Rack(pub u32);
@@ -16,13 +16,14 @@ pub struct Tray(pub u32);
 #[derive(Clone, Copy, Debug, PartialEq, Eq, PartialOrd, Ord)]
 pub struct Layer(pub u32);
 
-/// Document 01's B, u, k, d: any values.
+/// Document 01's B, u, k, d, any values, of a cabinet of a field.
 #[derive(Clone, Copy, Debug, PartialEq, Eq)]
-pub struct Layout {
+pub struct Layout<F> {
     pub racks: u32,
     pub size: u32,
     pub dimension: u32,
     pub helpers: u32,
+    field: PhantomData<F>,
 }
 
 /// What follows from an admissible layout.
@@ -58,30 +59,32 @@ pub struct Measured {
     pub traffic: u32,
 }
 
-impl From<[u32; 4]> for Layout {
-    fn from([racks, size, dimension, helpers]: [u32; 4]) -> Layout {
+impl<F> From<[u32; 4]> for Layout<F> {
+    fn from([racks, size, dimension, helpers]: [u32; 4]) -> Layout<F> {
         Layout {
             racks,
             size,
             dimension,
             helpers,
+            field: PhantomData,
         }
     }
 }
 
-impl Layout {
+impl<F: Field> Layout<F> {
     /// The layout's numbers, refused where it is not admissible.
     pub fn numbers(self) -> Result<Numbers, Refusal> {
         self.admitted().ok_or(Refusal::Layout)
     }
 
-    /// Document 01's conditions. Products and powers are taken in a width in
-    /// which they cannot wrap, each only where the conditions before it hold.
+    /// Document 01's conditions, and W10's. Products and powers are taken in a
+    /// width in which they cannot wrap, each only where the conditions before it
+    /// hold. That n·s is at most the order never decides.
     fn admitted(self) -> Option<Numbers> {
         let [racks, size, dimension, helpers] =
             [self.racks, self.size, self.dimension, self.helpers].map(u64::from);
         let must = |condition: bool| condition.then_some(());
-        must(racks >= 2 && RACK_SIZES.contains(&self.size))?;
+        must(racks >= 2 && F::RACK_SIZES.contains(&self.size))?;
         let trays = racks * size;
         must(trays <= MOST_TRAYS && size <= dimension && size + dimension <= trays)?;
         let whole = dimension / size;
@@ -90,6 +93,7 @@ impl Layout {
         let layers = base
             .checked_pow(self.racks)
             .filter(|&layers| layers <= MOST_LAYERS)?;
+        must(trays * base <= F::ORDER as u64)?;
         Some(Numbers {
             racks: racks as usize,
             size: size as usize,
@@ -137,7 +141,7 @@ impl Numbers {
 }
 
 /// The layout call: L, r and the traffic d·L/s.
-pub fn measure(layout: Layout) -> Result<Measured, Refusal> {
+pub fn measure<F: Field>(layout: Layout<F>) -> Result<Measured, Refusal> {
     let numbers = layout.numbers()?;
     Ok(Measured {
         layers: numbers.layers as u32,

@@ -1,9 +1,10 @@
 //! A second program, written from documents 01 and 02 alone: every call in the
 //! plainest way, to compare the library with.
 //!
-//! Products are worked out bit by bit and every unknown is found by
-//! elimination over the parity checks themselves; there is no table and no
-//! closed formula. Speed is no aim.
+//! Every call is written once, over any field; a layout is one of a field, and
+//! its calls go by that. Products are worked out bit by bit, or by the rest of a
+//! division, and every unknown is found by elimination over the parity checks
+//! themselves; there is no table and no closed formula. Speed is no aim.
 //!
 //! A call never writes what it is lent: it gives back what a lent buffer must
 //! hold afterwards. A refused call gives back no buffer, so the buffer stays.
@@ -13,6 +14,8 @@
 pub mod checks;
 pub mod elimination;
 pub mod field;
+pub mod field256;
+pub mod field257;
 pub mod image;
 pub mod layout;
 pub mod margin;
@@ -26,7 +29,10 @@ pub mod sixteen;
 pub mod store;
 pub mod test;
 
-pub use image::{read_image, write_image, Image};
+pub use field::Field;
+pub use field256::Field256;
+pub use field257::Field257;
+pub use image::{copy_image, read_image, write_image, Image};
 pub use layout::{measure, Layer, Layout, Measured, Numbers, Rack, Tray};
 pub use margin::margin;
 pub use part::{read_part, Asked, Part, Source};

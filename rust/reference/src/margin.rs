@@ -1,11 +1,12 @@
 //! The loss margin.
 
+use crate::field::Field;
 use crate::layout::Layout;
 use crate::refusal::{refuse, Refusal};
 use crate::{ABSENT, DEMONSTRATION, LIVE};
 
 /// The number of trays that count, less k.
-pub fn margin(layout: Layout, states: &[u8]) -> Result<i32, Refusal> {
+pub fn margin<F: Field>(layout: Layout<F>, states: &[u8]) -> Result<i32, Refusal> {
     let numbers = layout.numbers()?;
     let known = [ABSENT, LIVE, DEMONSTRATION];
     refuse(&[

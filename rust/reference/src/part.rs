@@ -1,5 +1,6 @@
 //! Reading a tray while a repair is under way.
 
+use crate::field::Field;
 use crate::layout::{Layout, Numbers, Tray};
 use crate::refusal::{refuse, Refusal};
 
@@ -10,13 +11,13 @@ pub enum Source {
     Spare,
 }
 
-/// What a read gives: the bytes, the buffer they lie in and where they begin
+/// What a read gives: the symbols, the buffer they lie in and where they begin
 /// in it.
 #[derive(Clone, Debug, PartialEq, Eq)]
-pub struct Part {
+pub struct Part<S> {
     pub source: Source,
     pub offset: usize,
-    pub bytes: Vec<u8>,
+    pub symbols: Vec<S>,
 }
 
 /// What a read asks for: layers `first` .. `end` of a tray, `end` not included.
@@ -28,15 +29,15 @@ pub struct Asked {
 }
 
 /// The part asked for, while groups 0 .. `groups` of the lost tray's repair
-/// stand in the spare.
-pub fn read_part(
-    layout: Layout,
-    codeword: &[u8],
-    spare: &[u8],
+/// stand in the spare. No symbol is looked at.
+pub fn read_part<F: Field>(
+    layout: Layout<F>,
+    codeword: &[F::Symbol],
+    spare: &[F::Symbol],
     lost: Tray,
     groups: u64,
     asked: Asked,
-) -> Result<Part, Refusal> {
+) -> Result<Part<F::Symbol>, Refusal> {
     let numbers = layout.numbers()?;
     let wrong_length =
         codeword.len() != numbers.trays * numbers.layers || spare.len() != numbers.layers;
@@ -59,7 +60,7 @@ pub fn read_part(
     Ok(Part {
         source,
         offset: start + run.start,
-        bytes: buffer[start + run.start..start + run.end].to_vec(),
+        symbols: buffer[start + run.start..start + run.end].to_vec(),
     })
 }
 

@@ -2,47 +2,48 @@
 
 use crate::checks::Checks;
 use crate::elimination::{solve, Equation};
-use crate::field::multiply;
+use crate::field::Field;
 use crate::layout::{Layout, Numbers, Rack, Tray};
 use crate::refusal::{refuse, rising, Refusal};
 use crate::share::weight;
+use std::ops::Range;
 
 /// What a repair call reports, and what the spare holds afterwards.
 #[derive(Clone, Debug, PartialEq, Eq)]
-pub struct Repaired {
+pub struct Repaired<S> {
     pub groups: u64,
     pub crossed: u64,
     pub remaining: u64,
-    pub spare: Vec<u8>,
+    pub spare: Vec<S>,
 }
 
 /// What a repair goes by: the lost tray, the helpers and their shares, and the
-/// host rack's bytes.
+/// host rack's symbols.
 #[derive(Clone, Copy)]
-pub struct Given<'a> {
+pub struct Given<'a, S> {
     pub lost: Tray,
     pub helpers: &'a [Rack],
-    pub shares: &'a [u8],
-    pub host: &'a [u8],
+    pub shares: &'a [S],
+    pub host: &'a [S],
 }
 
 /// The same for e lost trays of one rack. The shares lie helper by helper, and
 /// those of one helper in order of m.
 #[derive(Clone, Copy)]
-pub struct GivenMany<'a> {
+pub struct GivenMany<'a, S> {
     pub lost: &'a [Tray],
     pub helpers: &'a [Rack],
-    pub shares: &'a [u8],
-    pub host: &'a [u8],
+    pub shares: &'a [S],
+    pub host: &'a [S],
 }
 
-pub fn repair(
-    layout: Layout,
-    given: Given,
-    spare: &[u8],
+pub fn repair<F: Field>(
+    layout: Layout<F>,
+    given: Given<F::Symbol>,
+    spare: &[F::Symbol],
     first: u64,
     budget: u64,
-) -> Result<Repaired, Refusal> {
+) -> Result<Repaired<F::Symbol>, Refusal> {
     let many = GivenMany {
         lost: &[given.lost],
         helpers: given.helpers,
@@ -52,41 +53,45 @@ pub fn repair(
     repair_many(layout, many, spare, first, budget)
 }
 
-pub fn repair_many(
-    layout: Layout,
-    given: GivenMany,
-    spare: &[u8],
+pub fn repair_many<F: Field>(
+    layout: Layout<F>,
+    given: GivenMany<F::Symbol>,
+    spare: &[F::Symbol],
     first: u64,
     budget: u64,
-) -> Result<Repaired, Refusal> {
+) -> Result<Repaired<F::Symbol>, Refusal> {
     let numbers = layout.numbers()?;
+    refuse(&[(Refusal::Length, wrong_length(&numbers, given, spare))])?;
     let groups = numbers.groups as u64;
+    let done = budget.min(groups.saturating_sub(first));
+    let piece = first.min(groups) as usize..(first.min(groups) + done) as usize;
     refuse(&[
-        (Refusal::Length, wrong_length(&numbers, given, spare)),
-        (Refusal::Number, outside(&numbers, given)),
+        (
+            Refusal::Number,
+            outside(&numbers, given) || !in_range::<F>(&numbers, given, piece.clone()),
+        ),
         (
             Refusal::Order,
             !rising(given.lost) || !rising(given.helpers),
         ),
         (Refusal::Count, given.helpers.len() != numbers.helpers),
         (Refusal::LostCount, !numbers.can_lose(given.lost.len())),
-        (Refusal::Host, host_helps(layout, given)),
+        (Refusal::Host, host_helps(&numbers, given)),
         (Refusal::FirstGroup, first > groups),
     ])?;
-    let done = budget.min(groups - first);
     let symbols = (given.lost.len() * numbers.helpers) as u64;
     Ok(Repaired {
         groups: done,
         crossed: symbols * done,
         remaining: symbols * (groups - (first + done)),
-        spare: Repair::new(numbers, given).write(spare, first as usize..(first + done) as usize),
+        spare: Repair::<F>::new(numbers, given).write(spare, piece),
     })
 }
 
-/// The shares must have e·d·L/s bytes, the host rack u·L and the spare e·L,
+/// The shares must have e·d·L/s symbols, the host rack u·L and the spare e·L,
 /// with e the length of the lost list, whatever that is.
-fn wrong_length(numbers: &Numbers, given: GivenMany, spare: &[u8]) -> bool {
-    let of_each = |bytes: usize| given.lost.len().checked_mul(bytes);
+fn wrong_length<S>(numbers: &Numbers, given: GivenMany<S>, spare: &[S]) -> bool {
+    let of_each = |symbols: usize| given.lost.len().checked_mul(symbols);
     of_each(numbers.helpers * numbers.groups) != Some(given.shares.len())
         || given.host.len() != numbers.size * numbers.layers
         || of_each(numbers.layers) != Some(spare.len())
@@ -94,41 +99,66 @@ fn wrong_length(numbers: &Numbers, given: GivenMany, spare: &[u8]) -> bool {
 
 /// Whether a number is outside the layout, or a lost tray outside the rack of
 /// the first one listed.
-fn outside(numbers: &Numbers, given: GivenMany) -> bool {
+fn outside<S>(numbers: &Numbers, given: GivenMany<S>) -> bool {
     let rack_of = |tray: Tray| tray.0 as usize / numbers.size;
     let bad_tray =
         |&tray: &Tray| !numbers.has_tray(tray) || rack_of(tray) != rack_of(given.lost[0]);
     given.lost.iter().any(bad_tray) || given.helpers.iter().any(|&rack| !numbers.has_rack(rack))
 }
 
+/// Whether the numbers that a piece looks at are symbols: in its own groups, all
+/// share symbols and those of the host's trays that are not listed. With no lost
+/// tray there is no host, and nothing is looked at. The lost trays must be of
+/// one rack of the layout.
+fn in_range<F: Field>(numbers: &Numbers, given: GivenMany<F::Symbol>, piece: Range<usize>) -> bool {
+    let Some(first) = given.lost.first() else {
+        return true;
+    };
+    let host = first.0 as usize / numbers.size;
+    let sound = |place: usize| {
+        let tray = Tray((host * numbers.size + place) as u32);
+        !given.lost.contains(&tray)
+    };
+    let of_layer = |tray: &[F::Symbol], layer| {
+        !piece.contains(&numbers.group(host, layer)) || F::is_symbol(tray[layer])
+    };
+    let mut shares = given.shares.chunks(numbers.groups);
+    let mut host_trays = given.host.chunks(numbers.layers).enumerate();
+    shares.all(|share| F::are_symbols(&share[piece.clone()]))
+        && host_trays.all(|(place, tray)| {
+            !sound(place) || (0..numbers.layers).all(|layer| of_layer(tray, layer))
+        })
+}
+
 /// Whether the lost trays' rack is a helper.
-fn host_helps(layout: Layout, given: GivenMany) -> bool {
-    let host = given.lost.first().map(|tray| Rack(tray.0 / layout.size));
+fn host_helps<S>(numbers: &Numbers, given: GivenMany<S>) -> bool {
+    let rack_of = |tray: &Tray| Rack(tray.0 / numbers.size as u32);
+    let host = given.lost.first().map(rack_of);
     host.is_some_and(|host| given.helpers.contains(&host))
 }
 
 /// A repair that isn't refused.
-struct Repair<'a> {
+struct Repair<'a, F: Field> {
     numbers: Numbers,
-    checks: Checks,
-    given: GivenMany<'a>,
+    checks: Checks<F>,
+    given: GivenMany<'a, F::Symbol>,
     host: usize,
     /// The places of the lost trays, as listed.
     lost: Vec<usize>,
     /// By m and place, worked out once.
-    weights: Vec<Vec<u8>>,
+    weights: Vec<Vec<F::Symbol>>,
     helpers: Vec<usize>,
     /// The racks that are neither host nor helper.
     silent: Vec<usize>,
 }
 
-impl Repair<'_> {
-    fn new(numbers: Numbers, given: GivenMany) -> Repair {
+impl<F: Field> Repair<'_, F> {
+    fn new(numbers: Numbers, given: GivenMany<F::Symbol>) -> Repair<F> {
         let host = given.lost[0].0 as usize / numbers.size;
         let place = |tray: &Tray| tray.0 as usize % numbers.size;
         let weights = |m| {
             (0..numbers.size)
-                .map(|place| weight(&numbers, place, m))
+                .map(|place| weight::<F>(&numbers, place, m))
                 .collect()
         };
         let helpers: Vec<usize> = given.helpers.iter().map(|rack| rack.0 as usize).collect();
@@ -148,7 +178,7 @@ impl Repair<'_> {
     }
 
     /// The spare with the layers of these groups written, in every lost tray.
-    fn write(&self, spare: &[u8], groups: std::ops::Range<usize>) -> Vec<u8> {
+    fn write(&self, spare: &[F::Symbol], groups: Range<usize>) -> Vec<F::Symbol> {
         let mut written = spare.to_vec();
         let mut layers_of = vec![vec![]; self.numbers.groups];
         for layer in 0..self.numbers.layers {
@@ -156,11 +186,11 @@ impl Repair<'_> {
         }
         for group in groups {
             let layers = &layers_of[group];
-            let sums: Vec<Vec<u8>> = (0..self.lost.len())
+            let sums: Vec<Vec<F::Symbol>> = (0..self.lost.len())
                 .map(|m| self.host_sums(group, layers, m))
                 .collect();
             for (digit, &layer) in layers.iter().enumerate() {
-                let of_layer: Vec<u8> = sums.iter().map(|of_m| of_m[digit]).collect();
+                let of_layer: Vec<F::Symbol> = sums.iter().map(|of_m| of_m[digit]).collect();
                 for (at, symbol) in self.lost_symbols(layer, &of_layer).iter().enumerate() {
                     written[at * self.numbers.layers + layer] = *symbol;
                 }
@@ -172,8 +202,8 @@ impl Repair<'_> {
     /// The host rack's sums of weight m in the layers of a group: the first
     /// unknowns of the R checks t = u·w + m summed over the group. The other
     /// unknowns are the group sums, so weighted, of the silent racks.
-    fn host_sums(&self, group: usize, layers: &[usize], m: usize) -> Vec<u8> {
-        let equation = |w: usize| -> Equation {
+    fn host_sums(&self, group: usize, layers: &[usize], m: usize) -> Vec<F::Symbol> {
+        let equation = |w: usize| -> Equation<F> {
             // In these checks a tray's coefficient is that of place 0 times
             // its weight; and that of a rack that isn't the host is the same
             // in all layers of the group.
@@ -181,37 +211,40 @@ impl Repair<'_> {
             let of_rack = |rack, layer| self.checks.coefficient(rack * self.numbers.size, layer, t);
             let of_host = layers.iter().map(|&layer| of_rack(self.host, layer));
             let of_silent = self.silent.iter().map(|&rack| of_rack(rack, layers[0]));
-            let known = self.helpers.iter().enumerate().fold(0, |sum, (at, &rack)| {
-                sum ^ multiply(of_rack(rack, layers[0]), self.share_symbol(at, m, group))
+            let of_helpers = self.helpers.iter().enumerate().map(|(at, &rack)| {
+                F::multiply(of_rack(rack, layers[0]), self.share_symbol(at, m, group))
             });
-            of_host.chain(of_silent).chain([known]).collect()
+            // The unknown part and the helpers' add up to zero.
+            let right = F::negate(F::sum(of_helpers));
+            of_host.chain(of_silent).chain([right]).collect()
         };
         let equations = (0..self.numbers.rack_checks).map(equation).collect();
-        solve(equations, self.numbers.base + self.silent.len())
+        solve::<F>(equations, self.numbers.base + self.silent.len())
             .expect("R checks in R unknowns have a solution")
     }
 
     /// The symbol for a group in share m of the helper at this place of the
     /// list.
-    fn share_symbol(&self, helper: usize, m: usize, group: usize) -> u8 {
+    fn share_symbol(&self, helper: usize, m: usize, group: usize) -> F::Symbol {
         self.given.shares[(helper * self.lost.len() + m) * self.numbers.groups + group]
     }
 
     /// The lost symbols of a layer: those that give the host rack's weighted
     /// sums, m = 0 first, with the symbols of its sound trays.
-    fn lost_symbols(&self, layer: usize, sums: &[u8]) -> Vec<u8> {
+    fn lost_symbols(&self, layer: usize, sums: &[F::Symbol]) -> Vec<F::Symbol> {
         let sound: Vec<usize> = (0..self.numbers.size)
             .filter(|place| !self.lost.contains(place))
             .collect();
-        let equation = |(m, &sum): (usize, &u8)| -> Equation {
+        let equation = |(m, &sum): (usize, &F::Symbol)| -> Equation<F> {
             let of_lost = self.lost.iter().map(|&place| self.weights[m][place]);
-            let known = sound.iter().fold(sum, |known, &place| {
+            let of_sound = sound.iter().map(|&place| {
                 let symbol = self.given.host[place * self.numbers.layers + layer];
-                known ^ multiply(self.weights[m][place], symbol)
+                F::multiply(self.weights[m][place], symbol)
             });
-            of_lost.chain([known]).collect()
+            let right = F::subtract(sum, F::sum(of_sound));
+            of_lost.chain([right]).collect()
         };
-        solve(sums.iter().enumerate().map(equation).collect(), sums.len())
+        solve::<F>(sums.iter().enumerate().map(equation).collect(), sums.len())
             .expect("e sums in e unknowns have a solution")
     }
 }

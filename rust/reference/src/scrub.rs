@@ -1,6 +1,7 @@
 //! Testing a stored codeword some layers at a time.
 
 use crate::checks::Checks;
+use crate::field::Field;
 use crate::layout::{Layout, Numbers};
 use crate::refusal::{refuse, Refusal};
 
@@ -23,7 +24,7 @@ pub enum Report {
 }
 
 /// The record of a walk not yet begun.
-pub fn scrub_reset(layout: Layout) -> Result<ScrubRecord, Refusal> {
+pub fn scrub_reset<F: Field>(layout: Layout<F>) -> Result<ScrubRecord, Refusal> {
     let numbers = layout.numbers()?;
     Ok(ScrubRecord {
         next: 0,
@@ -33,11 +34,11 @@ pub fn scrub_reset(layout: Layout) -> Result<ScrubRecord, Refusal> {
 }
 
 /// Looks at as many layers as the budget allows, from the record's next one
-/// on, and gives the report and the record afterwards. A refused call leaves
-/// the record as it came.
-pub fn scrub(
-    layout: Layout,
-    codeword: &[u8],
+/// on, and gives the report and the record afterwards. Symbols of other layers
+/// are not looked at. A refused call leaves the record as it came.
+pub fn scrub<F: Field>(
+    layout: Layout<F>,
+    codeword: &[F::Symbol],
     record: ScrubRecord,
     budget: u64,
 ) -> Result<(Report, ScrubRecord), Refusal> {
@@ -49,7 +50,11 @@ pub fn scrub(
     ])?;
     let next = record.next as usize;
     let looked_at = budget.min((numbers.layers - next) as u64) as usize;
-    let found = bad_layers(numbers, codeword, next..next + looked_at);
+    let run = next..next + looked_at;
+    let mut trays = codeword.chunks(numbers.layers);
+    let in_range = trays.all(|tray| F::are_symbols(&tray[run.clone()]));
+    refuse(&[(Refusal::Number, !in_range)])?;
+    let found = bad_layers::<F>(numbers, codeword, run);
     // With none bad so far, the first of those found is the first of all.
     let first = match found.first() {
         Some(&layer) if record.bad == 0 => layer as u32,
@@ -64,12 +69,16 @@ pub fn scrub(
 }
 
 /// The layers of a run in which some check is broken, the lowest first. The
-/// codeword must have n·L bytes, and the run must end at L or below.
-pub fn bad_layers(numbers: Numbers, codeword: &[u8], run: std::ops::Range<usize>) -> Vec<usize> {
-    let checks = Checks::new(numbers);
+/// codeword must have n·L symbols, and the run must end at L or below.
+pub fn bad_layers<F: Field>(
+    numbers: Numbers,
+    codeword: &[F::Symbol],
+    run: std::ops::Range<usize>,
+) -> Vec<usize> {
+    let checks = Checks::<F>::new(numbers);
     let trays: Vec<usize> = (0..numbers.trays).collect();
-    let is_bad =
-        |&layer: &usize| (0..numbers.checks).any(|t| checks.sum(codeword, &trays, layer, t) != 0);
+    let is_broken = |layer, t| checks.sum(codeword, &trays, layer, t) != F::ZERO;
+    let is_bad = |&layer: &usize| (0..numbers.checks).any(|t| is_broken(layer, t));
     run.filter(is_bad).collect()
 }
 

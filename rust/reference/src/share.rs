@@ -1,106 +1,135 @@
 //! A helper's shares, whole or tray by tray.
 
-use crate::field::{multiply, power, ORDER, ROOT};
+use crate::field::Field;
 use crate::layout::{Layout, Numbers, Rack, Tray};
 use crate::refusal::{refuse, Refusal};
 
 /// What share m multiplies a tray at this place by: z to the power
-/// g·m·(255/u), of which only the rest by 255 matters.
-pub fn weight(numbers: &Numbers, place: usize, m: usize) -> u8 {
-    power(ROOT, place * m * (ORDER / numbers.size) % ORDER)
+/// g·m·(255/u), or 256/u, of which only the rest by the order matters.
+pub fn weight<F: Field>(numbers: &Numbers, place: usize, m: usize) -> F::Symbol {
+    let exponent = place * m * (F::ORDER / numbers.size);
+    F::power(F::ROOT, exponent % F::ORDER)
 }
 
-/// What the L/s bytes lent for the share hold afterwards.
-pub fn share(
-    layout: Layout,
+/// What the L/s symbols lent for the share hold afterwards.
+pub fn share<F: Field>(
+    layout: Layout<F>,
     host: Rack,
     helper: Rack,
-    rack: &[u8],
-    share: &[u8],
-) -> Result<Vec<u8>, Refusal> {
+    rack: &[F::Symbol],
+    share: &[F::Symbol],
+) -> Result<Vec<F::Symbol>, Refusal> {
     share_many(layout, 1, host, helper, rack, share)
 }
 
-/// What the L/s bytes lent hold afterwards: what they held, plus this tray's
+/// What the L/s symbols lent hold afterwards: what they held, plus this tray's
 /// part of its rack's share.
-pub fn share_add(
-    layout: Layout,
+pub fn share_add<F: Field>(
+    layout: Layout<F>,
     host: Rack,
     tray: Tray,
-    symbols: &[u8],
-    share: &[u8],
-) -> Result<Vec<u8>, Refusal> {
+    symbols: &[F::Symbol],
+    share: &[F::Symbol],
+) -> Result<Vec<F::Symbol>, Refusal> {
     share_add_many(layout, 1, host, tray, symbols, share)
 }
 
-/// What the e·L/s bytes lent for the shares hold afterwards, m = 0 first.
-pub fn share_many(
-    layout: Layout,
+/// What the e·L/s symbols lent for the shares hold afterwards, m = 0 first.
+pub fn share_many<F: Field>(
+    layout: Layout<F>,
     lost_count: u32,
     host: Rack,
     helper: Rack,
-    rack: &[u8],
-    share: &[u8],
-) -> Result<Vec<u8>, Refusal> {
+    rack: &[F::Symbol],
+    share: &[F::Symbol],
+) -> Result<Vec<F::Symbol>, Refusal> {
     let numbers = layout.numbers()?;
-    let wrong_length = rack.len() != numbers.size * numbers.layers;
-    refuse_share(&numbers, lost_count, host, helper, wrong_length, share)?;
-    let mut shares = vec![0; share.len()];
+    let asked = Asked {
+        lost_count: lost_count as usize,
+        host,
+        helper,
+        wrong_length: rack.len() != numbers.size * numbers.layers,
+        share_length: share.len(),
+        in_range: F::are_symbols(rack),
+    };
+    asked.refuse(&numbers)?;
+    let mut shares = vec![F::ZERO; share.len()];
     for (place, symbols) in rack.chunks(numbers.layers).enumerate() {
-        add_tray(&numbers, host, place, symbols, &mut shares);
+        add_tray::<F>(&numbers, host, place, symbols, &mut shares);
     }
     Ok(shares)
 }
 
-/// What the e·L/s bytes lent hold afterwards: what they held, plus this tray's
-/// part of its rack's shares.
-pub fn share_add_many(
-    layout: Layout,
+/// What the e·L/s symbols lent hold afterwards: what they held, plus this tray's
+/// part of its rack's shares. What they held is looked at too.
+pub fn share_add_many<F: Field>(
+    layout: Layout<F>,
     lost_count: u32,
     host: Rack,
     tray: Tray,
-    symbols: &[u8],
-    share: &[u8],
-) -> Result<Vec<u8>, Refusal> {
+    symbols: &[F::Symbol],
+    share: &[F::Symbol],
+) -> Result<Vec<F::Symbol>, Refusal> {
     let numbers = layout.numbers()?;
-    // A tray is outside the layout exactly when its rack is.
-    let helper = Rack(tray.0 / layout.size);
-    let wrong_length = symbols.len() != numbers.layers;
-    refuse_share(&numbers, lost_count, host, helper, wrong_length, share)?;
+    let asked = Asked {
+        lost_count: lost_count as usize,
+        host,
+        // A tray is outside the layout exactly when its rack is.
+        helper: Rack(tray.0 / layout.size),
+        wrong_length: symbols.len() != numbers.layers,
+        share_length: share.len(),
+        in_range: F::are_symbols(symbols) && F::are_symbols(share),
+    };
+    asked.refuse(&numbers)?;
     let mut shares = share.to_vec();
     let place = tray.0 as usize % numbers.size;
-    add_tray(&numbers, host, place, symbols, &mut shares);
+    add_tray::<F>(&numbers, host, place, symbols, &mut shares);
     Ok(shares)
 }
 
-/// The grounds of a share call past the layout's.
-fn refuse_share(
-    numbers: &Numbers,
-    lost_count: u32,
+/// What the grounds of a share call hang on, past the layout.
+struct Asked {
+    lost_count: usize,
     host: Rack,
     helper: Rack,
+    /// Whether the rack or the tray has not its length.
     wrong_length: bool,
-    share: &[u8],
-) -> Result<(), Refusal> {
-    let lost_count = lost_count as usize;
-    let wrong_share = lost_count.checked_mul(numbers.groups) != Some(share.len());
-    refuse(&[
-        (Refusal::Length, wrong_length || wrong_share),
-        (
-            Refusal::Number,
-            !numbers.has_rack(host) || !numbers.has_rack(helper),
-        ),
-        (Refusal::LostCount, !numbers.can_lose(lost_count)),
-        (Refusal::Host, host == helper),
-    ])
+    share_length: usize,
+    /// Whether the numbers that the call looks at are symbols.
+    in_range: bool,
+}
+
+impl Asked {
+    /// With no lost tray no symbol is looked at.
+    fn refuse(&self, numbers: &Numbers) -> Result<(), Refusal> {
+        let due = self.lost_count.checked_mul(numbers.groups);
+        let no_rack = !numbers.has_rack(self.host) || !numbers.has_rack(self.helper);
+        let no_symbol = self.lost_count != 0 && !self.in_range;
+        refuse(&[
+            (
+                Refusal::Length,
+                self.wrong_length || due != Some(self.share_length),
+            ),
+            (Refusal::Number, no_rack || no_symbol),
+            (Refusal::LostCount, !numbers.can_lose(self.lost_count)),
+            (Refusal::Host, self.host == self.helper),
+        ])
+    }
 }
 
 /// Adds a tray's part to its rack's shares.
-fn add_tray(numbers: &Numbers, host: Rack, place: usize, symbols: &[u8], shares: &mut [u8]) {
+fn add_tray<F: Field>(
+    numbers: &Numbers,
+    host: Rack,
+    place: usize,
+    symbols: &[F::Symbol],
+    shares: &mut [F::Symbol],
+) {
     for (m, share) in shares.chunks_mut(numbers.groups).enumerate() {
-        let weight = weight(numbers, place, m);
+        let weight = weight::<F>(numbers, place, m);
         for (layer, &symbol) in symbols.iter().enumerate() {
-            share[numbers.group(host.0 as usize, layer)] ^= multiply(weight, symbol);
+            let sum = &mut share[numbers.group(host.0 as usize, layer)];
+            *sum = F::add(*sum, F::multiply(weight, symbol));
         }
     }
 }

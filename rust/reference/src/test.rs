@@ -1,6 +1,7 @@
 //! Testing a codeword.
 
 use crate::checks::Checks;
+use crate::field::Field;
 use crate::layout::{Layer, Layout};
 use crate::refusal::{refuse, Refusal};
 
@@ -14,17 +15,19 @@ pub enum Tested {
     },
 }
 
-pub fn test(layout: Layout, codeword: &[u8]) -> Result<Tested, Refusal> {
+/// Looks at every symbol before it answers.
+pub fn test<F: Field>(layout: Layout<F>, codeword: &[F::Symbol]) -> Result<Tested, Refusal> {
     let numbers = layout.numbers()?;
-    refuse(&[(
-        Refusal::Length,
-        codeword.len() != numbers.trays * numbers.layers,
-    )])?;
-    let checks = Checks::new(numbers);
+    let wrong_length = codeword.len() != numbers.trays * numbers.layers;
+    refuse(&[
+        (Refusal::Length, wrong_length),
+        (Refusal::Number, !F::are_symbols(codeword)),
+    ])?;
+    let checks = Checks::<F>::new(numbers);
     let trays: Vec<usize> = (0..numbers.trays).collect();
     for layer in 0..numbers.layers {
         for t in 0..numbers.checks {
-            if checks.sum(codeword, &trays, layer, t) != 0 {
+            if checks.sum(codeword, &trays, layer, t) != F::ZERO {
                 return Ok(Tested::Bad {
                     layer: Layer(layer as u32),
                     check: t as u32,

@@ -5,8 +5,12 @@ mod common;
 use common::codeword;
 use reference::*;
 
+fn layout(numbers: [u32; 4]) -> Layout<Field256> {
+    numbers.into()
+}
+
 fn measured(numbers: [u32; 4]) -> Result<(u32, u32, u32), u32> {
-    let answer = measure(Layout::from(numbers));
+    let answer = measure(layout(numbers));
     answer
         .map(|m| (m.layers, m.checks, m.traffic))
         .map_err(Refusal::number)
@@ -38,7 +42,7 @@ fn layouts() {
 #[test]
 fn one_byte_stored() {
     assert_eq!(
-        store(Layout::from([2, 1, 1, 1]), &[0xA7], &[0, 0]),
+        store(layout([2, 1, 1, 1]), &[0xA7], &[0, 0]),
         Ok(vec![0xA7, 0xA7])
     );
 }
@@ -49,13 +53,13 @@ const TRAY_2: [u8; 8] = [0x05, 0x06, 0x09, 0x0A, 0x05, 0x06, 0x09, 0x0A];
 
 #[test]
 fn eight_layers_stored() {
-    let stored = store(Layout::from([3, 1, 1, 2]), &DATA, &[0; 24]);
+    let stored = store(layout([3, 1, 1, 2]), &DATA, &[0; 24]);
     assert_eq!(stored, Ok([DATA, TRAY_1, TRAY_2].concat()));
 }
 
 #[test]
 fn shares_and_traffic() {
-    let layout = Layout::from([3, 1, 1, 2]);
+    let layout = layout([3, 1, 1, 2]);
     let of = |host, helper, rack| share(layout, Rack(host), Rack(helper), rack, &[0; 4]);
     assert_eq!(of(0, 1, &TRAY_1), Ok(vec![3; 4]));
     assert_eq!(of(0, 2, &TRAY_2), Ok(vec![3; 4]));
@@ -76,7 +80,7 @@ fn shares_and_traffic() {
 
 #[test]
 fn a_lost_tray_is_the_sum_of_the_other_five() {
-    let layout = Layout::from([2, 3, 3, 1]);
+    let layout = layout([2, 3, 3, 1]);
     let whole = codeword(layout, 1);
     for lost in 0..6 {
         let others = (0..6)
@@ -98,7 +102,7 @@ fn a_lost_tray_is_the_sum_of_the_other_five() {
 
 #[test]
 fn margins() {
-    let layout = Layout::from([4, 3, 8, 3]);
+    let layout = layout([4, 3, 8, 3]);
     let present = |count: usize| {
         (0..12)
             .map(|tray| u8::from(tray < count))
@@ -113,7 +117,7 @@ fn margins() {
 
 #[test]
 fn the_image() {
-    let layout = Layout::from([2, 1, 1, 1]);
+    let layout = layout([2, 1, 1, 1]);
     let written = write_image(layout, Tray(1), 1, 7, &[0xA7], &[0; 25]).unwrap();
     let expected = [
         0x18, 0x00, 0x01, 0x01, 0x02, 0x01, 0x01, 0x01, 0x01, 0x00, 0x00, 0x00, 0x07, 0x00, 0x00,

@@ -1,9 +1,11 @@
-//! The grounds of the calls that document 02 adds: each single fault, and each
-//! two of different grounds, of which the earlier is given.
+//! The grounds of the calls: each single fault, and each two of different
+//! grounds, of which the earlier is given; numbers that are no symbols, where
+//! they are looked at and where they aren't.
 
 mod common;
 
 use common::cases::*;
+use common::{over_both_fields, Tried};
 use reference::*;
 
 fn each_ground_in_order<C: Case>() {
@@ -12,34 +14,64 @@ fn each_ground_in_order<C: Case>() {
     for (at, (expected, case)) in faulty::<C>().iter().enumerate() {
         assert_eq!(case.refusal(), Some(*expected), "{name}, case {at}");
     }
+    for (at, (expected, case)) in with_unseen::<C>().iter().enumerate() {
+        assert_eq!(case.refusal(), *expected, "{name}, unseen, case {at}");
+    }
 }
 
-#[test]
-fn of_adding_to_a_share() {
-    each_ground_in_order::<ShareAdd>();
-    each_ground_in_order::<ShareAddMany>();
+over_both_fields! {
+    of_testing_storing_and_recovering,
+    of_adding_to_a_share,
+    of_the_shares,
+    of_the_repairs,
+    of_the_walk,
+    of_reading_a_part,
+    of_images,
+    of_the_margin,
+    no_lost_tray,
+    two_lost_where_one_is_the_most,
+    counts_of_any_size,
 }
 
-#[test]
-fn of_the_shares_for_many() {
-    each_ground_in_order::<ShareMany>();
+fn of_testing_storing_and_recovering<F: Tried>() {
+    each_ground_in_order::<Test<F>>();
+    each_ground_in_order::<Store<F>>();
+    each_ground_in_order::<Recover<F>>();
 }
 
-#[test]
-fn of_the_repair_of_many() {
-    each_ground_in_order::<RepairMany>();
+fn of_adding_to_a_share<F: Tried>() {
+    each_ground_in_order::<ShareAdd<F>>();
+    each_ground_in_order::<ShareAddMany<F>>();
 }
 
-#[test]
-fn of_the_walk() {
-    each_ground_in_order::<Scrub>();
-    let inadmissible = Layout::from([4, 3, 8, 4]);
+fn of_the_shares<F: Tried>() {
+    each_ground_in_order::<Share<F>>();
+    each_ground_in_order::<ShareMany<F>>();
+}
+
+fn of_the_repairs<F: Tried>() {
+    each_ground_in_order::<Repair<F>>();
+    each_ground_in_order::<RepairMany<F>>();
+}
+
+fn of_the_walk<F: Tried>() {
+    each_ground_in_order::<Scrub<F>>();
+    let inadmissible = Layout::<F>::from(F::INADMISSIBLE);
     assert_eq!(scrub_reset(inadmissible), Err(Refusal::Layout));
+    assert_eq!(measure(inadmissible), Err(Refusal::Layout));
 }
 
-#[test]
-fn of_reading_a_part() {
-    each_ground_in_order::<ReadPart>();
+fn of_reading_a_part<F: Tried>() {
+    each_ground_in_order::<ReadPart<F>>();
+}
+
+fn of_images<F: Tried>() {
+    each_ground_in_order::<WriteImage<F>>();
+    each_ground_in_order::<CopyImage<F>>();
+}
+
+fn of_the_margin<F: Tried>() {
+    each_ground_in_order::<Margin<F>>();
 }
 
 #[test]
@@ -53,7 +85,7 @@ fn the_new_grounds_have_their_numbers() {
 #[test]
 fn lost_lists_that_are_not_one() {
     let refused = |lost: &[u32]| {
-        let mut case = RepairMany::sound();
+        let mut case = RepairMany::<Field256>::sound();
         case.set_lost(lost);
         case.refusal()
     };
@@ -69,9 +101,8 @@ fn lost_lists_that_are_not_one() {
 }
 
 /// With no lost tray there is no host rack, so the host is never a helper.
-#[test]
-fn no_lost_tray() {
-    let mut case = RepairMany::sound();
+fn no_lost_tray<F: Tried>() {
+    let mut case = RepairMany::<F>::sound();
     case.set_lost(&[]);
     case.first = 17;
     assert_eq!(case.refusal(), Some(Refusal::LostCount));
@@ -87,10 +118,9 @@ fn no_lost_tray() {
     assert_eq!(case.refusal(), Some(Refusal::Layout));
 }
 
-/// Two of three trays with u − v = 1: they could be recovered, not repaired.
-#[test]
-fn two_lost_where_one_is_the_most() {
-    let layout = Layout::from([4, 3, 8, 3]);
+/// Two of a rack's trays with u − v = 1: they could be recovered, not repaired.
+fn two_lost_where_one_is_the_most<F: Tried>() {
+    let layout = Layout::<F>::from(F::ONE_LOST);
     let whole = common::codeword(layout, 18);
     let helpers = [1, 2, 3].map(Rack);
     let mut case = RepairMany::whole(
@@ -108,21 +138,21 @@ fn two_lost_where_one_is_the_most() {
 }
 
 /// Counts beyond every layout's are refused as any other.
-#[test]
-fn counts_of_any_size() {
-    let layout = Layout::from([2, 1, 1, 1]);
+fn counts_of_any_size<F: Tried>() {
+    let layout = Layout::<F>::from([2, 1, 1, 1]);
+    let seven = [common::symbol::<F>(7)];
     for count in [0, 2, 3, 255, 256, 65_536] {
-        let share = vec![9; count as usize];
-        let refused = share_many(layout, count, Rack(0), Rack(1), &[7], &share);
+        let share = vec![F::ONE; count as usize];
+        let refused = share_many(layout, count, Rack(0), Rack(1), &seven, &share);
         assert_eq!(refused, Err(Refusal::LostCount));
-        let refused = share_add_many(layout, count, Rack(0), Tray(1), &[7], &share);
+        let refused = share_add_many(layout, count, Rack(0), Tray(1), &seven, &share);
         assert_eq!(refused, Err(Refusal::LostCount));
     }
     for count in [1 << 31, u32::MAX] {
         for shape in [[2, 1, 1, 1], [12, 1, 10, 11]] {
-            let layout = Layout::from(shape);
+            let layout = Layout::<F>::from(shape);
             let layers = layout.numbers().unwrap().layers;
-            let symbols = vec![7; layers];
+            let symbols = vec![F::ONE; layers];
             let refused = share_many(layout, count, Rack(0), Rack(1), &symbols, &[]);
             assert_eq!(refused, Err(Refusal::Length));
             let refused = share_add_many(layout, count, Rack(0), Tray(1), &symbols, &[]);
@@ -133,9 +163,9 @@ fn counts_of_any_size() {
     let given = GivenMany {
         lost: &lost,
         helpers: &[Rack(1)],
-        shares: &vec![0; lost.len()],
-        host: &[0],
+        shares: &vec![F::ZERO; lost.len()],
+        host: &[F::ZERO],
     };
-    let refused = repair_many(layout, given, &vec![0; lost.len()], 0, 1);
+    let refused = repair_many(layout, given, &vec![F::ZERO; lost.len()], 0, 1);
     assert_eq!(refused, Err(Refusal::Order));
 }

@@ -3,15 +3,26 @@
 mod common;
 
 use common::cases::RepairMany;
-use common::{codeword, helper_sets, lost_lists, rack_of, tray_of, Dice};
-use common::{SHAPES, SHAPES_OF_MANY};
+use common::{codeword, helper_sets, lost_lists, over_both_fields, rack_of, tray_of};
+use common::{Dice, Tried};
 use reference::checks::Checks;
 use reference::elimination::solve;
 use reference::share::weight;
 use reference::*;
 
+over_both_fields! {
+    every_choice_of_lost_trays_and_helpers,
+    large_racks,
+    two_trays_of_the_large_cabinet,
+    any_shares_are_answered_by_the_checks,
+    weights_are_what_places_differ_by,
+    pieces_make_the_whole,
+    a_group_hangs_on_its_own_symbols,
+    with_a_whole_rack_lost_its_symbols_do_not_matter,
+}
+
 /// The lost trays of a codeword as the spare must hold them.
-fn lost_of(layout: Layout, whole: &[u8], lost: &[Tray]) -> Vec<u8> {
+fn lost_of<F: Field>(layout: Layout<F>, whole: &[F::Symbol], lost: &[Tray]) -> Vec<F::Symbol> {
     let numbers = layout.numbers().unwrap();
     let of_tray = |&tray: &Tray| tray_of(&numbers, whole, tray);
     lost.iter().flat_map(of_tray).collect()
@@ -19,19 +30,32 @@ fn lost_of(layout: Layout, whole: &[u8], lost: &[Tray]) -> Vec<u8> {
 
 #[test]
 fn the_most_lost_trays() {
-    let most = |shape: [u32; 4]| Layout::from(shape).numbers().unwrap().most_lost();
-    assert_eq!(SHAPES_OF_MANY.map(most), [3, 2, 2, 3, 1]);
+    let most = |shape| {
+        Layout::<Field256>::from(shape)
+            .numbers()
+            .unwrap()
+            .most_lost()
+    };
+    assert_eq!(Field256::SHAPES_OF_MANY.map(most), [3, 2, 2, 3, 1]);
     assert_eq!(most([4, 3, 8, 3]), 1);
     assert_eq!(most([7, 5, 24, 6]), 1);
     assert_eq!(most([10, 3, 24, 9]), 3);
     assert_eq!(most([2, 17, 17, 1]), 17);
+    let most = |shape| {
+        Layout::<Field257>::from(shape)
+            .numbers()
+            .unwrap()
+            .most_lost()
+    };
+    assert_eq!(Field257::SHAPES_OF_MANY.map(most), [4, 3, 2, 3, 1]);
+    assert_eq!(most([5, 4, 15, 4]), 1);
+    assert_eq!(most([2, 16, 16, 1]), 16);
 }
 
-#[test]
-fn every_choice_of_lost_trays_and_helpers() {
+fn every_choice_of_lost_trays_and_helpers<F: Tried>() {
     let mut dice = Dice::new(51);
-    for shape in SHAPES.into_iter().chain(SHAPES_OF_MANY) {
-        let layout = Layout::from(shape);
+    for shape in F::SHAPES.into_iter().chain(F::SHAPES_OF_MANY) {
+        let layout = Layout::<F>::from(shape);
         let numbers = layout.numbers().unwrap();
         let whole = codeword(layout, 52);
         for host in 0..numbers.racks {
@@ -51,17 +75,11 @@ fn every_choice_of_lost_trays_and_helpers() {
     }
 }
 
-/// Whole racks, and others, of fifteen and seventeen.
-#[test]
-fn large_racks() {
+/// Whole racks, and others, of many trays.
+fn large_racks<F: Tried>() {
     let mut dice = Dice::new(53);
-    for shape in [
-        [2, 17, 17, 1],
-        [3, 17, 20, 2],
-        [3, 15, 15, 2],
-        [4, 15, 23, 3],
-    ] {
-        let layout = Layout::from(shape);
+    for shape in F::LARGE_RACKS {
+        let layout = Layout::<F>::from(shape);
         let numbers = layout.numbers().unwrap();
         let whole = codeword(layout, 54);
         for count in [1, 2, numbers.most_lost() - 1, numbers.most_lost()] {
@@ -78,13 +96,12 @@ fn large_racks() {
     }
 }
 
-/// Two trays of (10, 3, 24, 9), cut at random, in well under a second.
-#[test]
-fn two_trays_of_the_large_cabinet() {
+/// Two trays of a cabinet with 1,024 layers, cut at random.
+fn two_trays_of_the_large_cabinet<F: Tried>() {
     let mut dice = Dice::new(55);
-    let layout = Layout::from([10, 3, 24, 9]);
+    let layout = Layout::<F>::from(F::LARGE_CABINET);
     let whole = codeword(layout, 56);
-    let lost = [Tray(12), Tray(14)];
+    let lost = [Tray(4 * layout.size), Tray(4 * layout.size + 2)];
     let sets = helper_sets(&layout.numbers().unwrap(), 4);
     let mut piece = RepairMany::whole(layout, &whole, &lost, &sets[0], &mut dice);
     while piece.first < 512 {
@@ -98,13 +115,12 @@ fn two_trays_of_the_large_cabinet() {
 
 /// Whatever the shares and the sound trays: with the trays written, the checks
 /// t = u·w + m summed over each group have a solution in the silent racks.
-#[test]
-fn any_shares_are_answered_by_the_checks() {
+fn any_shares_are_answered_by_the_checks<F: Tried>() {
     let mut dice = Dice::new(58);
-    for shape in SHAPES_OF_MANY {
-        let layout = Layout::from(shape);
+    for shape in F::SHAPES_OF_MANY {
+        let layout = Layout::<F>::from(shape);
         let numbers = layout.numbers().unwrap();
-        let checks = Checks::new(numbers);
+        let checks = Checks::<F>::new(numbers);
         for count in 1..=numbers.most_lost() {
             let host = dice.below(numbers.racks);
             let lists = lost_lists(&numbers, host, count);
@@ -113,8 +129,8 @@ fn any_shares_are_answered_by_the_checks() {
             let helpers = &sets[dice.below(sets.len())];
             let mut case =
                 RepairMany::whole(layout, &codeword(layout, 59), lost, helpers, &mut dice);
-            case.shares = dice.bytes(case.shares.len());
-            case.host = dice.bytes(case.host.len());
+            case.shares = dice.symbols::<F>(case.shares.len());
+            case.host = dice.symbols::<F>(case.host.len());
             let repaired = case.run().unwrap().spare;
             let mut rack = case.host.clone();
             for (tray, symbols) in lost.iter().zip(repaired.chunks(numbers.layers)) {
@@ -132,11 +148,11 @@ fn any_shares_are_answered_by_the_checks() {
 
 /// Whether the checks t = u·w + m summed over a group can hold with the host
 /// rack's symbols and the helpers' shares.
-fn consistent(
+fn consistent<F: Field>(
     numbers: &Numbers,
-    checks: &Checks,
-    case: &RepairMany,
-    rack: &[u8],
+    checks: &Checks<F>,
+    case: &RepairMany<F>,
+    rack: &[F::Symbol],
     group: usize,
     m: usize,
 ) -> bool {
@@ -154,43 +170,42 @@ fn consistent(
         .collect();
     let equation = |w: usize| {
         let t = numbers.size * w + m;
-        let mut known = 0;
+        let mut known = F::ZERO;
         for &layer in &layers {
             for place in 0..numbers.size {
                 let coefficient = checks.coefficient(host * numbers.size + place, layer, t);
                 let symbol = rack[place * numbers.layers + layer];
-                known ^= field::multiply(coefficient, symbol);
+                known = F::add(known, F::multiply(coefficient, symbol));
             }
         }
         for (at, helper) in case.helpers.iter().enumerate() {
             let first_tray = helper.0 as usize * numbers.size;
             let coefficient = checks.coefficient(first_tray, layers[0], t);
             let symbol = case.shares[(at * case.lost.len() + m) * numbers.groups + group];
-            known ^= field::multiply(coefficient, symbol);
+            known = F::add(known, F::multiply(coefficient, symbol));
         }
         let of_silent = silent
             .iter()
             .map(|&rack| checks.coefficient(rack * numbers.size, layers[0], t));
-        of_silent.chain([known]).collect()
+        of_silent.chain([F::negate(known)]).collect()
     };
     let equations = (0..numbers.rack_checks).map(equation).collect();
-    solve(equations, silent.len()).is_some()
+    solve::<F>(equations, silent.len()).is_some()
 }
 
 /// A tray's coefficient in check t = u·w + m is that of place 0 times its
 /// weight, in every admissible layout.
-#[test]
-fn weights_are_what_places_differ_by() {
-    for layout in common::admissible() {
+fn weights_are_what_places_differ_by<F: Tried>() {
+    for layout in common::admissible::<F>() {
         let numbers = layout.numbers().unwrap();
-        let checks = Checks::new(numbers);
+        let checks = Checks::<F>::new(numbers);
         assert!(numbers.size * (numbers.rack_checks - 1) + numbers.most_lost() == numbers.checks);
         for m in 0..numbers.most_lost() {
             for tray in 0..numbers.trays {
                 let place = tray % numbers.size;
                 let t = numbers.size * (numbers.rack_checks - 1) + m;
                 let of_place_0 = checks.coefficient(tray - place, 0, t);
-                let product = field::multiply(of_place_0, weight(&numbers, place, m));
+                let product = F::multiply(of_place_0, weight::<F>(&numbers, place, m));
                 assert_eq!(checks.coefficient(tray, 0, t), product);
             }
         }
@@ -199,11 +214,10 @@ fn weights_are_what_places_differ_by() {
 
 /// Pieces in random cuts, refused ones between, over any shares: the groups
 /// done are as one call writes them, and all else is as it was.
-#[test]
-fn pieces_make_the_whole() {
+fn pieces_make_the_whole<F: Tried>() {
     let mut dice = Dice::new(60);
-    for shape in SHAPES_OF_MANY {
-        let layout = Layout::from(shape);
+    for shape in F::SHAPES_OF_MANY {
+        let layout = Layout::<F>::from(shape);
         let numbers = layout.numbers().unwrap();
         let groups = numbers.groups as u64;
         for count in 1..=numbers.most_lost() {
@@ -213,7 +227,7 @@ fn pieces_make_the_whole() {
                 let helpers = &helper_sets(&numbers, host)[0];
                 let mut piece =
                     RepairMany::whole(layout, &codeword(layout, 61), lost, helpers, &mut dice);
-                piece.shares = dice.bytes(piece.shares.len());
+                piece.shares = dice.symbols::<F>(piece.shares.len());
                 let first_spare = piece.spare.clone();
                 let uncut = piece.run().unwrap();
                 let (mut done, mut crossed) = (0, 0);
@@ -245,19 +259,18 @@ fn pieces_make_the_whole() {
 
 /// A group's symbols hang on its e·d share symbols and the sound host symbols
 /// of its layers alone.
-#[test]
-fn a_group_hangs_on_its_own_symbols() {
+fn a_group_hangs_on_its_own_symbols<F: Tried>() {
     let mut dice = Dice::new(62);
-    let layout = Layout::from([5, 3, 7, 3]);
+    let layout = Layout::<F>::from(F::SHAPE);
     let numbers = layout.numbers().unwrap();
-    let lost = [Tray(6), Tray(8)];
+    let lost = [Tray(2 * layout.size), Tray(2 * layout.size + 2)];
     let helpers = [0, 1, 3].map(Rack);
     let one = RepairMany::whole(layout, &codeword(layout, 63), &lost, &helpers, &mut dice);
     let written = one.run().unwrap().spare;
     for group in 0..numbers.groups {
         let mut other = one.clone();
-        other.shares = dice.bytes(one.shares.len());
-        other.host = dice.bytes(one.host.len());
+        other.shares = dice.symbols::<F>(one.shares.len());
+        other.host = dice.symbols::<F>(one.host.len());
         other
             .shares
             .iter_mut()
@@ -268,9 +281,11 @@ fn a_group_hangs_on_its_own_symbols() {
         let layers: Vec<usize> = (0..numbers.layers)
             .filter(|&layer| numbers.group(2, layer) == group)
             .collect();
-        let sound = numbers.layers; // where the tray at place 1 begins
         for &layer in &layers {
-            other.host[sound + layer] = one.host[sound + layer];
+            for place in (0..numbers.size).filter(|place| ![0, 2].contains(place)) {
+                let at = place * numbers.layers + layer;
+                other.host[at] = one.host[at];
+            }
         }
         other.first = group as u64;
         other.budget = 1;
@@ -284,15 +299,14 @@ fn a_group_hangs_on_its_own_symbols() {
 }
 
 /// The trays of a whole rack come back with no sound tray read.
-#[test]
-fn with_a_whole_rack_lost_its_bytes_do_not_matter() {
+fn with_a_whole_rack_lost_its_symbols_do_not_matter<F: Tried>() {
     let mut dice = Dice::new(64);
-    let layout = Layout::from([4, 3, 6, 3]);
+    let layout = Layout::<F>::from(F::SHAPES_OF_MANY[0]);
     let numbers = layout.numbers().unwrap();
     let whole = codeword(layout, 65);
-    let lost = [3, 4, 5].map(Tray);
+    let lost: Vec<Tray> = (layout.size..2 * layout.size).map(Tray).collect();
     let helpers = [0, 2, 3].map(Rack);
     let mut case = RepairMany::whole(layout, &whole, &lost, &helpers, &mut dice);
-    case.host = dice.bytes(case.host.len());
+    case.host = dice.symbols::<F>(case.host.len());
     assert_eq!(case.run().unwrap().spare, rack_of(&numbers, &whole, 1));
 }

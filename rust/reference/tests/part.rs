@@ -3,12 +3,18 @@
 mod common;
 
 use common::cases::{ReadPart, RepairMany};
-use common::{codeword, helper_sets, Dice, SHAPES};
+use common::{codeword, helper_sets, over_both_fields, Dice, Tried};
 use reference::*;
+
+over_both_fields! {
+    parts_during_a_repair_in_pieces,
+    ready_layers_need_not_be_the_first,
+    empty_runs,
+}
 
 /// Every part that can be asked for, against the codeword, and a refusal for
 /// every other.
-fn every_part(layout: Layout, whole: &[u8], case: &ReadPart) {
+fn every_part<F: Tried>(layout: Layout<F>, whole: &[F::Symbol], case: &ReadPart<F>) {
     let numbers = layout.numbers().unwrap();
     for tray in [case.lost.0, 0, numbers.trays as u32 - 1] {
         for first in 0..=numbers.layers {
@@ -19,11 +25,11 @@ fn every_part(layout: Layout, whole: &[u8], case: &ReadPart) {
                 if tray != case.lost.0 {
                     let part = answer.unwrap();
                     assert_eq!((part.source, part.offset), (Source::Store, start + first));
-                    assert_eq!(part.bytes, expected);
+                    assert_eq!(part.symbols, expected);
                 } else if (first..end).all(|layer| case.is_ready(layer)) {
                     let part = answer.unwrap();
                     assert_eq!((part.source, part.offset), (Source::Spare, first));
-                    assert_eq!(part.bytes, expected);
+                    assert_eq!(part.symbols, expected);
                 } else {
                     assert_eq!(answer, Err(Refusal::NotRepaired));
                 }
@@ -32,11 +38,10 @@ fn every_part(layout: Layout, whole: &[u8], case: &ReadPart) {
     }
 }
 
-#[test]
-fn parts_during_a_repair_in_pieces() {
+fn parts_during_a_repair_in_pieces<F: Tried>() {
     let mut dice = Dice::new(41);
-    for shape in SHAPES {
-        let layout = Layout::from(shape);
+    for shape in F::SHAPES {
+        let layout = Layout::<F>::from(shape);
         let numbers = layout.numbers().unwrap();
         if numbers.layers > 16 {
             continue;
@@ -50,7 +55,7 @@ fn parts_during_a_repair_in_pieces() {
             let mut piece = RepairMany::whole(layout, &whole, &[lost_tray], helpers, &mut dice);
             let mut store = whole.clone();
             store[lost * numbers.layers..][..numbers.layers]
-                .copy_from_slice(&dice.bytes(numbers.layers));
+                .copy_from_slice(&dice.symbols::<F>(numbers.layers));
             while piece.first < numbers.groups as u64 {
                 let case = ReadPart {
                     layout,
@@ -90,9 +95,9 @@ fn parts_during_a_repair_in_pieces() {
 
 /// The layers that are ready begin with layer 0 and have no gap for the last
 /// rack only.
-#[test]
-fn ready_layers_need_not_be_the_first() {
-    let layout = Layout::from([4, 3, 8, 3]);
+fn ready_layers_need_not_be_the_first<F: Tried>() {
+    let layout = Layout::<F>::from(F::ONE_LOST);
+    let size = layout.size;
     let mut dice = Dice::new(43);
     let ready = |lost: u32, groups: u64, dice: &mut Dice| -> Vec<usize> {
         let case = ReadPart::during_repair(layout, Tray(lost), groups, dice);
@@ -100,15 +105,14 @@ fn ready_layers_need_not_be_the_first() {
         (0..16).filter(is_ready).collect()
     };
     assert_eq!(ready(0, 2, &mut dice), [0, 1, 2, 3]);
-    assert_eq!(ready(3, 3, &mut dice), [0, 1, 2, 3, 4, 6]);
-    assert_eq!(ready(8, 3, &mut dice), [0, 1, 2, 4, 5, 6]);
-    assert_eq!(ready(11, 3, &mut dice), [0, 1, 2, 8, 9, 10]);
-    assert_eq!(ready(11, 0, &mut dice), [0; 0]);
+    assert_eq!(ready(size, 3, &mut dice), [0, 1, 2, 3, 4, 6]);
+    assert_eq!(ready(3 * size - 1, 3, &mut dice), [0, 1, 2, 4, 5, 6]);
+    assert_eq!(ready(4 * size - 1, 3, &mut dice), [0, 1, 2, 8, 9, 10]);
+    assert_eq!(ready(4 * size - 1, 0, &mut dice), [0; 0]);
 }
 
-#[test]
-fn empty_runs() {
-    let layout = Layout::from([3, 1, 1, 2]);
+fn empty_runs<F: Tried>() {
+    let layout = Layout::<F>::from([3, 1, 1, 2]);
     let case = ReadPart::during_repair(layout, Tray(2), 0, &mut Dice::new(44));
     for first in 0..=8 {
         let of_lost = case.asking(2, first, first).run();
@@ -117,7 +121,7 @@ fn empty_runs() {
             Ok(Part {
                 source: Source::Spare,
                 offset: first,
-                bytes: vec![]
+                symbols: vec![]
             })
         );
         let of_other = case.asking(1, first, first).run();
@@ -126,7 +130,7 @@ fn empty_runs() {
             Ok(Part {
                 source: Source::Store,
                 offset: 8 + first,
-                bytes: vec![]
+                symbols: vec![]
             })
         );
     }

@@ -2,30 +2,39 @@
 
 mod common;
 
-use common::{codeword, seen_by_one, Dice, SHAPES};
+use common::{add_to_layer, codeword, over_both_fields, seen_by_one, symbol, Dice, Tried};
 use reference::checks::Checks;
 use reference::*;
 
+over_both_fields! {
+    walks_find_what_the_test_finds,
+    a_walk_of_the_large_cabinet,
+    a_damage_that_one_check_sees,
+    bad_layers_are_those_with_a_broken_check,
+    the_record_is_believed,
+    other_layers_do_not_matter,
+}
+
 /// A codeword with so many symbols damaged.
-fn damaged(layout: Layout, count: usize, dice: &mut Dice) -> Vec<u8> {
+fn damaged<F: Tried>(layout: Layout<F>, count: usize, dice: &mut Dice) -> Vec<F::Symbol> {
     let mut symbols = codeword(layout, u64::from(dice.byte()));
     for _ in 0..count {
         let at = dice.below(symbols.len());
-        symbols[at] ^= dice.byte() | 1;
+        symbols[at] = F::add(symbols[at], dice.nonzero::<F>());
     }
     symbols
 }
 
 /// The bad layers below a layer, each found by testing the whole with all
 /// other layers taken as zero, which is sound.
-fn bad_below(layout: Layout, symbols: &[u8], below: usize) -> Vec<u32> {
+fn bad_below<F: Field>(layout: Layout<F>, symbols: &[F::Symbol], below: usize) -> Vec<u32> {
     let numbers = layout.numbers().unwrap();
-    let alone = |layer: usize| -> Vec<u8> {
-        let keep = |(at, &symbol): (usize, &u8)| {
+    let alone = |layer: usize| -> Vec<F::Symbol> {
+        let keep = |(at, &symbol): (usize, &F::Symbol)| {
             if at % numbers.layers == layer {
                 symbol
             } else {
-                0
+                F::ZERO
             }
         };
         symbols.iter().enumerate().map(keep).collect()
@@ -37,7 +46,7 @@ fn bad_below(layout: Layout, symbols: &[u8], below: usize) -> Vec<u32> {
 }
 
 /// A walk in random steps, tried after each of them.
-fn walk(layout: Layout, symbols: &[u8], dice: &mut Dice) {
+fn walk<F: Field>(layout: Layout<F>, symbols: &[F::Symbol], dice: &mut Dice) {
     let numbers = layout.numbers().unwrap();
     let all = bad_below(layout, symbols, numbers.layers);
     let mut record = scrub_reset(layout).unwrap();
@@ -71,26 +80,24 @@ fn walk(layout: Layout, symbols: &[u8], dice: &mut Dice) {
     assert_eq!(again, Ok((report, record)));
 }
 
-#[test]
-fn walks_find_what_the_test_finds() {
+fn walks_find_what_the_test_finds<F: Tried>() {
     let mut dice = Dice::new(31);
-    for shape in SHAPES {
-        let layout = Layout::from(shape);
+    for shape in F::SHAPES {
+        let layout = Layout::<F>::from(shape);
         for count in [0, 1, 2, 5, 20] {
             let symbols = damaged(layout, count, &mut dice);
             walk(layout, &symbols, &mut dice);
         }
     }
-    let single = Layout::from([2, 17, 17, 1]);
+    let single = Layout::<F>::from(F::LARGE_RACKS[0]);
     walk(single, &damaged(single, 0, &mut dice), &mut dice);
     walk(single, &damaged(single, 1, &mut dice), &mut dice);
 }
 
-/// In (10, 3, 24, 9) too, where the whole takes longer.
-#[test]
-fn a_walk_of_the_large_cabinet() {
+/// In a cabinet of 1,024 layers too, where the whole takes longer.
+fn a_walk_of_the_large_cabinet<F: Tried>() {
     let mut dice = Dice::new(32);
-    let layout = Layout::from([10, 3, 24, 9]);
+    let layout = Layout::<F>::from(F::LARGE_CABINET);
     let symbols = damaged(layout, 3, &mut dice);
     let record = scrub_reset(layout).unwrap();
     let (report, at_once) = scrub(layout, &symbols, record, u64::MAX).unwrap();
@@ -106,44 +113,41 @@ fn a_walk_of_the_large_cabinet() {
 }
 
 /// Each layer is looked at by all r checks.
-#[test]
-fn a_damage_that_one_check_sees() {
-    for shape in SHAPES {
-        let layout = Layout::from(shape);
+fn a_damage_that_one_check_sees<F: Tried>() {
+    for shape in F::SHAPES {
+        let layout = Layout::<F>::from(shape);
         let numbers = layout.numbers().unwrap();
-        let checks = Checks::new(numbers);
+        let checks = Checks::<F>::new(numbers);
         let whole = codeword(layout, 36);
         for seen in 0..numbers.checks {
             let layer = seen % numbers.layers;
             let mut symbols = whole.clone();
             let damage = seen_by_one(&checks, numbers.checks, layer, seen);
-            for (tray, symbol) in damage.iter().enumerate() {
-                symbols[tray * numbers.layers + layer] ^= symbol;
-            }
-            assert_eq!(bad_layers(numbers, &symbols, 0..numbers.layers), [layer]);
+            add_to_layer::<F>(&numbers, &mut symbols, layer, &damage);
+            let found = bad_layers::<F>(numbers, &symbols, 0..numbers.layers);
+            assert_eq!(found, [layer]);
         }
     }
 }
 
-#[test]
-fn bad_layers_are_those_with_a_broken_check() {
-    let layout = Layout::from([4, 3, 5, 2]);
+fn bad_layers_are_those_with_a_broken_check<F: Tried>() {
+    let layout = Layout::<F>::from(F::SHAPES[4]);
     let numbers = layout.numbers().unwrap();
     let mut symbols = codeword(layout, 33);
     for layer in [3, 4, 15] {
-        symbols[layer % 12 * 16 + layer] ^= 0x80;
+        let at = layer % 12 * 16 + layer;
+        symbols[at] = F::add(symbols[at], symbol::<F>(0x80));
     }
-    assert_eq!(bad_layers(numbers, &symbols, 0..16), [3, 4, 15]);
-    assert_eq!(bad_layers(numbers, &symbols, 4..15), [4]);
-    assert_eq!(bad_layers(numbers, &symbols, 5..5), [0; 0]);
+    assert_eq!(bad_layers::<F>(numbers, &symbols, 0..16), [3, 4, 15]);
+    assert_eq!(bad_layers::<F>(numbers, &symbols, 4..15), [4]);
+    assert_eq!(bad_layers::<F>(numbers, &symbols, 5..5), [0; 0]);
 }
 
 /// The report is about the record: one that says sound at L is sound, and one
 /// that counts more bad layers than can be is none of W6's refusals.
-#[test]
-fn the_record_is_believed() {
-    let layout = Layout::from([3, 1, 1, 2]);
-    let bad = [0, 1, 2, 3, 4, 5, 6, 7].repeat(3);
+fn the_record_is_believed<F: Tried>() {
+    let layout = Layout::<F>::from([3, 1, 1, 2]);
+    let bad = [1, 2, 3, 4, 5, 6, 7, 8].map(symbol::<F>).repeat(3);
     let over = ScrubRecord {
         next: 8,
         bad: 0,
@@ -163,9 +167,8 @@ fn the_record_is_believed() {
 }
 
 /// Only the layers of a step are looked at.
-#[test]
-fn other_layers_do_not_matter() {
-    let layout = Layout::from([4, 3, 8, 3]);
+fn other_layers_do_not_matter<F: Tried>() {
+    let layout = Layout::<F>::from(F::ONE_LOST);
     let mut dice = Dice::new(34);
     let symbols = codeword(layout, 35);
     let record = ScrubRecord {
@@ -173,8 +176,8 @@ fn other_layers_do_not_matter() {
         bad: 0,
         first: 16,
     };
-    let mut elsewhere = dice.bytes(symbols.len());
-    for tray in 0..12 {
+    let mut elsewhere = dice.symbols::<F>(symbols.len());
+    for tray in 0..4 * layout.size as usize {
         for layer in 5..9 {
             elsewhere[tray * 16 + layer] = symbols[tray * 16 + layer];
         }

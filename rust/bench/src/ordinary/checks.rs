@@ -1,15 +1,23 @@
 //! Checks over columns: those of all layers at once, or those of all groups.
 
-use super::multiply::Multiply;
-use super::system::inverse;
+use super::field::Multiply;
+use super::system::minus_inverse;
 use std::ops::Range;
 
 /// What stands in every column: a tray in the layers, or a rack in the groups.
-pub struct Item {
+pub struct Item<S> {
     /// Which row of digits its point goes by.
     row: usize,
+    base: usize,
     /// The powers of its point, by check and then by digit.
-    powers: Vec<u8>,
+    powers: Vec<S>,
+}
+
+impl<S> Item<S> {
+    /// The t-th powers of its point, by its digit.
+    pub fn powers(&self, t: usize) -> &[S] {
+        &self.powers[t * self.base..][..self.base]
+    }
 }
 
 /// In each column check t says that the items' symbols, each times the t-th power of the item's
@@ -43,30 +51,28 @@ impl<'a, M: Multiply> Checks<'a, M> {
     }
 
     /// The item whose point goes by a row of digits: the root to this power of the digit.
-    pub fn item(&self, row: usize, exponent: impl Fn(usize) -> usize) -> Item {
+    pub fn item(&self, row: usize, exponent: impl Fn(usize) -> usize) -> Item<M::Symbol> {
         let powers = (0..self.count)
             .flat_map(|t| (0..self.base).map(move |digit| (t, digit)))
             .map(|(t, digit)| self.multiply.root_power(exponent(digit) * t));
         Item {
             row,
+            base: self.base,
             powers: powers.collect(),
         }
     }
 
-    /// The t-th powers of an item's point, by its digit.
-    fn powers<'b>(&self, item: &'b Item, t: usize) -> &'b [u8] {
-        &item.powers[t * self.base..][..self.base]
-    }
-
     /// Adds an item's part to the sums of some checks.
-    pub fn add(&self, item: &Item, symbols: &[u8], checks: Range<usize>, sums: &mut [u8]) {
+    pub fn add(
+        &self,
+        item: &Item<M::Symbol>,
+        symbols: &[M::Symbol],
+        checks: Range<usize>,
+        sums: &mut [M::Symbol],
+    ) {
         let digits = &self.rows[item.row];
-        for (t, sums) in checks.zip(sums.chunks_mut(self.columns)) {
-            let powers = self.powers(item, t);
-            for ((sum, &symbol), &digit) in sums.iter_mut().zip(symbols).zip(digits) {
-                *sum ^= self.multiply.product(powers[digit as usize], symbol);
-            }
-        }
+        self.multiply
+            .add_item(item, (digits, symbols), checks, sums);
     }
 
     /// For each column the number of the pattern that some rows of digits have there.
@@ -80,35 +86,41 @@ impl<'a, M: Multiply> Checks<'a, M> {
         patterns
     }
 
-    /// The inverse of the system of some items in a column.
-    fn inverse(&self, items: &[&Item], column: usize) -> Vec<u8> {
-        inverse(self.multiply, items.len(), |t, c| {
+    /// Less the inverse of the system of some items in a column.
+    fn minus_inverse(&self, items: &[&Item<M::Symbol>], column: usize) -> Vec<M::Symbol> {
+        minus_inverse(self.multiply, items.len(), |t, c| {
             let digit = self.rows[items[c].row][column];
-            self.powers(items[c], t)[digit as usize]
+            items[c].powers(t)[digit as usize]
         })
     }
 
-    /// The symbols of the first `wanted` of the unknown items, one item after another, by the first
-    /// checks. A system is inverted once for each pattern of the digits it hangs on.
-    pub fn solve(&self, unknown: &[&Item], wanted: usize, sums: &[u8]) -> Vec<u8> {
+    /// The symbols of the first `wanted` of the unknown items, one item after another, from the
+    /// others' sums in the first checks. A system is inverted once for each pattern of the digits
+    /// it hangs on.
+    pub fn solve(
+        &self,
+        unknown: &[&Item<M::Symbol>],
+        wanted: usize,
+        sums: &[M::Symbol],
+    ) -> Vec<M::Symbol> {
         let mut rows: Vec<usize> = unknown.iter().map(|item| item.row).collect();
         rows.dedup();
         let patterns = self.patterns(&rows);
         let mut inverses = vec![Vec::new(); self.base.pow(rows.len() as u32)];
         for (column, &pattern) in patterns.iter().enumerate() {
             if inverses[pattern].is_empty() {
-                inverses[pattern] = self.inverse(unknown, column);
+                inverses[pattern] = self.minus_inverse(unknown, column);
             }
         }
-        let mut found = vec![0; wanted * self.columns];
+        let mut found = vec![M::Sum::default(); wanted * self.columns];
         for (c, symbols) in found.chunks_mut(self.columns).enumerate() {
             for (t, sums) in sums.chunks(self.columns).take(unknown.len()).enumerate() {
                 let entry = c * unknown.len() + t;
                 for ((symbol, &sum), &pattern) in symbols.iter_mut().zip(sums).zip(&patterns) {
-                    *symbol ^= self.multiply.product(inverses[pattern][entry], sum);
+                    self.multiply.add(symbol, inverses[pattern][entry], sum);
                 }
             }
         }
-        found
+        M::symbols(found)
     }
 }

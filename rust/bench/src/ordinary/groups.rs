@@ -1,7 +1,7 @@
 //! Shares, and the repair of a tray from them.
 
 use super::checks::{Checks, Item};
-use super::multiply::Multiply;
+use super::field::{Field, Multiply};
 use super::numbers::Numbers;
 use gesarumbo::Layout;
 
@@ -27,33 +27,31 @@ fn runs(numbers: &Numbers, host: usize) -> impl Iterator<Item = Run> {
     firsts.flat_map(move |group| (0..base).map(move |digit| run(group, digit)))
 }
 
-fn add(symbols: &[u8], to: &mut [u8]) {
-    for (sum, symbol) in to.iter_mut().zip(symbols) {
-        *sum ^= symbol;
-    }
-}
-
 /// Works out the share of a helper rack. It multiplies nothing.
-pub fn share(layout: Layout, host: usize, rack: &[u8], share: &mut [u8]) {
+pub fn share<S: Field>(layout: Layout, host: usize, rack: &[S], share: &mut [S]) {
     let numbers = Numbers::of(layout);
-    share.fill(0);
+    share.fill(S::default());
     for tray in rack.chunks(numbers.layers) {
         for run in runs(&numbers, host) {
             let symbols = &tray[run.layer..][..run.length];
-            add(symbols, &mut share[run.group..][..run.length]);
+            let sums = &mut share[run.group..][..run.length];
+            for (sum, &symbol) in sums.iter_mut().zip(symbols) {
+                *sum = sum.plus(symbol);
+            }
         }
     }
+    S::reduce(share);
 }
 
 /// Repairs a whole tray.
-pub fn repair(
-    multiply: &impl Multiply,
+pub fn repair<M: Multiply>(
+    multiply: &M,
     layout: Layout,
     lost: usize,
     helpers: &[usize],
-    shares: &[u8],
-    host_rack: &[u8],
-    spare: &mut [u8],
+    shares: &[M::Symbol],
+    host_rack: &[M::Symbol],
+    spare: &mut [M::Symbol],
 ) {
     let numbers = Numbers::of(layout);
     let host = lost / numbers.size;
@@ -65,19 +63,22 @@ pub fn repair(
     }
     for (place, tray) in host_rack.chunks(numbers.layers).enumerate() {
         if place != lost % numbers.size {
-            add(tray, spare);
+            for (rest, &symbol) in spare.iter_mut().zip(tray) {
+                *rest = rest.minus(symbol);
+            }
         }
     }
+    M::Symbol::reduce(spare);
 }
 
 /// The host rack's sums in every group, digit after digit.
-fn host_sums(
-    multiply: &impl Multiply,
+fn host_sums<M: Multiply>(
+    multiply: &M,
     numbers: &Numbers,
     host: usize,
     helpers: &[usize],
-    shares: &[u8],
-) -> Vec<u8> {
+    shares: &[M::Symbol],
+) -> Vec<M::Symbol> {
     let Numbers {
         racks,
         size,
@@ -92,12 +93,13 @@ fn host_sums(
         let row = if i < host { i } else { i - 1 };
         checks.item(row, |digit| (i * base + digit) * size)
     };
-    let mut sums = vec![0; group_checks * groups];
+    let mut sums = vec![M::Symbol::default(); group_checks * groups];
     for (&helper, share) in helpers.iter().zip(shares.chunks(groups)) {
         checks.add(&rack(helper), share, 0..group_checks, &mut sums);
     }
     let own = (0..base).map(|digit| checks.item(0, move |_| (host * base + digit) * size));
     let silent = (0..racks).filter(|i| *i != host && !helpers.contains(i));
-    let unknown: Vec<Item> = own.chain(silent.map(rack)).collect();
+    let unknown: Vec<Item<_>> = own.chain(silent.map(rack)).collect();
+    M::Symbol::reduce(&mut sums);
     checks.solve(&Vec::from_iter(&unknown), base, &sums)
 }

@@ -1,15 +1,15 @@
 //! Testing, storing and recovering, a tray at a time.
 
 use super::checks::{Checks, Item};
-use super::multiply::Multiply;
+use super::field::{Field, Multiply};
 use super::numbers::Numbers;
 use gesarumbo::{Layer, Layout, Tested};
 
 /// The checks of a layout's layers, and its trays.
-struct Layers<'a, M> {
+struct Layers<'a, M: Multiply> {
     numbers: Numbers,
     checks: Checks<'a, M>,
-    trays: Vec<Item>,
+    trays: Vec<Item<M::Symbol>>,
 }
 
 impl<'a, M: Multiply> Layers<'a, M> {
@@ -19,7 +19,8 @@ impl<'a, M: Multiply> Layers<'a, M> {
         let checks = Checks::new(multiply, base, numbers.checks, numbers.racks);
         let tray = |x| {
             let (rack, place) = (x / size, x % size);
-            checks.item(rack, |digit| rack * base + digit + place * (255 / size))
+            let turn = M::Symbol::ORDER / size;
+            checks.item(rack, |digit| rack * base + digit + place * turn)
         };
         Layers {
             trays: (0..numbers.trays).map(tray).collect(),
@@ -29,29 +30,31 @@ impl<'a, M: Multiply> Layers<'a, M> {
     }
 
     /// The sums of all checks over some trays of a codeword.
-    fn sums(&self, trays: impl Iterator<Item = usize>, codeword: &[u8]) -> Vec<u8> {
+    fn sums(&self, trays: impl Iterator<Item = usize>, codeword: &[M::Symbol]) -> Vec<M::Symbol> {
         let Numbers { checks, layers, .. } = self.numbers;
-        let mut sums = vec![0; checks * layers];
+        let mut sums = vec![M::Symbol::default(); checks * layers];
         for x in trays {
             let symbols = &codeword[x * layers..][..layers];
             self.checks
                 .add(&self.trays[x], symbols, 0..checks, &mut sums);
         }
+        M::Symbol::reduce(&mut sums);
         sums
     }
 
     /// Fills the erased trays; false, and nothing written, if no codeword has the survivors.
-    fn fill(&self, codeword: &mut [u8], erased: &[usize]) -> bool {
+    fn fill(&self, codeword: &mut [M::Symbol], erased: &[usize]) -> bool {
         let Numbers { checks, layers, .. } = self.numbers;
         let known = (0..self.trays.len()).filter(|x| !erased.contains(x));
         let mut sums = self.sums(known, codeword);
-        let unknown: Vec<&Item> = erased.iter().map(|&x| &self.trays[x]).collect();
+        let unknown: Vec<_> = erased.iter().map(|&x| &self.trays[x]).collect();
         let found = self.checks.solve(&unknown, unknown.len(), &sums);
         let left = &mut sums[erased.len() * layers..];
         for (item, symbols) in unknown.iter().zip(found.chunks(layers)) {
             self.checks.add(item, symbols, erased.len()..checks, left);
         }
-        if left.iter().any(|&sum| sum != 0) {
+        M::Symbol::reduce(left);
+        if left.iter().any(|&sum| sum != M::Symbol::default()) {
             return false;
         }
         for (&x, symbols) in erased.iter().zip(found.chunks(layers)) {
@@ -61,12 +64,12 @@ impl<'a, M: Multiply> Layers<'a, M> {
     }
 }
 
-pub fn test(multiply: &impl Multiply, layout: Layout, codeword: &[u8]) -> Tested {
+pub fn test<M: Multiply>(multiply: &M, layout: Layout, codeword: &[M::Symbol]) -> Tested {
     let call = Layers::new(multiply, layout);
     let Numbers { checks, layers, .. } = call.numbers;
     let sums = call.sums(0..call.trays.len(), codeword);
     for layer in 0..layers {
-        if let Some(t) = (0..checks).find(|t| sums[t * layers + layer] != 0) {
+        if let Some(t) = (0..checks).find(|t| sums[t * layers + layer] != M::Symbol::default()) {
             return Tested::Bad {
                 layer: Layer::new(layer as u32),
                 check: t as u32,
@@ -76,25 +79,30 @@ pub fn test(multiply: &impl Multiply, layout: Layout, codeword: &[u8]) -> Tested
     Tested::Sound
 }
 
-pub fn walk(multiply: &impl Multiply, layout: Layout, codeword: &[u8]) -> u32 {
+pub fn walk<M: Multiply>(multiply: &M, layout: Layout, codeword: &[M::Symbol]) -> u32 {
     let call = Layers::new(multiply, layout);
     let Numbers { checks, layers, .. } = call.numbers;
     let sums = call.sums(0..call.trays.len(), codeword);
-    let bad = |layer: &usize| (0..checks).any(|t| sums[t * layers + layer] != 0);
+    let bad = |layer: &usize| (0..checks).any(|t| sums[t * layers + layer] != M::Symbol::default());
     (0..layers).filter(bad).count() as u32
 }
 
-pub fn store(multiply: &impl Multiply, layout: Layout, data: &[u8], codeword: &mut [u8]) {
+pub fn store<M: Multiply>(
+    multiply: &M,
+    layout: Layout,
+    data: &[M::Symbol],
+    codeword: &mut [M::Symbol],
+) {
     let call = Layers::new(multiply, layout);
     let parity = Vec::from_iter(layout.dimension as usize..call.trays.len());
     codeword[..data.len()].copy_from_slice(data);
     call.fill(codeword, &parity);
 }
 
-pub fn recover(
-    multiply: &impl Multiply,
+pub fn recover<M: Multiply>(
+    multiply: &M,
     layout: Layout,
-    codeword: &mut [u8],
+    codeword: &mut [M::Symbol],
     erased: &[usize],
 ) -> bool {
     Layers::new(multiply, layout).fill(codeword, erased)

@@ -2,18 +2,21 @@
 //! only inputs that are right.
 //!
 //! Powers of points are worked out once for a call and inverses once for each pattern of digits;
-//! what is left to do for a symbol is one product by a table for each check.
+//! what is left to do for a symbol is one product for each check: by a table in the field of 256,
+//! of plain numbers in that of 257.
 
+pub mod bytes;
 mod checks;
+mod field;
 mod groups;
 mod layers;
-pub mod multiply;
-mod numbers;
+pub mod numbers;
+pub mod prime;
 mod system;
 
 use crate::version::Version;
+use field::Multiply;
 use gesarumbo::{Layout, Rack, Tested, Tray};
-use multiply::Multiply;
 
 /// Ordinary Rust over one way to multiply.
 pub struct Ordinary<M> {
@@ -21,29 +24,36 @@ pub struct Ordinary<M> {
     pub multiply: M,
 }
 
-impl<M: Multiply> Version for Ordinary<M> {
+impl<M: Multiply> Version<M::Symbol> for Ordinary<M> {
     fn name(&self) -> &'static str {
         self.name
     }
 
-    fn store(&self, layout: Layout, data: &[u8], codeword: &mut [u8]) {
+    fn store(&self, layout: Layout, data: &[M::Symbol], codeword: &mut [M::Symbol]) {
         layers::store(&self.multiply, layout, data, codeword);
     }
 
-    fn test(&self, layout: Layout, codeword: &[u8]) -> Tested {
+    fn test(&self, layout: Layout, codeword: &[M::Symbol]) -> Tested {
         layers::test(&self.multiply, layout, codeword)
     }
 
-    fn walk(&self, layout: Layout, codeword: &[u8]) -> u32 {
+    fn walk(&self, layout: Layout, codeword: &[M::Symbol]) -> u32 {
         layers::walk(&self.multiply, layout, codeword)
     }
 
-    fn recover(&self, layout: Layout, codeword: &mut [u8], erased: &[Tray]) -> bool {
+    fn recover(&self, layout: Layout, codeword: &mut [M::Symbol], erased: &[Tray]) -> bool {
         let erased: Vec<usize> = erased.iter().map(|tray| tray.number() as usize).collect();
         layers::recover(&self.multiply, layout, codeword, &erased)
     }
 
-    fn share(&self, layout: Layout, host: Rack, _helper: Rack, rack: &[u8], share: &mut [u8]) {
+    fn share(
+        &self,
+        layout: Layout,
+        host: Rack,
+        _helper: Rack,
+        rack: &[M::Symbol],
+        share: &mut [M::Symbol],
+    ) {
         groups::share(layout, host.number() as usize, rack, share);
     }
 
@@ -52,9 +62,9 @@ impl<M: Multiply> Version for Ordinary<M> {
         layout: Layout,
         lost: Tray,
         helpers: &[Rack],
-        shares: &[u8],
-        host: &[u8],
-        spare: &mut [u8],
+        shares: &[M::Symbol],
+        host: &[M::Symbol],
+        spare: &mut [M::Symbol],
     ) {
         let lost = lost.number() as usize;
         let helpers: Vec<usize> = helpers.iter().map(|rack| rack.number() as usize).collect();

@@ -1,8 +1,9 @@
-//! `cabinet demo`: a cabinet's life in six steps.
+//! `cabinet demo`: a cabinet's life in six steps, and in a seventh one with racks of four.
 
-use super::{store, Command};
+use super::{racks_of_four, store, Command};
 use crate::arguments::{Arguments, Setting};
 use crate::failure::Failure;
+use crate::field::Field;
 use crate::files;
 use crate::folder::{self, Folder, Found};
 use crate::map;
@@ -36,12 +37,14 @@ cabinet demo [--keep DIR]
 
 Shows a small cabinet at work, on real tray images in a temporary folder: stores
 eight records, loses a tray, meets a factory-reset one and refuses it, repairs
-the lost tray in pieces, compares, and shows the traffic saved.
+the lost tray in pieces, compares, and shows the traffic saved. Then it repairs
+a tray of a cabinet with racks of four, in the field of 257 and in memory.
 ";
 
 const PLATE: Plate = Plate {
     layout: Layout::new(4, 3, 8, 3),
     volume: 7,
+    field: Field::Of256,
 };
 const LOST: Tray = Tray::new(4);
 const HELPERS: [Rack; 3] = [Rack::new(0), Rack::new(2), Rack::new(3)];
@@ -50,7 +53,7 @@ const HELPERS: [Rack; 3] = [Rack::new(0), Rack::new(2), Rack::new(3)];
 const BROKEN_OFF: u64 = 3;
 
 /// One record a tray, as long as a tray of this layout.
-const RECORDS: [&[u8]; 8] = [
+pub const RECORDS: [&[u8]; 8] = [
     b"Mo 06:00 Cl 0.6\n",
     b"Mo 18:00 Cl 0.7\n",
     b"Tu 06:00 Cl 0.5\n",
@@ -76,9 +79,9 @@ fn run(arguments: &Arguments, screen: &mut Screen) -> Result<(), Failure> {
     told.and(cleared)
 }
 
-/// The six steps.
+/// The seven steps.
 fn tell(path: &Path, screen: &mut Screen) -> Result<(), Failure> {
-    let numbers = Numbers::of(PLATE.layout)?;
+    let numbers = Numbers::of(PLATE.layout, PLATE.field)?;
     introduce(&numbers, screen);
     let stored = store_records(path, screen)?;
     lose_a_tray(path, screen)?;
@@ -88,7 +91,8 @@ fn tell(path: &Path, screen: &mut Screen) -> Result<(), Failure> {
     screen.gap();
     screen.heading("6. Traffic of the repair");
     traffic::print(&numbers, screen);
-    Ok(())
+    screen.gap();
+    racks_of_four::tell(screen)
 }
 
 fn introduce(numbers: &Numbers, screen: &mut Screen) {
@@ -103,14 +107,14 @@ fn introduce(numbers: &Numbers, screen: &mut Screen) {
     screen.gap();
 }
 
-fn store_records(path: &Path, screen: &mut Screen) -> Result<Folder, Failure> {
+fn store_records(path: &Path, screen: &mut Screen) -> Result<Folder<u8>, Failure> {
     screen.heading("1. Store eight records, one to a tray");
     for (tray, record) in RECORDS.iter().enumerate() {
         print_record(tray, record, screen);
     }
-    let pages = store::pages(path, PLATE, &RECORDS.concat(), "records")?;
+    let pages = store::pages::<u8>(path, PLATE, &RECORDS.concat(), "records")?;
     store::write(path, &pages, false)?;
-    let folder = Folder::read(path, PLATE)?;
+    let folder = Folder::<u8>::read(path, PLATE)?;
     screen.line(format!(
         "  {}: {} tray images are written",
         PLATE.words(),
@@ -130,7 +134,7 @@ fn print_record(tray: usize, record: &[u8], screen: &mut Screen) {
 fn lose_a_tray(path: &Path, screen: &mut Screen) -> Result<(), Failure> {
     screen.heading(format!("2. Lose tray {LOST}"));
     files::remove(&folder::image_path(path, LOST))?;
-    let folder = Folder::read(path, PLATE)?;
+    let folder = Folder::<u8>::read(path, PLATE)?;
     map::print(&folder, screen);
     let margin = gesarumbo::margin(PLATE.layout, &folder.states());
     let margin = margin.map_err(Failure::refused("margin"))?;
@@ -149,7 +153,7 @@ fn meet_a_reset_tray(path: &Path, screen: &mut Screen) -> Result<(), Failure> {
         "  A new tray stands in for tray {LOST}. It comes up with demonstration contents:"
     ));
     print_record(LOST.number() as usize, RESET, screen);
-    let folder = Folder::read(path, PLATE)?;
+    let folder = Folder::<u8>::read(path, PLATE)?;
     let Some(why) = folder.found(LOST).why_not() else {
         return Err(Failure::Internal(
             "a demonstration tray was handed out".to_string(),
@@ -165,8 +169,8 @@ fn meet_a_reset_tray(path: &Path, screen: &mut Screen) -> Result<(), Failure> {
 
 fn repair_in_pieces(path: &Path, screen: &mut Screen) -> Result<(), Failure> {
     screen.heading(format!("4. Repair tray {LOST} in pieces"));
-    let folder = Folder::read(path, PLATE)?;
-    judge(&folder.numbers, &[LOST], &HELPERS, 0)?;
+    let folder = Folder::<u8>::read(path, PLATE)?;
+    judge::<u8>(&folder.numbers, &[LOST], &HELPERS, 0)?;
     let shares = mending::shares(&folder, &[LOST], &HELPERS)?;
     screen.line(format!(
         "  Racks 0, 2 and 3 send {} symbols each to rack {}.",
@@ -191,9 +195,9 @@ fn repair_in_pieces(path: &Path, screen: &mut Screen) -> Result<(), Failure> {
     Ok(())
 }
 
-fn compare(path: &Path, stored: &Folder, screen: &mut Screen) -> Result<(), Failure> {
+fn compare(path: &Path, stored: &Folder<u8>, screen: &mut Screen) -> Result<(), Failure> {
     screen.heading("5. Compare with what was stored");
-    let folder = Folder::read(path, PLATE)?;
+    let folder = Folder::<u8>::read(path, PLATE)?;
     if let Found::Live(symbols) = folder.found(LOST) {
         print_record(LOST.number() as usize, symbols, screen);
     }

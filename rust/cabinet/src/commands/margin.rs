@@ -3,17 +3,19 @@
 use super::Command;
 use crate::arguments::Arguments;
 use crate::failure::Failure;
-use crate::folder::Folder;
+use crate::field::in_field;
+use crate::folder::{Folder, Place};
 use crate::map;
 use crate::plate;
 use crate::screen::{Paint, Screen};
+use crate::symbol::Symbol;
 use gesarumbo::{ABSENT, DEMONSTRATION, LIVE};
 
 pub const COMMAND: Command = Command {
     name: "margin",
     summary: "say how many more trays may be lost",
     help: HELP,
-    settings: &[plate::LAYOUT, plate::VOLUME],
+    settings: &plate::SETTINGS,
     run,
 };
 
@@ -27,9 +29,14 @@ A margin below zero is an answer too (0): the records cannot be recovered.
 
 fn run(arguments: &Arguments, screen: &mut Screen) -> Result<(), Failure> {
     let [folder] = arguments.words(["DIR"])?;
-    let folder = Folder::open(folder, arguments)?;
+    let place = Place::find(folder, arguments)?;
+    in_field!(place.plate.field, margin(&place, screen))
+}
+
+fn margin<S: Symbol>(place: &Place, screen: &mut Screen) -> Result<(), Failure> {
+    let folder = Folder::<S>::open(place)?;
     let states = folder.states();
-    let margin = gesarumbo::margin(folder.plate.layout, &states);
+    let margin = (S::CALLS.margin)(folder.plate.layout, &states);
     let margin = i64::from(margin.map_err(Failure::refused("margin"))?);
     folder.introduce(screen);
     map::print(&folder, screen);

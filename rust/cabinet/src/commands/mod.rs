@@ -10,6 +10,7 @@ mod demo;
 mod inspect;
 mod margin;
 mod plan;
+mod racks_of_four;
 mod read;
 mod recover;
 mod repair;

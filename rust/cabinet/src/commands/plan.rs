@@ -4,6 +4,7 @@ use super::Command;
 use crate::arguments::{self, Arguments, Setting};
 use crate::conditions::{conditions, Verdict};
 use crate::failure::Failure;
+use crate::field::{Field, FIELD};
 use crate::files;
 use crate::numbers::Numbers;
 use crate::picture;
@@ -19,12 +20,12 @@ pub const COMMAND: Command = Command {
     name: "plan",
     summary: "show a layout's numbers, what it survives and what a repair costs",
     help: HELP,
-    settings: &[SVG],
+    settings: &[FIELD, SVG],
     run,
 };
 
 const HELP: &str = "\
-cabinet plan B u k d [--svg FILE]
+cabinet plan B u k d [--field N] [--svg FILE]
 
 Shows the numbers of the layout of B racks of u trays, with k trays' worth of
 data and d helper racks in a repair; which losses it survives; and how many
@@ -35,7 +36,9 @@ For a layout that is not admissible (1) it says which conditions fail.
 fn run(arguments: &Arguments, screen: &mut Screen) -> Result<(), Failure> {
     let [b, u, k, d] = arguments.words(["B", "u", "k", "d"])?;
     let layout = arguments::layout([b, u, k, d])?;
-    let numbers = Numbers::of(layout).inspect_err(|_| print_conditions(layout, screen))?;
+    let field = Field::asked(arguments)?.unwrap_or_default();
+    let numbers = Numbers::of(layout, field);
+    let numbers = numbers.inspect_err(|_| print_conditions(layout, field, screen))?;
     print_numbers(&numbers, screen);
     print_survival(&numbers, screen);
     print_traffic(&numbers, screen);
@@ -49,9 +52,9 @@ fn run(arguments: &Arguments, screen: &mut Screen) -> Result<(), Failure> {
 }
 
 /// Each condition, and whether this layout meets it.
-fn print_conditions(layout: Layout, screen: &mut Screen) {
-    screen.heading(format!("Layout {layout} is not admissible"));
-    for condition in conditions(layout) {
+fn print_conditions(layout: Layout, field: Field, screen: &mut Screen) {
+    screen.heading(format!("Layout {} is not admissible", field.named(layout)));
+    for condition in conditions(layout, field) {
         let verdict = match condition.verdict {
             Verdict::Holds => screen.paint(Paint::Good, "holds"),
             Verdict::Fails => screen.paint(Paint::Bad, "fails"),
@@ -91,21 +94,30 @@ fn print_numbers(numbers: &Numbers, screen: &mut Screen) {
             numbers.size - numbers.over,
         ),
     ];
-    screen.heading(format!("Layout {}", numbers.layout));
+    screen.heading(format!("Layout {}", numbers.name()));
     for (name, words, formula, value) in rows {
         screen.line(format!(
             "  {name:<2} {words:<36} {formula:<10} {:>7}",
             grouped(value)
         ));
     }
+    print_room(numbers, screen);
+    screen.gap();
+}
+
+/// How much data there is room for, and in how much.
+fn print_room(numbers: &Numbers, screen: &mut Screen) {
     let (data, codeword) = (numbers.data(), numbers.codeword());
+    let kind = match numbers.field {
+        Field::Of256 => "",
+        Field::Of257 => " symbols of two bytes",
+    };
     screen.line(format!(
-        "  {} bytes of data in {} ({:.1} %)",
+        "  {} bytes of data in {}{kind} ({:.1} %)",
         grouped(data),
         grouped(codeword),
         percent(data, codeword)
     ));
-    screen.gap();
 }
 
 fn print_survival(numbers: &Numbers, screen: &mut Screen) {

@@ -4,14 +4,16 @@ use super::Command;
 use crate::arguments::{needed, Arguments, Setting};
 use crate::dump;
 use crate::failure::Failure;
+use crate::field::in_field;
 use crate::files;
-use crate::folder::Folder;
+use crate::folder::{Folder, Place};
 use crate::mending::{self, SPARE};
 use crate::plate;
 use crate::progress;
 use crate::reading::{Origin, Reading, Source};
 use crate::runs;
 use crate::screen::{Paint, Screen};
+use crate::symbol::Symbol;
 use crate::words::{count, hanging};
 use gesarumbo::{Layer, Refusal, Tray};
 use std::ops::Range;
@@ -27,14 +29,24 @@ const LOST: Setting = Setting::with(
 const OUT: Setting = Setting::with(
     "--out",
     "FILE",
-    "write the symbols to FILE, one byte each, in place of printing them",
+    "write the symbols to FILE in place of printing them, one byte each; two, low byte first, in \
+     the field of 257",
 );
 
 pub const COMMAND: Command = Command {
     name: "read",
     summary: "read layers of a tray, also of one under repair",
     help: HELP,
-    settings: &[TRAY, LAYERS, LOST, SPARE, OUT, plate::LAYOUT, plate::VOLUME],
+    settings: &[
+        TRAY,
+        LAYERS,
+        LOST,
+        SPARE,
+        OUT,
+        plate::LAYOUT,
+        plate::VOLUME,
+        plate::FIELD,
+    ],
     run,
 };
 
@@ -42,7 +54,7 @@ const HELP: &str = "\
 cabinet read DIR --tray Y --layers A..B [--lost X [--spare FILE]] [--out FILE]
 
 Prints symbols of tray Y, and whether they lie in the store (all trays one after
-another) or in the spare, and at which byte. While tray X is under repair, its
+another) or in the spare, and at which place. While tray X is under repair, its
 own layers are read from the spare, each as soon as its group is done, and else
 refused (13). Any other tray is read from the store and must be live.
 
@@ -78,7 +90,17 @@ impl Asked {
 fn run(arguments: &Arguments, screen: &mut Screen) -> Result<(), Failure> {
     let [folder] = arguments.words(["DIR"])?;
     let asked = Asked::read(arguments)?;
-    let folder = Folder::open(folder, arguments)?;
+    let place = Place::find(folder, arguments)?;
+    in_field!(place.plate.field, read(&place, &asked, arguments, screen))
+}
+
+fn read<S: Symbol>(
+    place: &Place,
+    asked: &Asked,
+    arguments: &Arguments,
+    screen: &mut Screen,
+) -> Result<(), Failure> {
+    let folder = Folder::<S>::open(place)?;
     folder.introduce(screen);
     let reading = match asked.lost {
         None => Reading::of_store(&folder, asked.tray),
@@ -87,9 +109,9 @@ fn run(arguments: &Arguments, screen: &mut Screen) -> Result<(), Failure> {
     let (part, source) = reading
         .read(asked.tray, asked.layers.clone())
         .inspect_err(|failure| say_readable(failure, &reading, screen))?;
-    say_place(&asked, part, source, &folder, screen);
+    say_place(asked, part, source, &folder, screen);
     match arguments.value(OUT) {
-        Some(path) => files::write_one(Path::new(path), part.to_vec()),
+        Some(path) => files::write_one(Path::new(path), S::to_bytes(part)),
         None => {
             let lines = dump::lines(asked.layers.start.number(), part);
             lines.iter().for_each(|line| screen.line(line));
@@ -99,12 +121,12 @@ fn run(arguments: &Arguments, screen: &mut Screen) -> Result<(), Failure> {
 }
 
 /// Opens the spare of a lost tray, and says how far its repair is and what was not compared.
-fn under_repair<'a>(
-    folder: &'a Folder,
+fn under_repair<'a, S: Symbol>(
+    folder: &'a Folder<S>,
     lost: Tray,
     arguments: &Arguments,
     screen: &mut Screen,
-) -> Result<Reading<'a>, Failure> {
+) -> Result<Reading<'a, S>, Failure> {
     let path = mending::work_file(arguments, folder, &[lost]);
     let (reading, origin) = Reading::open(folder, lost, &path)?;
     let (done, groups) = (reading.spare.done, folder.numbers.groups());
@@ -125,28 +147,35 @@ fn under_repair<'a>(
 }
 
 /// Says what was read, where it lies, and whether it was tested.
-fn say_place(asked: &Asked, part: &[u8], source: Source, folder: &Folder, screen: &mut Screen) {
+fn say_place<S: Symbol>(
+    asked: &Asked,
+    part: &[S],
+    source: Source,
+    folder: &Folder<S>,
+    screen: &mut Screen,
+) {
+    let unit = S::FIELD.unit();
     let [first, end] = [asked.layers.start, asked.layers.end].map(Layer::number);
     let layers = progress::run("layer", first.into(), end.into());
-    let (tray, bytes) = (asked.tray, count(part.len(), "byte"));
-    let what = format!("  {layers} of tray {tray}: {bytes}");
+    let (tray, symbols) = (asked.tray, count(part.len(), unit));
+    let what = format!("  {layers} of tray {tray}: {symbols}");
     let in_store = tray.number() as usize * folder.numbers.layers + first as usize;
     match source {
         _ if part.is_empty() => screen.line(what),
-        Source::Store => screen.line(format!("{what} of the store, from byte {in_store} on")),
+        Source::Store => screen.line(format!("{what} of the store, from {unit} {in_store} on")),
         Source::Tested => {
-            screen.line(format!("{what} of the spare, from byte {first} on"));
+            screen.line(format!("{what} of the spare, from {unit} {first} on"));
             screen.line("  tested: they fit to the other trays");
         }
         Source::Untested => {
-            screen.line(format!("{what} of the spare, from byte {first} on"));
+            screen.line(format!("{what} of the spare, from {unit} {first} on"));
             screen.line("  not tested, other trays are missing");
         }
     }
 }
 
 /// Where a layer is not yet repaired, which ones are.
-fn say_readable(failure: &Failure, reading: &Reading, screen: &mut Screen) {
+fn say_readable<S: Symbol>(failure: &Failure, reading: &Reading<S>, screen: &mut Screen) {
     if let Failure::Refused {
         refusal: Refusal::NotRepaired,
         ..

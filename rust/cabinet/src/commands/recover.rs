@@ -3,10 +3,12 @@
 use super::Command;
 use crate::arguments::{Arguments, Setting};
 use crate::failure::Failure;
+use crate::field::in_field;
 use crate::files::{self, Page};
-use crate::folder::Folder;
+use crate::folder::{Folder, Place};
 use crate::plate;
 use crate::screen::{Paint, Screen};
+use crate::symbol::{to_data, Symbol};
 use gesarumbo::Tray;
 use std::path::PathBuf;
 
@@ -26,7 +28,14 @@ pub const COMMAND: Command = Command {
     name: "recover",
     summary: "bring back trays from any k that are left",
     help: HELP,
-    settings: &[ERASE, DATA, LENGTH, plate::LAYOUT, plate::VOLUME],
+    settings: &[
+        ERASE,
+        DATA,
+        LENGTH,
+        plate::LAYOUT,
+        plate::VOLUME,
+        plate::FIELD,
+    ],
     run,
 };
 
@@ -38,16 +47,28 @@ demonstration, of another layout or volume) or of another place, from the live
 ones, and writes live images of them. Any k live trays will do; more are held
 against one another, and nothing is written if they do not fit together (8).
 With no tray to bring back it is a test.
+
+Data with a symbol that is no byte, 256 in the field of 257, are not written
+(65).
 ";
 
 fn run(arguments: &Arguments, screen: &mut Screen) -> Result<(), Failure> {
     let [folder] = arguments.words(["DIR"])?;
-    let folder = Folder::open(folder, arguments)?;
+    let place = Place::find(folder, arguments)?;
+    in_field!(place.plate.field, recover(&place, arguments, screen))
+}
+
+fn recover<S: Symbol>(
+    place: &Place,
+    arguments: &Arguments,
+    screen: &mut Screen,
+) -> Result<(), Failure> {
+    let folder = Folder::<S>::open(place)?;
     let erased = erased(&folder, arguments.list(ERASE)?.unwrap_or_default());
     folder.introduce(screen);
     let mut codeword = folder.remains();
     let about = format!("recovery of {} trays", erased.len());
-    gesarumbo::recover(folder.plate.layout, &mut codeword, &erased)
+    (S::CALLS.recover)(folder.plate.layout, &mut codeword, &erased)
         .map_err(Failure::refused(about))?;
     let mut pages = images(&folder, &erased, &codeword)?;
     pages.extend(data(arguments, &codeword[..folder.numbers.data()])?);
@@ -57,7 +78,7 @@ fn run(arguments: &Arguments, screen: &mut Screen) -> Result<(), Failure> {
 }
 
 /// The trays that are not live and those named, rising.
-fn erased(folder: &Folder, named: Vec<u32>) -> Vec<Tray> {
+fn erased<S: Symbol>(folder: &Folder<S>, named: Vec<u32>) -> Vec<Tray> {
     let mut erased = folder.missing();
     erased.extend(named.into_iter().map(Tray::new));
     erased.sort();
@@ -65,7 +86,11 @@ fn erased(folder: &Folder, named: Vec<u32>) -> Vec<Tray> {
     erased
 }
 
-fn images(folder: &Folder, erased: &[Tray], codeword: &[u8]) -> Result<Vec<Page>, Failure> {
+fn images<S: Symbol>(
+    folder: &Folder<S>,
+    erased: &[Tray],
+    codeword: &[S],
+) -> Result<Vec<Page>, Failure> {
     let trays = folder
         .numbers
         .all_trays()
@@ -77,7 +102,7 @@ fn images(folder: &Folder, erased: &[Tray], codeword: &[u8]) -> Result<Vec<Page>
 }
 
 /// The file of the data, if one is asked for.
-fn data(arguments: &Arguments, data: &[u8]) -> Result<Option<Page>, Failure> {
+fn data<S: Symbol>(arguments: &Arguments, data: &[S]) -> Result<Option<Page>, Failure> {
     let length = arguments.number(LENGTH)?.unwrap_or(data.len());
     let Some(part) = data.get(..length) else {
         let words = format!(
@@ -93,8 +118,14 @@ fn data(arguments: &Arguments, data: &[u8]) -> Result<Option<Page>, Failure> {
             LENGTH.name, DATA.name
         ))),
         None => Ok(None),
-        Some(path) => Ok(Some((PathBuf::from(path), part.to_vec()))),
+        Some(path) => Ok(Some((PathBuf::from(path), bytes(part)?))),
     }
+}
+
+/// Symbols of data as bytes; a symbol of 256 is none.
+fn bytes<S: Symbol>(data: &[S]) -> Result<Vec<u8>, Failure> {
+    let no_byte = |place| format!("the data's symbol {place} is 256, which is no byte of a file");
+    to_data(data).map_err(|place| Failure::Contents(no_byte(place)))
 }
 
 fn report(erased: &[Tray], screen: &mut Screen) {

@@ -3,12 +3,14 @@
 use super::Command;
 use crate::arguments::{needed, Arguments, Setting};
 use crate::failure::Failure;
+use crate::field::in_field;
 use crate::files;
-use crate::folder::Folder;
+use crate::folder::{Folder, Place};
 use crate::mending::{self, SPARE};
 use crate::plate;
 use crate::screen::Screen;
 use crate::spare::Spare;
+use crate::symbol::Symbol;
 use crate::task::{judge, Task};
 use gesarumbo::{Rack, Refusal, Tray};
 use std::ffi::OsStr;
@@ -47,6 +49,7 @@ pub const COMMAND: Command = Command {
         SPARE,
         plate::LAYOUT,
         plate::VOLUME,
+        plate::FIELD,
     ],
     run,
 };
@@ -88,9 +91,19 @@ impl Asked {
 fn run(arguments: &Arguments, screen: &mut Screen) -> Result<(), Failure> {
     let [folder] = arguments.words(["DIR"])?;
     let asked = Asked::read(arguments)?;
-    let folder = Folder::open(folder, arguments)?;
+    let place = Place::find(folder, arguments)?;
+    in_field!(place.plate.field, repair(&place, asked, arguments, screen))
+}
+
+fn repair<S: Symbol>(
+    place: &Place,
+    asked: Asked,
+    arguments: &Arguments,
+    screen: &mut Screen,
+) -> Result<(), Failure> {
+    let folder = Folder::<S>::open(place)?;
     let lost = asked.lost;
-    judge(
+    judge::<S>(
         &folder.numbers,
         &lost,
         &asked.helpers,
@@ -121,7 +134,11 @@ fn run(arguments: &Arguments, screen: &mut Screen) -> Result<(), Failure> {
 }
 
 /// All helpers' shares, from files, each of the wanted length.
-fn read_shares(wanted: usize, files: &[&OsStr], helpers: usize) -> Result<Vec<u8>, Failure> {
+fn read_shares<S: Symbol>(
+    wanted: usize,
+    files: &[&OsStr],
+    helpers: usize,
+) -> Result<Vec<S>, Failure> {
     if files.len() != helpers {
         let words = format!("{} shares are given for {helpers} helpers", files.len());
         return Err(Failure::Usage(words));
@@ -129,18 +146,18 @@ fn read_shares(wanted: usize, files: &[&OsStr], helpers: usize) -> Result<Vec<u8
     let mut shares = Vec::new();
     for path in files.iter().map(Path::new) {
         let share = files::read_existing(path)?;
-        if share.len() != wanted {
-            let found = files::length(&share);
+        let symbols = S::from_bytes(&share).filter(|symbols| symbols.len() == wanted);
+        shares.extend(symbols.ok_or_else(|| {
+            let (found, wanted) = (files::length(&share), wanted * S::WIDTH);
             let about = format!("{}: {found}, a share has {wanted}", path.display());
-            return Err(Failure::refused(about)(Refusal::Length));
-        }
-        shares.extend(share);
+            Failure::refused(about)(Refusal::Length)
+        })?);
     }
     Ok(shares)
 }
 
 /// The group to begin with: no group may be left out.
-fn start(asked: Option<u64>, spare: &Spare) -> Result<u64, Failure> {
+fn start<S: Symbol>(asked: Option<u64>, spare: &Spare<S>) -> Result<u64, Failure> {
     match asked {
         Some(first) if first > spare.done => Err(Failure::Contents(format!(
             "{}: only {} groups are done, {} {first} would leave some out",

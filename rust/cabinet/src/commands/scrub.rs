@@ -3,15 +3,17 @@
 use super::Command;
 use crate::arguments::{Arguments, Setting};
 use crate::failure::Failure;
+use crate::field::in_field;
 use crate::files;
-use crate::folder::Folder;
+use crate::folder::{Folder, Place};
 use crate::layer_map;
 use crate::layer_picture;
 use crate::numbers::Numbers;
-use crate::plate;
+use crate::plate::{self, Plate};
 use crate::progress;
 use crate::screen::{Paint, Screen};
 use crate::seen::Seen;
+use crate::symbol::Symbol;
 use crate::walk::{self, Walk};
 use crate::words::count;
 use gesarumbo::{ScrubRecord, Scrubbed};
@@ -43,6 +45,7 @@ pub const COMMAND: Command = Command {
         SVG,
         plate::LAYOUT,
         plate::VOLUME,
+        plate::FIELD,
     ],
     run,
 };
@@ -66,17 +69,31 @@ fn run(arguments: &Arguments, screen: &mut Screen) -> Result<(), Failure> {
         Some(file) => PathBuf::from(file),
         None => Path::new(folder).join(walk::NAME),
     };
-    let folder = Folder::open(folder, arguments)?;
+    let place = Place::find(folder, arguments)?;
+    in_field!(
+        place.plate.field,
+        scrub(&place, budget, path, arguments, screen)
+    )
+}
+
+fn scrub<S: Symbol>(
+    place: &Place,
+    budget: u64,
+    path: PathBuf,
+    arguments: &Arguments,
+    screen: &mut Screen,
+) -> Result<(), Failure> {
+    let folder = Folder::<S>::open(place)?;
     folder.introduce(screen);
     let codeword = folder.codeword()?;
     let start = match arguments.has(RESET) {
-        true => Walk::begin,
-        false => Walk::go_on,
+        true => Walk::begin::<S>,
+        false => Walk::go_on::<S>,
     };
     let mut walk = start(path, &folder, &codeword)?;
     let layers = folder.numbers.layers;
     let scrubbed = look(&mut walk, &codeword, budget, layers, screen)?;
-    show(arguments, &folder, &Seen::of(&walk, layers), screen)?;
+    show(arguments, folder.plate, &Seen::of(&walk, layers), screen)?;
     match scrubbed {
         Scrubbed::Unfinished => {
             walk.save()?;
@@ -95,9 +112,9 @@ fn run(arguments: &Arguments, screen: &mut Screen) -> Result<(), Failure> {
 }
 
 /// Looks at the next layers, piece by piece, as far as the budget goes.
-fn look(
+fn look<S: Symbol>(
     walk: &mut Walk,
-    codeword: &[u8],
+    codeword: &[S],
     budget: u64,
     layers: usize,
     screen: &mut Screen,
@@ -118,7 +135,7 @@ fn look(
 /// Where the bad layers lie: on the screen if there are any, and as it is asked for.
 fn show(
     arguments: &Arguments,
-    folder: &Folder,
+    plate: Plate,
     seen: &Seen,
     screen: &mut Screen,
 ) -> Result<(), Failure> {
@@ -126,7 +143,7 @@ fn show(
         layer_map::print(seen, screen);
     }
     if let Some(path) = arguments.value(SVG).map(Path::new) {
-        let picture = layer_picture::draw(folder.plate, seen);
+        let picture = layer_picture::draw(plate, seen);
         files::write_one(path, picture.into_bytes())?;
         screen.line(format!("  drawn in {}", path.display()));
     }

@@ -3,10 +3,12 @@
 use super::Command;
 use crate::arguments::{needed, Arguments, Setting};
 use crate::failure::Failure;
+use crate::field::in_field;
 use crate::files;
-use crate::folder::Folder;
+use crate::folder::{Folder, Place};
 use crate::plate;
 use crate::screen::Screen;
+use crate::symbol::Symbol;
 use gesarumbo::Rack;
 use std::path::Path;
 
@@ -18,7 +20,14 @@ pub const COMMAND: Command = Command {
     name: "share",
     summary: "work out what a helper rack sends for a repair",
     help: HELP,
-    settings: &[HOST, HELPER, COUNT, plate::LAYOUT, plate::VOLUME],
+    settings: &[
+        HOST,
+        HELPER,
+        COUNT,
+        plate::LAYOUT,
+        plate::VOLUME,
+        plate::FIELD,
+    ],
     run,
 };
 
@@ -26,9 +35,10 @@ const HELP: &str = "\
 cabinet share DIR --host H --helper I [--count E] OUT
 
 Works out the share of rack I for a repair in rack H, from the trays of rack I
-alone, and writes its L/s symbols to OUT, one byte each and nothing else. For a
-repair of E trays at once it is E shares, one after another. The file does not
-say whose share it is: let its name say so.
+alone, and writes its L/s symbols to OUT, one byte each and nothing else; in the
+field of 257 two bytes each, low byte first. For a repair of E trays at once it
+is E shares, one after another. The file does not say whose share it is: let its
+name say so.
 ";
 
 fn run(arguments: &Arguments, screen: &mut Screen) -> Result<(), Failure> {
@@ -36,13 +46,27 @@ fn run(arguments: &Arguments, screen: &mut Screen) -> Result<(), Failure> {
     let host = Rack::new(needed(HOST, arguments.number(HOST)?)?);
     let helper = Rack::new(needed(HELPER, arguments.number(HELPER)?)?);
     let count = arguments.number(COUNT)?.unwrap_or(1);
-    let folder = Folder::open(folder, arguments)?;
+    let (place, out) = (Place::find(folder, arguments)?, Path::new(out));
+    in_field!(
+        place.plate.field,
+        share(&place, count, [host, helper], out, screen)
+    )
+}
+
+fn share<S: Symbol>(
+    place: &Place,
+    count: u32,
+    [host, helper]: [Rack; 2],
+    out: &Path,
+    screen: &mut Screen,
+) -> Result<(), Failure> {
+    let folder = Folder::<S>::open(place)?;
     let share = folder.share(count, host, helper)?;
     screen.heading(folder.plate.words());
     screen.line(format!(
-        "  rack {helper} sends {} symbols to rack {host}, {} bytes are in its trays",
+        "  rack {helper} sends {} symbols to rack {host}, {} are in its trays",
         share.len(),
         folder.numbers.size * folder.numbers.layers
     ));
-    files::write_one(Path::new(out), share)
+    files::write_one(out, S::to_bytes(&share))
 }

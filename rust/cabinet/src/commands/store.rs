@@ -3,11 +3,13 @@
 use super::Command;
 use crate::arguments::{self, needed, Arguments, Setting};
 use crate::failure::Failure;
+use crate::field::{in_field, Field, FIELD};
 use crate::files::{self, Page};
 use crate::folder;
 use crate::numbers::Numbers;
 use crate::plate::Plate;
 use crate::screen::Screen;
+use crate::symbol::{from_data, Symbol};
 use gesarumbo::LIVE;
 use std::fs;
 use std::path::Path;
@@ -25,19 +27,22 @@ pub const COMMAND: Command = Command {
     name: "store",
     summary: "store a file in a new cabinet",
     help: HELP,
-    settings: &[VOLUME, EXACT, REPLACE],
+    settings: &[VOLUME, FIELD, EXACT, REPLACE],
     run,
 };
 
 const HELP: &str = "\
-cabinet store B u k d --volume N [--exact] [--replace] INPUT DIR
+cabinet store B u k d --volume N [--field N] [--exact] [--replace] INPUT DIR
 
 Stores the file INPUT in a cabinet of B racks of u trays, k of them data, with d
 helper racks in a repair. Writes the folder DIR: an image of every tray, and the
-name plate cabinet.txt with layout and volume, which the other commands go by.
+name plate cabinet.txt with layout, volume and field, which the other commands
+go by.
 
-A cabinet takes k*L bytes. A shorter file is filled up with zeros, a longer one
-is refused (2). With --exact a shorter one is refused (2) too.
+A cabinet takes k*L bytes, each as one symbol: in the field of 257 these are the
+symbols 0 to 255, and images have two bytes a symbol. A shorter file is filled
+up with zeros, a longer one is refused (2). With --exact a shorter one is
+refused (2) too.
 ";
 
 fn run(arguments: &Arguments, screen: &mut Screen) -> Result<(), Failure> {
@@ -45,8 +50,9 @@ fn run(arguments: &Arguments, screen: &mut Screen) -> Result<(), Failure> {
     let plate = Plate {
         layout: arguments::layout([b, u, k, d])?,
         volume: needed(VOLUME, arguments.number(VOLUME)?)?,
+        field: Field::asked(arguments)?.unwrap_or_default(),
     };
-    let numbers = Numbers::of(plate.layout)?;
+    let numbers = Numbers::of(plate.layout, plate.field)?;
     let room = numbers.data();
     let input = Path::new(input);
     let data = files::read_existing(input)?;
@@ -58,11 +64,8 @@ fn run(arguments: &Arguments, screen: &mut Screen) -> Result<(), Failure> {
         false => filled_up(data, room),
     };
     let folder = Path::new(folder);
-    write(
-        folder,
-        &pages(folder, plate, &data, &about)?,
-        arguments.has(REPLACE),
-    )?;
+    let pages = in_field!(plate.field, pages(folder, plate, &data, &about))?;
+    write(folder, &pages, arguments.has(REPLACE))?;
     report(&numbers, plate, stored, screen);
     Ok(())
 }
@@ -74,10 +77,16 @@ fn filled_up(mut data: Vec<u8>, room: usize) -> Vec<u8> {
 }
 
 /// The files of a cabinet that holds this data; `about` says what data it is.
-pub fn pages(folder: &Path, plate: Plate, data: &[u8], about: &str) -> Result<Vec<Page>, Failure> {
-    let numbers = Numbers::of(plate.layout)?;
-    let mut codeword = vec![0; numbers.codeword()];
-    gesarumbo::store(plate.layout, data, &mut codeword).map_err(Failure::refused(about))?;
+pub fn pages<S: Symbol>(
+    folder: &Path,
+    plate: Plate,
+    data: &[u8],
+    about: &str,
+) -> Result<Vec<Page>, Failure> {
+    let numbers = Numbers::of(plate.layout, S::FIELD)?;
+    let mut codeword = vec![S::default(); numbers.codeword()];
+    (S::CALLS.store)(plate.layout, &from_data(data), &mut codeword)
+        .map_err(Failure::refused(about))?;
     let trays = numbers.all_trays().zip(codeword.chunks(numbers.layers));
     let images = trays.map(|(tray, symbols)| folder::image(folder, plate, tray, LIVE, symbols));
     images.chain([Ok(plate.page(folder))]).collect()

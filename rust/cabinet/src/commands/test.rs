@@ -3,16 +3,18 @@
 use super::Command;
 use crate::arguments::Arguments;
 use crate::failure::Failure;
-use crate::folder::Folder;
+use crate::field::in_field;
+use crate::folder::{Folder, Place};
 use crate::plate;
 use crate::screen::{Paint, Screen};
+use crate::symbol::Symbol;
 use gesarumbo::Tested;
 
 pub const COMMAND: Command = Command {
     name: "test",
     summary: "test whether all trays fit together",
     help: HELP,
-    settings: &[plate::LAYOUT, plate::VOLUME],
+    settings: &plate::SETTINGS,
     run,
 };
 
@@ -27,10 +29,15 @@ layer is named, and the least check broken in it.
 
 fn run(arguments: &Arguments, screen: &mut Screen) -> Result<(), Failure> {
     let [folder] = arguments.words(["DIR"])?;
-    let folder = Folder::open(folder, arguments)?;
+    let place = Place::find(folder, arguments)?;
+    in_field!(place.plate.field, test(&place, screen))
+}
+
+fn test<S: Symbol>(place: &Place, screen: &mut Screen) -> Result<(), Failure> {
+    let folder = Folder::<S>::open(place)?;
     folder.introduce(screen);
     let codeword = folder.codeword()?;
-    match gesarumbo::test(folder.plate.layout, &codeword).map_err(Failure::refused("test"))? {
+    match (S::CALLS.test)(folder.plate.layout, &codeword).map_err(Failure::refused("test"))? {
         Tested::Sound => {
             let sound = screen.paint(Paint::Good, "sound");
             let (layers, checks) = (folder.numbers.layers, folder.numbers.checks);

@@ -35,6 +35,15 @@ impl Bench {
         bench
     }
 
+    /// A cabinet (5, 4, 15, 4) in the field of 257, volume 7, in the folder `c`, with data that fill
+    /// it.
+    pub fn with_racks_of_four() -> Bench {
+        let bench = Bench::new();
+        bench.write("data", &data(480));
+        bench.done("store 5 4 15 4 --volume 7 --field 257 data c");
+        bench
+    }
+
     /// A file in the folder.
     pub fn path(&self, name: &str) -> PathBuf {
         self.place.join(name)

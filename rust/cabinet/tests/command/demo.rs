@@ -36,6 +36,10 @@ fn the_demonstration_tells_its_story() {
         "24 = 3 shares of 8 symbols",
         "128 = 8 trays of 16 symbols",
         "81.2 % saved: 24 symbols in place of 128",
+        "7. The same with racks of four",
+        "(5, 4, 15, 4) modulo 257",
+        "64 symbols in all in place of 480",
+        "The tray is the same",
     ];
     let mut rest = told.as_str();
     for part in story {

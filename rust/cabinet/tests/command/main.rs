@@ -2,6 +2,7 @@
 
 mod bench;
 mod demo;
+mod field257;
 mod files;
 mod help;
 mod plan;

@@ -87,6 +87,38 @@ fn failing_conditions_are_named() {
 }
 
 #[test]
+fn failing_conditions_of_the_field_of_257_are_named() {
+    let bench = Bench::new();
+    let cases = [
+        ("4 3 8 3", "u = 1, 2, 4, 8 or 16"),
+        ("2 32 32 1", "u = 1, 2, 4, 8 or 16"),
+        ("31 2 32 16", "n <= 60"),
+        ("5 4 17 4", "u <= n - k"),
+        ("13 4 44 12", "L <= 4,096"),
+    ];
+    for (layout, rule) in cases {
+        let message = bench.refused(1, &format!("plan {layout} --field 257"));
+        assert!(message.contains("modulo 257"), "{message}");
+        assert!(message.contains(&format!("needed is {rule}")), "{message}");
+    }
+    bench.refused(1, "plan 5 4 15 4");
+    bench.refused(1, "plan 5 4 15 4 --field 256");
+    let text = bench.done("plan 5 4 15 4 --field 257");
+    assert_readable(&text);
+    for (name, value) in [("n", "20"), ("v", "3"), ("s", "2"), ("L", "32")] {
+        let row = row(&text, name);
+        assert_eq!(row.last().map(String::as_str), Some(value), "{name}");
+    }
+    for words in [
+        "Layout (5, 4, 15, 4) modulo 257",
+        "480 bytes of data in 640 symbols of two bytes (75.0 %)",
+        "64 = 4 shares of 16 symbols",
+    ] {
+        assert!(text.contains(words), "{words} is missing in\n{text}");
+    }
+}
+
+#[test]
 fn any_four_numbers_get_an_answer() {
     let bench = Bench::new();
     for layout in [
@@ -96,6 +128,7 @@ fn any_four_numbers_get_an_answer() {
         "4294967295 4294967295 4294967295 4294967295",
     ] {
         bench.refused(1, &format!("plan {layout}"));
+        bench.refused(1, &format!("plan {layout} --field 257"));
     }
 }
 
@@ -109,6 +142,8 @@ fn pictures_are_well_formed_and_whole() {
         ("16 3 24 8", 48, 8),
         ("2 17 17 1", 34, 1),
         ("5 3 4 3", 15, 3),
+        ("5 4 15 4 --field 257", 20, 4),
+        ("3 16 20 2 --field 257", 48, 2),
     ] {
         bench.done(&format!("plan {layout} --svg picture.svg"));
         let picture = String::from_utf8(bench.read("picture.svg")).expect("a picture is text");

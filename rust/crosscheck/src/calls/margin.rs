@@ -1,8 +1,9 @@
 //! The loss margin.
 
-use super::{library_layout, reference_layout, Call};
+use super::{library_layout, reference_layout, Call, Looks};
 use crate::answer::Answer;
 use crate::cabinet::Cabinet;
+use crate::field::in_field;
 use crate::inputs::{Inputs, Kind, Value};
 use crate::lent::Lent;
 use crate::source::Source;
@@ -11,6 +12,7 @@ pub const CALL: Call = Call {
     name: "margin",
     shape: &[Kind::Layout, Kind::Bytes],
     grounds: &[1, 2, 3],
+    looks: Looks::AtNone,
     example,
     library,
     reference,
@@ -23,16 +25,21 @@ fn example(source: &mut Source, cabinet: &Cabinet) -> Inputs {
     let states = (0..cabinet.numbers.trays)
         .map(|_| random.pick(&kinds))
         .collect();
-    Inputs(vec![Value::Layout(cabinet.layout), Value::Bytes(states)])
+    cabinet.inputs([Value::Bytes(states)])
 }
 
 fn library(inputs: &Inputs) -> Answer {
     let states = Lent::bytes(inputs.bytes(1));
-    let margin = gesarumbo::margin(library_layout(inputs), states.part());
+    let layout = library_layout(inputs);
+    let margin = in_field!(inputs.field, library::margin(layout, states.part()));
     Answer::new(margin.map(|margin| [i128::from(margin)])).read("the states", &states)
 }
 
 fn reference(inputs: &Inputs) -> Answer {
-    let margin = reference::margin(reference_layout(inputs), inputs.bytes(1));
+    let states = inputs.bytes(1);
+    let margin = in_field!(
+        inputs.field,
+        reference::margin(reference_layout::<F>(inputs), states)
+    );
     Answer::new(margin.map(|margin| [i128::from(margin)]))
 }

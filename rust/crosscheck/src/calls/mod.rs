@@ -1,5 +1,7 @@
-//! The calls, one file and one entry of [`CALLS`] each.
+//! The calls: those over either field, one file and one entry of [`COMMON`] each,
+//! and those of the box, which belong to neither.
 
+pub mod copy_image;
 pub mod margin;
 pub mod measure;
 pub mod read_image;
@@ -20,6 +22,7 @@ pub mod write_image;
 
 use crate::answer::Answer;
 use crate::cabinet::Cabinet;
+use crate::field::{Field, Symbol, FIELDS};
 use crate::inputs::{Inputs, Kind, Value};
 use crate::random::Random;
 use crate::source::Source;
@@ -29,8 +32,11 @@ pub struct Call {
     pub name: &'static str,
     /// The kinds of its inputs.
     pub shape: &'static [Kind],
-    /// The grounds that can apply to it, in the order they are tried.
+    /// The grounds that can apply to it, in the order they are tried, but for
+    /// that of a number above 256.
     pub grounds: &'static [u32],
+    /// Which of the numbers it looks at that are lent as symbols.
+    pub looks: Looks,
     /// Random inputs over a layout: such as are done, or refused for what the
     /// buffers hold or for how many trays are lost.
     pub example: fn(&mut Source, &Cabinet) -> Inputs,
@@ -40,7 +46,28 @@ pub struct Call {
     pub reference: fn(&Inputs) -> Answer,
 }
 
-pub const CALLS: [&Call; 21] = [
+/// The numbers lent as symbols that a call looks at: of these, one that is no
+/// symbol is refused.
+pub enum Looks {
+    AtAll,
+    AtNone,
+    /// By the inputs, the number of the one that holds them, and the place there.
+    /// The inputs' lengths and numbers must be right.
+    AtSome(fn(&Inputs, usize, usize) -> bool),
+}
+
+impl Looks {
+    pub fn at(&self, inputs: &Inputs, input: usize, place: usize) -> bool {
+        match self {
+            Looks::AtAll => true,
+            Looks::AtNone => false,
+            Looks::AtSome(looks) => looks(inputs, input, place),
+        }
+    }
+}
+
+/// The calls that both fields have alike.
+const COMMON: [&Call; 15] = [
     &measure::CALL,
     &test::CALL,
     &store::CALL,
@@ -53,25 +80,68 @@ pub const CALLS: [&Call; 21] = [
     &repair_many::CALL,
     &read_part::CALL,
     &write_image::CALL,
-    &read_image::CALL,
     &margin::CALL,
     &walk_reset::CALL,
     &walk::CALL,
-    &sixteen::store::CALL,
-    &sixteen::data::CALL,
-    &sixteen::recover::CALL,
-    &sixteen::share::CALL,
-    &sixteen::repair::CALL,
 ];
 
-/// The inputs of a call for one share: layout, host rack, the rack or tray that gives, its bytes and
-/// the share.
+impl Call {
+    /// Whether symbols are lent to it.
+    pub fn has_symbols(&self) -> bool {
+        self.shape.contains(&Kind::Symbols)
+    }
+
+    /// The grounds that can apply to it in a field.
+    pub fn grounds_in(&self, field: Field) -> Vec<u32> {
+        let mut grounds = self.grounds.to_vec();
+        let looks = !matches!(self.looks, Looks::AtNone);
+        if field == Field::Of257 && looks && !grounds.contains(&3) {
+            grounds.push(3);
+        }
+        grounds
+    }
+}
+
+/// All calls of a field.
+pub fn calls(field: Field) -> Vec<&'static Call> {
+    let read_image = match field {
+        Field::Of256 => &read_image::CALL,
+        Field::Of257 => &copy_image::CALL,
+    };
+    COMMON.into_iter().chain([read_image]).collect()
+}
+
+/// Calls that are counted together.
+pub struct Group {
+    pub name: String,
+    /// The field of their inputs.
+    pub field: Field,
+    pub calls: Vec<&'static Call>,
+}
+
+/// The calls of each field, and those of the box.
+pub fn groups() -> [Group; 3] {
+    let [of_256, of_257] = FIELDS.map(|field| Group {
+        name: format!("field of {}", field.symbols()),
+        field,
+        calls: calls(field),
+    });
+    let of_box = Group {
+        name: "sixteen-tray box".to_string(),
+        field: sixteen::FIELD,
+        calls: sixteen::CALLS.to_vec(),
+    };
+    [of_256, of_257, of_box]
+}
+
+/// The inputs of a call for one share: layout, host rack, the rack or tray that gives, its symbols
+/// and the share.
 const ONE_SHARE: &[Kind] = &[
     Kind::Layout,
     Kind::Small,
     Kind::Small,
-    Kind::Bytes,
-    Kind::Bytes,
+    Kind::Symbols,
+    Kind::Symbols,
 ];
 
 /// Those of a call for several: the number of lost trays comes second.
@@ -80,8 +150,8 @@ const MANY_SHARES: &[Kind] = &[
     Kind::Small,
     Kind::Small,
     Kind::Small,
-    Kind::Bytes,
-    Kind::Bytes,
+    Kind::Symbols,
+    Kind::Symbols,
 ];
 
 /// The inputs of a call for several shares.
@@ -90,16 +160,15 @@ pub fn many_shares(
     count: usize,
     host: u32,
     giver: u32,
-    bytes: &[u8],
-    shares: Vec<u8>,
+    symbols: &[Symbol],
+    shares: Vec<Symbol>,
 ) -> Inputs {
-    Inputs(vec![
-        Value::Layout(cabinet.layout),
+    cabinet.inputs([
         Value::Small(count as u32),
         Value::Small(host),
         Value::Small(giver),
-        Value::Bytes(bytes.to_vec()),
-        Value::Bytes(shares),
+        Value::Symbols(symbols.to_vec()),
+        Value::Symbols(shares),
     ])
 }
 
@@ -118,6 +187,6 @@ fn library_layout(inputs: &Inputs) -> gesarumbo::Layout {
     gesarumbo::Layout::new(racks, size, dimension, helpers)
 }
 
-fn reference_layout(inputs: &Inputs) -> reference::Layout {
+fn reference_layout<F>(inputs: &Inputs) -> reference::Layout<F> {
     inputs.layout().into()
 }

@@ -1,10 +1,10 @@
 //! Reading while a lost tray is being repaired.
 
-use super::{library_layout, reference_layout, Call};
+use super::{library_layout, reference_layout, Call, Looks};
 use crate::answer::Answer;
 use crate::cabinet::Cabinet;
+use crate::field::{in_field, Symbol};
 use crate::inputs::{Inputs, Kind, Value};
-use crate::lent::Lent;
 use crate::random::Random;
 use crate::source::Source;
 
@@ -12,8 +12,8 @@ pub const CALL: Call = Call {
     name: "read_part",
     shape: &[
         Kind::Layout,
-        Kind::Bytes,
-        Kind::Bytes,
+        Kind::Symbols,
+        Kind::Symbols,
         Kind::Small,
         Kind::Wide,
         Kind::Small,
@@ -21,6 +21,7 @@ pub const CALL: Call = Call {
         Kind::Small,
     ],
     grounds: &[1, 2, 3, 13],
+    looks: Looks::AtNone,
     example,
     library,
     reference,
@@ -31,8 +32,8 @@ pub const CALL: Call = Call {
 pub fn inputs(
     random: &mut Random,
     cabinet: &Cabinet,
-    codeword: &[u8],
-    spare: &[u8],
+    codeword: &[Symbol],
+    spare: &[Symbol],
     lost: u32,
     done: u64,
 ) -> Inputs {
@@ -48,10 +49,9 @@ pub fn inputs(
         _ => (layers - first).min(3),
     };
     let end = first + random.below(longest + 1);
-    Inputs(vec![
-        Value::Layout(cabinet.layout),
-        Value::Bytes(codeword.to_vec()),
-        Value::Bytes(spare.to_vec()),
+    cabinet.inputs([
+        Value::Symbols(codeword.to_vec()),
+        Value::Symbols(spare.to_vec()),
         Value::Small(lost),
         Value::Wide(done),
         Value::Small(tray),
@@ -62,8 +62,8 @@ pub fn inputs(
 
 fn example(source: &mut Source, cabinet: &Cabinet) -> Inputs {
     let random = &mut source.random;
-    let codeword = random.bytes(cabinet.symbols());
-    let spare = random.bytes(cabinet.numbers.layers);
+    let codeword = random.noise(cabinet.field, cabinet.symbols());
+    let spare = random.noise(cabinet.field, cabinet.numbers.layers);
     let lost = random.below(cabinet.numbers.trays) as u32;
     let groups = cabinet.numbers.groups;
     let done = match random.below(4) {
@@ -74,7 +74,7 @@ fn example(source: &mut Source, cabinet: &Cabinet) -> Inputs {
 }
 
 /// Where a part comes from, its place there and its length; 1 is the codeword.
-fn place(part: &[u8], codeword: &[u8], spare: &[u8]) -> [i128; 3] {
+fn place<S>(part: &[S], codeword: &[S], spare: &[S]) -> [i128; 3] {
     let at = part.as_ptr();
     let in_codeword = codeword.as_ptr_range().contains(&at) || at == codeword.as_ptr_range().end;
     let (source, buffer) = if in_codeword {
@@ -82,33 +82,36 @@ fn place(part: &[u8], codeword: &[u8], spare: &[u8]) -> [i128; 3] {
     } else {
         (2, spare)
     };
-    let offset = (at as usize).wrapping_sub(buffer.as_ptr() as usize);
+    let bytes = (at as usize).wrapping_sub(buffer.as_ptr() as usize);
+    let offset = bytes / size_of::<S>();
     [source, offset as i128, part.len() as i128]
 }
 
 fn library(inputs: &Inputs) -> Answer {
-    let [codeword, spare] = [1, 2].map(|at| Lent::bytes(inputs.bytes(at)));
-    let read = gesarumbo::read_part(
-        library_layout(inputs),
-        codeword.part(),
-        spare.part(),
-        gesarumbo::Tray::new(inputs.small(3)),
-        inputs.wide(4),
-        gesarumbo::Tray::new(inputs.small(5)),
-        gesarumbo::Layer::new(inputs.small(6))..gesarumbo::Layer::new(inputs.small(7)),
-    );
-    let part = read.unwrap_or(&[]);
-    Answer::new(read.map(|part| place(part, codeword.part(), spare.part())))
-        .part(part)
-        .read("the codeword", &codeword)
-        .read("the spare", &spare)
+    let [lost, tray] = [3, 5].map(|at| gesarumbo::Tray::new(inputs.small(at)));
+    let [first, end] = [6, 7].map(|at| gesarumbo::Layer::new(inputs.small(at)));
+    let (layout, groups) = (library_layout(inputs), inputs.wide(4));
+    in_field!(inputs.field, {
+        let [codeword, spare] = [1, 2].map(|at| inputs.lent::<F>(at));
+        let (store, spared) = (codeword.part(), spare.part());
+        let read = library::read_part(layout, store, spared, lost, groups, tray, first..end);
+        let part = read.unwrap_or(&[]);
+        Answer::new(read.map(|part| place(part, store, spared)))
+            .part(inputs.field, part)
+            .read("the codeword", &codeword)
+            .read("the spare", &spare)
+    })
 }
 
 fn reference(inputs: &Inputs) -> Answer {
+    in_field!(inputs.field, reference_in::<F>(inputs))
+}
+
+fn reference_in<F: reference::Field>(inputs: &Inputs) -> Answer {
     let read = reference::read_part(
-        reference_layout(inputs),
-        inputs.bytes(1),
-        inputs.bytes(2),
+        reference_layout::<F>(inputs),
+        &inputs.given::<F>(1),
+        &inputs.given::<F>(2),
         reference::Tray(inputs.small(3)),
         inputs.wide(4),
         reference::Asked {
@@ -117,13 +120,13 @@ fn reference(inputs: &Inputs) -> Answer {
             end: inputs.small(7),
         },
     );
-    let bytes = read.as_ref().map_or(vec![], |part| part.bytes.clone());
-    let numbers = |part: reference::Part| {
+    let symbols = read.as_ref().map_or(vec![], |part| part.symbols.clone());
+    let numbers = |part: reference::Part<F::Symbol>| {
         let source = match part.source {
             reference::Source::Store => 1,
             reference::Source::Spare => 2,
         };
-        [source, part.offset as i128, part.bytes.len() as i128]
+        [source, part.offset as i128, part.symbols.len() as i128]
     };
-    Answer::new(read.map(numbers)).part(&bytes)
+    Answer::new(read.map(numbers)).part(inputs.field, &symbols)
 }

@@ -1,9 +1,10 @@
 //! Recovering erased trays.
 
-use super::{library_layout, reference_layout, Call};
+use super::{library_layout, reference_layout, Call, Looks};
 use crate::answer::Answer;
 use crate::cabinet::Cabinet;
 use crate::damage;
+use crate::field::in_field;
 use crate::inputs::{Inputs, Kind, Value};
 use crate::lent::Lent;
 use crate::random::Random;
@@ -11,12 +12,21 @@ use crate::source::Source;
 
 pub const CALL: Call = Call {
     name: "recover",
-    shape: &[Kind::Layout, Kind::Bytes, Kind::List],
+    shape: &[Kind::Layout, Kind::Symbols, Kind::List],
     grounds: &[1, 2, 3, 4, 5, 8],
+    looks: Looks::AtSome(looks),
     example,
     library,
     reference,
 };
+
+/// At the trays that are not listed.
+fn looks(inputs: &Inputs, _: usize, place: usize) -> bool {
+    let [racks, size, ..] = inputs.layout();
+    let layers = inputs.symbols(1).len() / (racks * size) as usize;
+    let tray = (place / layers) as u32;
+    !inputs.list(2).contains(&tray)
+}
 
 /// A codeword with noise in its erased trays and, at times, damaged survivors.
 fn example(source: &mut Source, cabinet: &Cabinet) -> Inputs {
@@ -26,19 +36,16 @@ fn example(source: &mut Source, cabinet: &Cabinet) -> Inputs {
     let mut codeword = cabinet.codeword(random);
     let layer = random.below(cabinet.numbers.layers);
     match random.below(6) {
-        0 => codeword[random.below(cabinet.symbols())] ^= random.nonzero(),
+        0 => damage::anywhere(cabinet, random, &mut codeword),
         1 => damage::seen_by_one(cabinet, random, &mut codeword, layer, &erased),
-        2 => codeword = random.bytes(cabinet.symbols()),
+        2 => codeword = random.symbols(cabinet.field, cabinet.symbols()),
         _ => {}
     }
     for &tray in &erased {
-        codeword[cabinet.tray(tray)].copy_from_slice(&random.bytes(cabinet.numbers.layers));
+        let noise = random.noise(cabinet.field, cabinet.numbers.layers);
+        codeword[cabinet.tray(tray)].copy_from_slice(&noise);
     }
-    Inputs(vec![
-        Value::Layout(cabinet.layout),
-        Value::Bytes(codeword),
-        Value::List(erased),
-    ])
+    cabinet.inputs([Value::Symbols(codeword), Value::List(erased)])
 }
 
 /// How many trays are erased: from none to r, these two and r − 1 more often.
@@ -53,25 +60,23 @@ fn how_many(cabinet: &Cabinet, random: &mut Random) -> usize {
 }
 
 fn library(inputs: &Inputs) -> Answer {
-    let mut codeword = Lent::bytes(inputs.bytes(1));
     let erased = Lent::list(inputs.list(2), gesarumbo::Tray::new);
     let layout = library_layout(inputs);
-    let recovered = gesarumbo::recover(layout, codeword.part_mut(), erased.part());
-    Answer::new(recovered.map(|()| []))
-        .written(&codeword)
-        .read("the erased list", &erased)
+    in_field!(inputs.field, {
+        let mut codeword = inputs.lent::<F>(1);
+        let recovered = library::recover(layout, codeword.part_mut(), erased.part());
+        Answer::new(recovered.map(|()| []))
+            .written(inputs.field, &codeword)
+            .read("the erased list", &erased)
+    })
 }
 
 fn reference(inputs: &Inputs) -> Answer {
-    let codeword = inputs.bytes(1);
-    let erased: Vec<reference::Tray> = inputs
-        .list(2)
-        .iter()
-        .copied()
-        .map(reference::Tray)
-        .collect();
-    Answer::filled(
-        codeword,
-        reference::recover(reference_layout(inputs), codeword, &erased),
-    )
+    let list = inputs.list(2).iter();
+    let erased: Vec<reference::Tray> = list.copied().map(reference::Tray).collect();
+    in_field!(inputs.field, {
+        let layout = reference_layout::<F>(inputs);
+        let filled = reference::recover(layout, &inputs.given::<F>(1), &erased);
+        Answer::filled(inputs, 1, filled)
+    })
 }

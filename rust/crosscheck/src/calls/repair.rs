@@ -1,11 +1,12 @@
 //! Repairing a lost tray, whole or a piece.
 
-use super::{library_layout, reference_layout, Call};
+use super::{library_layout, reference_layout, Call, Looks};
 use crate::answer::Answer;
 use crate::cabinet::Cabinet;
+use crate::field::in_field;
 use crate::given::Given;
 use crate::inputs::{Inputs, Kind};
-use crate::lent::Lent;
+use crate::lent::{Guarded, Lent};
 use crate::pair::for_one;
 use crate::random::Random;
 use crate::source::Source;
@@ -16,19 +17,21 @@ pub const CALL: Call = Call {
         Kind::Layout,
         Kind::Small,
         Kind::List,
-        Kind::Bytes,
-        Kind::Bytes,
-        Kind::Bytes,
+        Kind::Symbols,
+        Kind::Symbols,
+        Kind::Symbols,
         Kind::Wide,
         Kind::Wide,
     ],
     grounds: &[1, 2, 3, 4, 5, 6, 7],
+    looks: Looks::AtSome(|inputs, at, place| looks(inputs, &[inputs.small(1)], at, place)),
     example,
     library,
     reference,
 };
 
-/// Where the spare stands among the inputs.
+pub const SHARES: usize = 3;
+pub const HOST: usize = 4;
 pub const SPARE: usize = 5;
 
 /// A budget: none, all there is, one more, the most that can be said, or some.
@@ -43,6 +46,28 @@ pub fn budget(random: &mut Random, left: u64) -> u64 {
     }
 }
 
+/// In its own groups, at the share symbols and at the sound trays of the host
+/// rack; with no lost tray at nothing. The lost trays must be of one rack.
+pub fn looks(inputs: &Inputs, lost: &[u32], at: usize, place: usize) -> bool {
+    let cabinet = Cabinet::new(inputs.field, inputs.layout()).expect("an admissible layout");
+    let (groups, layers) = (cabinet.numbers.groups, cabinet.numbers.layers);
+    let Some(&one) = lost.first() else {
+        return false;
+    };
+    let host = cabinet.rack_of(one);
+    let [first, budget] = [6, 7].map(|at| inputs.wide(at));
+    let own = |group: usize| group as u64 >= first && group as u64 - first < budget;
+    match at {
+        SHARES => own(place % groups),
+        HOST => {
+            let tray = host * cabinet.layout[1] + (place / layers) as u32;
+            let group = cabinet.numbers.group(host as usize, place % layers);
+            !lost.contains(&tray) && own(group)
+        }
+        _ => false,
+    }
+}
+
 fn example(source: &mut Source, cabinet: &Cabinet) -> Inputs {
     let random = &mut source.random;
     let lost = cabinet.lost(random, 1);
@@ -50,66 +75,74 @@ fn example(source: &mut Source, cabinet: &Cabinet) -> Inputs {
     for_one(&piece).expect("one is lost")
 }
 
-/// What the library answers, by one of its two repair calls.
-pub fn library_answer(
+/// What the library answers over a field, by one of its two repair calls.
+pub fn library_answer<F: reference::Field<Symbol: Guarded>>(
     inputs: &Inputs,
     call: impl FnOnce(
         &[gesarumbo::Rack],
-        &[u8],
-        &[u8],
-        &mut [u8],
+        &[F::Symbol],
+        &[F::Symbol],
+        &mut [F::Symbol],
     ) -> Result<gesarumbo::Repaired, gesarumbo::Refusal>,
 ) -> Answer {
     let helpers = Lent::list(inputs.list(2), gesarumbo::Rack::new);
-    let [shares, host] = [3, 4].map(|at| Lent::bytes(inputs.bytes(at)));
-    let mut spare = Lent::bytes(inputs.bytes(SPARE));
+    let [shares, host] = [SHARES, HOST].map(|at| inputs.lent::<F>(at));
+    let mut spare = inputs.lent::<F>(SPARE);
     let repaired = call(helpers.part(), shares.part(), host.part(), spare.part_mut());
     Answer::new(repaired.map(|done| [done.groups, done.crossed, done.remaining].map(i128::from)))
-        .written(&spare)
+        .written(inputs.field, &spare)
         .read("the helper list", &helpers)
         .read("the shares", &shares)
         .read("the host rack", &host)
 }
 
-/// What the second program answers, by one of its two repair calls.
-pub fn reference_answer(
-    inputs: &Inputs,
-    call: impl FnOnce(&[reference::Rack]) -> Result<reference::Repaired, reference::Refusal>,
-) -> Answer {
-    let helpers: Vec<reference::Rack> = inputs
-        .list(2)
-        .iter()
-        .copied()
-        .map(reference::Rack)
-        .collect();
-    let repaired = call(&helpers);
-    let spare = inputs.bytes(SPARE);
-    let after = repaired
-        .as_ref()
-        .map_or(spare.to_vec(), |done| done.spare.clone());
+/// What the second program answers over a field, with these lost trays or by the
+/// call for one.
+pub fn reference_answer<F: reference::Field>(inputs: &Inputs, lost: Option<&[u32]>) -> Answer {
+    let layout = reference_layout::<F>(inputs);
+    let racks = inputs.list(2).iter().copied();
+    let helpers: Vec<reference::Rack> = racks.map(reference::Rack).collect();
+    let [shares, host, spare] = [SHARES, HOST, SPARE].map(|at| inputs.given::<F>(at));
+    let [first, budget] = [6, 7].map(|at| inputs.wide(at));
+    let (helpers, shares, host) = (&helpers[..], &shares[..], &host[..]);
+    let repaired = match lost {
+        Some(lost) => {
+            let lost: Vec<_> = lost.iter().copied().map(reference::Tray).collect();
+            let given = reference::GivenMany {
+                lost: &lost,
+                helpers,
+                shares,
+                host,
+            };
+            reference::repair_many(layout, given, &spare, first, budget)
+        }
+        None => {
+            let given = reference::Given {
+                lost: reference::Tray(inputs.small(1)),
+                helpers,
+                shares,
+                host,
+            };
+            reference::repair(layout, given, &spare, first, budget)
+        }
+    };
+    let after = repaired.as_ref().ok().map(|done| done.spare.clone());
     Answer::new(repaired.map(|done| [done.groups, done.crossed, done.remaining].map(i128::from)))
-        .lent(spare, &after)
+        .lent(inputs.field, inputs.symbols(SPARE), after.as_deref())
 }
 
 fn library(inputs: &Inputs) -> Answer {
     let layout = library_layout(inputs);
     let lost = gesarumbo::Tray::new(inputs.small(1));
     let [first, budget] = [6, 7].map(|at| inputs.wide(at));
-    library_answer(inputs, |helpers, shares, host, spare| {
-        gesarumbo::repair(layout, lost, helpers, shares, host, spare, first, budget)
-    })
+    in_field!(
+        inputs.field,
+        library_answer::<F>(inputs, |helpers, shares, host, spare| {
+            library::repair(layout, lost, helpers, shares, host, spare, first, budget)
+        })
+    )
 }
 
 fn reference(inputs: &Inputs) -> Answer {
-    let layout = reference_layout(inputs);
-    let [first, budget] = [6, 7].map(|at| inputs.wide(at));
-    reference_answer(inputs, |helpers| {
-        let given = reference::Given {
-            lost: reference::Tray(inputs.small(1)),
-            helpers,
-            shares: inputs.bytes(3),
-            host: inputs.bytes(4),
-        };
-        reference::repair(layout, given, inputs.bytes(SPARE), first, budget)
-    })
+    in_field!(inputs.field, reference_answer::<F>(inputs, None))
 }

@@ -1,9 +1,10 @@
 //! Repairing several lost trays of one rack, whole or a piece.
 
-use super::repair::{library_answer, reference_answer, SPARE};
-use super::{any_lost_count, library_layout, reference_layout, Call};
+use super::repair::{library_answer, looks, reference_answer};
+use super::{any_lost_count, library_layout, Call, Looks};
 use crate::answer::Answer;
 use crate::cabinet::Cabinet;
+use crate::field::in_field;
 use crate::given::Given;
 use crate::inputs::{Inputs, Kind};
 use crate::lent::Lent;
@@ -15,13 +16,14 @@ pub const CALL: Call = Call {
         Kind::Layout,
         Kind::List,
         Kind::List,
-        Kind::Bytes,
-        Kind::Bytes,
-        Kind::Bytes,
+        Kind::Symbols,
+        Kind::Symbols,
+        Kind::Symbols,
         Kind::Wide,
         Kind::Wide,
     ],
     grounds: &[1, 2, 3, 4, 5, 12, 6, 7],
+    looks: Looks::AtSome(|inputs, at, place| looks(inputs, inputs.list(1), at, place)),
     example,
     library,
     reference,
@@ -36,39 +38,19 @@ fn example(source: &mut Source, cabinet: &Cabinet) -> Inputs {
 
 fn library(inputs: &Inputs) -> Answer {
     let layout = library_layout(inputs);
-    let lost = Lent::list(inputs.list(1), gesarumbo::Tray::new);
+    let list = Lent::list(inputs.list(1), gesarumbo::Tray::new);
+    let lost = list.part();
     let [first, budget] = [6, 7].map(|at| inputs.wide(at));
-    let answer = library_answer(inputs, |helpers, shares, host, spare| {
-        gesarumbo::repair_many(
-            layout,
-            lost.part(),
-            helpers,
-            shares,
-            host,
-            spare,
-            first,
-            budget,
-        )
-    });
-    answer.read("the lost list", &lost)
+    let answer = in_field!(
+        inputs.field,
+        library_answer::<F>(inputs, |helpers, shares, host, spare| {
+            library::repair_many(layout, lost, helpers, shares, host, spare, first, budget)
+        })
+    );
+    answer.read("the lost list", &list)
 }
 
 fn reference(inputs: &Inputs) -> Answer {
-    let layout = reference_layout(inputs);
-    let lost: Vec<reference::Tray> = inputs
-        .list(1)
-        .iter()
-        .copied()
-        .map(reference::Tray)
-        .collect();
-    let [first, budget] = [6, 7].map(|at| inputs.wide(at));
-    reference_answer(inputs, |helpers| {
-        let given = reference::GivenMany {
-            lost: &lost,
-            helpers,
-            shares: inputs.bytes(3),
-            host: inputs.bytes(4),
-        };
-        reference::repair_many(layout, given, inputs.bytes(SPARE), first, budget)
-    })
+    let lost = Some(inputs.list(1));
+    in_field!(inputs.field, reference_answer::<F>(inputs, lost))
 }

@@ -1,46 +1,49 @@
 //! Storing data.
 
-use super::{library_layout, reference_layout, Call};
+use super::{library_layout, reference_layout, Call, Looks};
 use crate::answer::Answer;
 use crate::cabinet::Cabinet;
+use crate::field::in_field;
 use crate::inputs::{Inputs, Kind, Value};
-use crate::lent::Lent;
 use crate::source::Source;
 
 pub const CALL: Call = Call {
     name: "store",
-    shape: &[Kind::Layout, Kind::Bytes, Kind::Bytes],
+    shape: &[Kind::Layout, Kind::Symbols, Kind::Symbols],
     grounds: &[1, 2],
+    looks: Looks::AtSome(|_, at, _| at == DATA),
     example,
     library,
     reference,
 };
 
+const DATA: usize = 1;
+const CODEWORD: usize = 2;
+
 pub fn example(source: &mut Source, cabinet: &Cabinet) -> Inputs {
-    let data = source
-        .random
-        .bytes(cabinet.numbers.dimension * cabinet.numbers.layers);
-    let codeword = source.random.bytes(cabinet.symbols());
-    Inputs(vec![
-        Value::Layout(cabinet.layout),
-        Value::Bytes(data),
-        Value::Bytes(codeword),
-    ])
+    let random = &mut source.random;
+    let length = cabinet.numbers.dimension * cabinet.numbers.layers;
+    let data = random.symbols(cabinet.field, length);
+    let codeword = random.noise(cabinet.field, cabinet.symbols());
+    cabinet.inputs([data, codeword].map(Value::Symbols))
 }
 
 fn library(inputs: &Inputs) -> Answer {
-    let data = Lent::bytes(inputs.bytes(1));
-    let mut codeword = Lent::bytes(inputs.bytes(2));
-    let stored = gesarumbo::store(library_layout(inputs), data.part(), codeword.part_mut());
-    Answer::new(stored.map(|()| []))
-        .written(&codeword)
-        .read("the data", &data)
+    in_field!(inputs.field, {
+        let data = inputs.lent::<F>(DATA);
+        let mut codeword = inputs.lent::<F>(CODEWORD);
+        let layout = library_layout(inputs);
+        let stored = library::store(layout, data.part(), codeword.part_mut());
+        Answer::new(stored.map(|()| []))
+            .written(inputs.field, &codeword)
+            .read("the data", &data)
+    })
 }
 
 fn reference(inputs: &Inputs) -> Answer {
-    let [data, codeword] = [inputs.bytes(1), inputs.bytes(2)];
-    Answer::filled(
-        codeword,
-        reference::store(reference_layout(inputs), data, codeword),
-    )
+    in_field!(inputs.field, {
+        let [data, codeword] = [DATA, CODEWORD].map(|at| inputs.given::<F>(at));
+        let stored = reference::store(reference_layout::<F>(inputs), &data, &codeword);
+        Answer::filled(inputs, CODEWORD, stored)
+    })
 }

@@ -1,24 +1,25 @@
 //! Testing a codeword.
 
-use super::{library_layout, reference_layout, Call};
+use super::{library_layout, reference_layout, Call, Looks};
 use crate::answer::Answer;
 use crate::cabinet::Cabinet;
 use crate::damage;
+use crate::field::{in_field, Symbol};
 use crate::inputs::{Inputs, Kind, Value};
-use crate::lent::Lent;
 use crate::source::Source;
 
 pub const CALL: Call = Call {
     name: "test",
-    shape: &[Kind::Layout, Kind::Bytes],
+    shape: &[Kind::Layout, Kind::Symbols],
     grounds: &[1, 2],
+    looks: Looks::AtAll,
     example,
     library,
     reference,
 };
 
-pub fn inputs(cabinet: &Cabinet, codeword: Vec<u8>) -> Inputs {
-    Inputs(vec![Value::Layout(cabinet.layout), Value::Bytes(codeword)])
+pub fn inputs(cabinet: &Cabinet, codeword: Vec<Symbol>) -> Inputs {
+    cabinet.inputs([Value::Symbols(codeword)])
 }
 
 /// The answer's numbers for a bad layer and the least check broken there.
@@ -35,29 +36,34 @@ fn example(source: &mut Source, cabinet: &Cabinet) -> Inputs {
     let mut codeword = cabinet.codeword(random);
     match random.below(5) {
         0 | 1 => {}
-        2 => codeword[random.below(cabinet.symbols())] ^= random.nonzero(),
+        2 => damage::anywhere(cabinet, random, &mut codeword),
         3 => {
             let layer = random.below(cabinet.numbers.layers);
             let least = random.below(cabinet.numbers.checks);
             damage::least_broken(cabinet, random, &mut codeword, layer, least);
         }
-        _ => codeword = random.bytes(cabinet.symbols()),
+        _ => codeword = random.symbols(cabinet.field, cabinet.symbols()),
     }
     inputs(cabinet, codeword)
 }
 
 fn library(inputs: &Inputs) -> Answer {
-    let codeword = Lent::bytes(inputs.bytes(1));
-    let tested = gesarumbo::test(library_layout(inputs), codeword.part());
     let numbers = |tested| match tested {
         gesarumbo::Tested::Sound => SOUND,
         gesarumbo::Tested::Bad { layer, check } => bad(layer.number(), check),
     };
-    Answer::new(tested.map(numbers)).read("the codeword", &codeword)
+    in_field!(inputs.field, {
+        let codeword = inputs.lent::<F>(1);
+        let tested = library::test(library_layout(inputs), codeword.part());
+        Answer::new(tested.map(numbers)).read("the codeword", &codeword)
+    })
 }
 
 fn reference(inputs: &Inputs) -> Answer {
-    let tested = reference::test(reference_layout(inputs), inputs.bytes(1));
+    let tested = in_field!(
+        inputs.field,
+        reference::test(reference_layout::<F>(inputs), &inputs.given::<F>(1))
+    );
     let numbers = |tested| match tested {
         reference::Tested::Sound => SOUND,
         reference::Tested::Bad { layer, check } => bad(layer.0, check),

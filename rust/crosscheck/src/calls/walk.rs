@@ -2,19 +2,20 @@
 
 use super::repair::budget;
 use super::walk_reset::{library_numbers, library_record, reference_numbers, reference_record};
-use super::{library_layout, reference_layout, Call};
+use super::{library_layout, reference_layout, Call, Looks};
 use crate::answer::Answer;
 use crate::cabinet::Cabinet;
 use crate::damage;
+use crate::field::{in_field, Symbol};
 use crate::inputs::{Inputs, Kind, Value};
-use crate::lent::Lent;
 use crate::random::Random;
 use crate::source::Source;
 
 pub const CALL: Call = Call {
     name: "walk",
-    shape: &[Kind::Layout, Kind::Bytes, Kind::Record, Kind::Wide],
+    shape: &[Kind::Layout, Kind::Symbols, Kind::Record, Kind::Wide],
     grounds: &[1, 2, 3],
+    looks: Looks::AtSome(looks),
     example,
     library,
     reference,
@@ -28,19 +29,27 @@ pub const UNFINISHED: i128 = 1;
 pub const SOUND: i128 = 2;
 pub const BAD: i128 = 3;
 
-pub fn inputs(cabinet: &Cabinet, codeword: Vec<u8>, record: [u32; 3], budget: u64) -> Inputs {
-    Inputs(vec![
-        Value::Layout(cabinet.layout),
-        Value::Bytes(codeword),
+/// At the layers of this call.
+fn looks(inputs: &Inputs, _: usize, place: usize) -> bool {
+    let [racks, size, ..] = inputs.layout();
+    let layers = inputs.symbols(1).len() as u64 / u64::from(racks * size);
+    let layer = place as u64 % layers;
+    let next = u64::from(inputs.record(RECORD)[0]);
+    layer >= next && layer - next < inputs.wide(3)
+}
+
+pub fn inputs(cabinet: &Cabinet, codeword: Vec<Symbol>, record: [u32; 3], budget: u64) -> Inputs {
+    cabinet.inputs([
+        Value::Symbols(codeword),
         Value::Record(record),
         Value::Wide(budget),
     ])
 }
 
 /// A codeword with some bad layers, at times none or all of them.
-pub fn codeword(random: &mut Random, cabinet: &Cabinet) -> Vec<u8> {
+pub fn codeword(random: &mut Random, cabinet: &Cabinet) -> Vec<Symbol> {
     if random.one_in(8) {
-        return random.bytes(cabinet.symbols());
+        return random.symbols(cabinet.field, cabinet.symbols());
     }
     let mut codeword = cabinet.codeword(random);
     for _ in 0..random.below(5) {
@@ -75,23 +84,28 @@ fn example(source: &mut Source, cabinet: &Cabinet) -> Inputs {
 }
 
 fn library(inputs: &Inputs) -> Answer {
-    let codeword = Lent::bytes(inputs.bytes(1));
     let mut record = library_record(inputs, RECORD);
     let (layout, budget) = (library_layout(inputs), inputs.wide(3));
-    let scrubbed = gesarumbo::scrub(layout, codeword.part(), &mut record, budget);
     let report = |scrubbed| match scrubbed {
         gesarumbo::Scrubbed::Unfinished => [UNFINISHED],
         gesarumbo::Scrubbed::Sound => [SOUND],
         gesarumbo::Scrubbed::Bad => [BAD],
     };
-    Answer::handing_back(scrubbed.map(report), library_numbers(record))
-        .read("the codeword", &codeword)
+    in_field!(inputs.field, {
+        let codeword = inputs.lent::<F>(1);
+        let scrubbed = library::scrub(layout, codeword.part(), &mut record, budget);
+        Answer::handing_back(scrubbed.map(report), library_numbers(record))
+            .read("the codeword", &codeword)
+    })
 }
 
 fn reference(inputs: &Inputs) -> Answer {
     let before = reference_record(inputs, RECORD);
-    let (layout, budget) = (reference_layout(inputs), inputs.wide(3));
-    let scrubbed = reference::scrub(layout, inputs.bytes(1), before, budget);
+    let budget = inputs.wide(3);
+    let scrubbed = in_field!(inputs.field, {
+        let layout = reference_layout::<F>(inputs);
+        reference::scrub(layout, &inputs.given::<F>(1), before, budget)
+    });
     let report = |(report, _)| match report {
         reference::Report::Unfinished => [UNFINISHED],
         reference::Report::Sound => [SOUND],

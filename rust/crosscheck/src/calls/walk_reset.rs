@@ -1,8 +1,9 @@
 //! Starting a walk over a codeword's layers.
 
-use super::{library_layout, reference_layout, Call};
+use super::{library_layout, reference_layout, Call, Looks};
 use crate::answer::Answer;
 use crate::cabinet::Cabinet;
+use crate::field::in_field;
 use crate::inputs::{Inputs, Kind, Value};
 use crate::source::Source;
 
@@ -10,13 +11,14 @@ pub const CALL: Call = Call {
     name: "walk_reset",
     shape: &[Kind::Layout, Kind::Record],
     grounds: &[1],
+    looks: Looks::AtNone,
     example,
     library,
     reference,
 };
 
 pub fn inputs(cabinet: &Cabinet, record: [u32; 3]) -> Inputs {
-    Inputs(vec![Value::Layout(cabinet.layout), Value::Record(record)])
+    cabinet.inputs([Value::Record(record)])
 }
 
 /// Any record is reset.
@@ -27,12 +29,16 @@ fn example(source: &mut Source, cabinet: &Cabinet) -> Inputs {
 
 fn library(inputs: &Inputs) -> Answer {
     let mut record = library_record(inputs, 1);
-    let reset = gesarumbo::scrub_reset(library_layout(inputs), &mut record);
+    let layout = library_layout(inputs);
+    let reset = in_field!(inputs.field, library::scrub_reset(layout, &mut record));
     Answer::handing_back(reset.map(|()| []), library_numbers(record))
 }
 
 fn reference(inputs: &Inputs) -> Answer {
-    let reset = reference::scrub_reset(reference_layout(inputs));
+    let reset = in_field!(
+        inputs.field,
+        reference::scrub_reset(reference_layout::<F>(inputs))
+    );
     let record = reset.unwrap_or_else(|_| reference_record(inputs, 1));
     Answer::handing_back(reset.map(|_| []), reference_numbers(record))
 }

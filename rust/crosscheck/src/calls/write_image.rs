@@ -1,11 +1,14 @@
 //! Writing a tray image.
 
-use super::{library_layout, reference_layout, Call};
+use super::{library_layout, reference_layout, Call, Looks};
 use crate::answer::Answer;
 use crate::cabinet::Cabinet;
+use crate::field::in_field;
 use crate::inputs::{Inputs, Kind, Value};
 use crate::lent::Lent;
+use crate::random::Random;
 use crate::source::Source;
+use reference::image::HEADER;
 
 pub const CALL: Call = Call {
     name: "write_image",
@@ -14,10 +17,11 @@ pub const CALL: Call = Call {
         Kind::Small,
         Kind::Small,
         Kind::Small,
-        Kind::Bytes,
+        Kind::Symbols,
         Kind::Bytes,
     ],
     grounds: &[1, 2, 3],
+    looks: Looks::AtAll,
     example,
     library,
     reference,
@@ -26,50 +30,43 @@ pub const CALL: Call = Call {
 pub fn example(source: &mut Source, cabinet: &Cabinet) -> Inputs {
     let random = &mut source.random;
     let numbers = &cabinet.numbers;
-    Inputs(vec![
-        Value::Layout(cabinet.layout),
+    let length = HEADER + cabinet.field.bytes() * numbers.layers;
+    cabinet.inputs([
         Value::Small(random.below(numbers.trays) as u32),
         Value::Small(if random.one_in(4) { 2 } else { 1 }),
-        Value::Small(volume(source)),
-        Value::Bytes(source.random.bytes(numbers.layers)),
-        Value::Bytes(
-            source
-                .random
-                .bytes(reference::image::HEADER + numbers.layers),
-        ),
+        Value::Small(volume(random)),
+        Value::Symbols(random.symbols(cabinet.field, numbers.layers)),
+        Value::Bytes(random.bytes(length)),
     ])
 }
 
-fn volume(source: &mut Source) -> u32 {
-    let any = source.random.word() as u32;
-    source.random.pick(&[0, 1, 7, u32::MAX, any, any])
+fn volume(random: &mut Random) -> u32 {
+    let any = random.word() as u32;
+    random.pick(&[0, 1, 7, u32::MAX, any, any])
 }
 
 fn library(inputs: &Inputs) -> Answer {
-    let symbols = Lent::bytes(inputs.bytes(4));
+    let layout = library_layout(inputs);
+    let tray = gesarumbo::Tray::new(inputs.small(1));
+    let [state, volume] = [2, 3].map(|at| inputs.small(at));
     let mut image = Lent::bytes(inputs.bytes(5));
-    let written = gesarumbo::write_image(
-        library_layout(inputs),
-        gesarumbo::Tray::new(inputs.small(1)),
-        inputs.small(2),
-        inputs.small(3),
-        symbols.part(),
-        image.part_mut(),
-    );
-    Answer::new(written.map(|()| []))
-        .written(&image)
-        .read("the symbols", &symbols)
+    in_field!(inputs.field, {
+        let symbols = inputs.lent::<F>(4);
+        let (from, to) = (symbols.part(), image.part_mut());
+        let written = library::write_image(layout, tray, state, volume, from, to);
+        Answer::new(written.map(|()| []))
+            .written_bytes(&image)
+            .read("the symbols", &symbols)
+    })
 }
 
 fn reference(inputs: &Inputs) -> Answer {
+    let tray = reference::Tray(inputs.small(1));
+    let [state, volume] = [2, 3].map(|at| inputs.small(at));
     let image = inputs.bytes(5);
-    let written = reference::write_image(
-        reference_layout(inputs),
-        reference::Tray(inputs.small(1)),
-        inputs.small(2),
-        inputs.small(3),
-        inputs.bytes(4),
-        image,
-    );
-    Answer::filled(image, written)
+    let written = in_field!(inputs.field, {
+        let layout = reference_layout::<F>(inputs);
+        reference::write_image(layout, tray, state, volume, &inputs.given::<F>(4), image)
+    });
+    Answer::filled_bytes(image, written)
 }

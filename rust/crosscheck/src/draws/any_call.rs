@@ -1,7 +1,7 @@
 //! Any call over any layout, its inputs good or spoilt in up to three places.
 
 use super::Draw;
-use crate::calls::CALLS;
+use crate::calls::calls;
 use crate::crosscheck::Crosscheck;
 use crate::spoil::spoil;
 
@@ -14,7 +14,7 @@ pub const DRAW: Draw = Draw {
 
 fn case(all: &mut Crosscheck) {
     let cabinet = all.source.cabinet();
-    let call = all.source.random.pick(&CALLS);
+    let call = all.source.random.pick(&calls(cabinet.field));
     let mut inputs = (call.example)(&mut all.source, &cabinet);
     let times = all.source.random.pick(&[0, 0, 0, 0, 1, 1, 1, 2, 2, 3]);
     spoil(&mut all.source, &cabinet, &mut inputs, times);

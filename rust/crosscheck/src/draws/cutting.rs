@@ -6,6 +6,7 @@ use crate::cabinet::Cabinet;
 use crate::calls::repair::{budget, SPARE};
 use crate::calls::Call;
 use crate::crosscheck::Crosscheck;
+use crate::field::Symbol;
 use crate::given::Given;
 use crate::inputs::{Inputs, Value};
 use crate::pair;
@@ -26,9 +27,9 @@ const MOST_CALLS: usize = 12;
 struct List {
     given: Given,
     /// What the spare held at first, and what one uncut call makes of it.
-    at_first: Vec<u8>,
-    uncut: Vec<u8>,
-    spare: Vec<u8>,
+    at_first: Vec<Symbol>,
+    uncut: Vec<Symbol>,
+    spare: Vec<Symbol>,
     /// G, the number of groups done so far.
     done: u64,
     crossed: i128,
@@ -59,7 +60,7 @@ impl List {
         let at_first = given.spare(random);
         let groups = cabinet.numbers.groups;
         let (call, whole) = given.piece(random, &at_first, 0, groups as u64);
-        let uncut = all.run.compare(call, &whole).buffer().to_vec();
+        let uncut = all.run.compare(call, &whole).symbols().to_vec();
         List {
             spare: at_first.clone(),
             at_first,
@@ -84,7 +85,7 @@ impl List {
         all.run.claim(answer.refusal == 0, || {
             format!("a good piece was refused: {piece}")
         });
-        self.spare = answer.buffer().to_vec();
+        self.spare = answer.symbols().to_vec();
         self.done += budget.min(left);
         self.crossed += answer.numbers[1];
         self.remaining = answer.numbers[2];
@@ -96,7 +97,7 @@ impl List {
         all.run.claim(answer.refusal != 0, || {
             format!("a bad piece was not refused: {inputs}")
         });
-        self.spare = answer.buffer().to_vec();
+        self.spare = answer.symbols().to_vec();
     }
 
     /// What must hold after every list.
@@ -109,7 +110,7 @@ impl List {
                 self.at_first[at]
             }
         };
-        let spare: Vec<u8> = (0..self.at_first.len()).map(expected).collect();
+        let spare: Vec<Symbol> = (0..self.at_first.len()).map(expected).collect();
         let symbols = self.given.symbols();
         let whole = symbols * self.given.cabinet.numbers.groups as i128;
         let holds = self.spare == spare
@@ -122,15 +123,19 @@ impl List {
 
 /// A call that is refused, over this spare and anything else, at times even
 /// another layout.
-fn refused(source: &mut Source, own: &Cabinet, spare: &[u8]) -> (&'static Call, Inputs) {
+fn refused(source: &mut Source, own: &Cabinet, spare: &[Symbol]) -> (&'static Call, Inputs) {
     loop {
         let other = source.random.one_in(4);
-        let cabinet = if other { source.cabinet() } else { *own };
+        let cabinet = if other {
+            source.cabinet_of(own.field)
+        } else {
+            *own
+        };
         let call = pair::REPAIR.any(&mut source.random);
         let mut inputs = (call.example)(source, &cabinet);
         let times = 1 + source.random.below(3);
         spoil(source, &cabinet, &mut inputs, times);
-        inputs.0[SPARE] = Value::Bytes(spare.to_vec());
+        inputs.values[SPARE] = Value::Symbols(spare.to_vec());
         if (call.reference)(&inputs).refusal != 0 {
             return (call, inputs);
         }

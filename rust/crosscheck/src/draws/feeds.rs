@@ -1,9 +1,12 @@
-//! Shares built up tray by tray: each tray of a rack is fed an odd number of times, in any order
-//! and with refused calls between, and the shares must be those of the whole rack.
+//! Shares built up tray by tray: each tray of a rack is fed once, at times one of them three times,
+//! in any order and with refused calls between. The shares must be those of the whole rack, with the
+//! symbols of the tray fed three times taken three times.
 
 use super::Draw;
+use crate::cabinet::Cabinet;
 use crate::calls::many_shares;
 use crate::crosscheck::Crosscheck;
+use crate::field::Symbol;
 use crate::inputs::Value;
 use crate::pair;
 use crate::spoil::spoil;
@@ -22,23 +25,18 @@ fn case(all: &mut Crosscheck) {
     let length = count * cabinet.numbers.groups;
     let host = random.below(cabinet.numbers.racks) as u32;
     let helper = random.pick(&cabinet.other_racks(host));
-    let rack = random.bytes(cabinet.rack(0).len());
+    let rack = random.symbols(cabinet.field, cabinet.rack(0).len());
+    let mut summed = rack.clone();
     let mut left: Vec<u32> = (0..cabinet.layout[1]).collect();
     if random.one_in(3) {
-        // A tray fed twice more cancels.
-        left.extend([random.pick(&left); 2]);
+        let place = random.pick(&left);
+        left.extend([place; 2]);
+        take_three_times(&cabinet, &mut summed, place);
     }
     let mut held = vec![0; length];
     while !left.is_empty() {
         if all.source.random.one_in(4) {
-            let call = pair::SHARE_ADD.any(&mut all.source.random);
-            let mut inputs = (call.example)(&mut all.source, &cabinet);
-            spoil(&mut all.source, &cabinet, &mut inputs, 2);
-            inputs.0.pop();
-            inputs.0.push(Value::Bytes(held.clone()));
-            if (call.reference)(&inputs).refusal != 0 {
-                held = all.run.compare(call, &inputs).buffer().to_vec();
-            }
+            held = refused_feed(all, &cabinet, held);
         }
         let random = &mut all.source.random;
         let place = left.swap_remove(random.below(left.len()));
@@ -46,14 +44,36 @@ fn case(all: &mut Crosscheck) {
         let tray = helper * cabinet.layout[1] + place;
         let inputs = many_shares(&cabinet, count, host, tray, symbols, held);
         let (call, inputs) = pair::SHARE_ADD.either(random, inputs);
-        held = all.run.compare(call, &inputs).buffer().to_vec();
+        held = all.run.compare(call, &inputs).symbols().to_vec();
     }
     let random = &mut all.source.random;
-    let noise = random.bytes(length);
-    let inputs = many_shares(&cabinet, count, host, helper, &rack, noise);
+    let noise = random.noise(cabinet.field, length);
+    let inputs = many_shares(&cabinet, count, host, helper, &summed, noise);
     let (call, inputs) = pair::SHARE.either(random, inputs);
     let whole = all.run.compare(call, &inputs);
-    all.run.claim(held == whole.buffer(), || {
+    all.run.claim(held == whole.symbols(), || {
         format!("shares built up tray by tray: {inputs}")
     });
+}
+
+/// The symbols of a tray of a rack, added up three times: in the field of 256 they
+/// stay as they are.
+fn take_three_times(cabinet: &Cabinet, rack: &mut [Symbol], place: u32) {
+    let field = cabinet.field;
+    for symbol in &mut rack[cabinet.tray(place)] {
+        *symbol = field.add(field.add(*symbol, *symbol), *symbol);
+    }
+}
+
+/// What the shares hold after a call that is refused, or that was none.
+fn refused_feed(all: &mut Crosscheck, cabinet: &Cabinet, held: Vec<Symbol>) -> Vec<Symbol> {
+    let call = pair::SHARE_ADD.any(&mut all.source.random);
+    let mut inputs = (call.example)(&mut all.source, cabinet);
+    spoil(&mut all.source, cabinet, &mut inputs, 2);
+    inputs.values.pop();
+    inputs.values.push(Value::Symbols(held.clone()));
+    if (call.reference)(&inputs).refusal == 0 {
+        return held;
+    }
+    all.run.compare(call, &inputs).symbols().to_vec()
 }

@@ -25,9 +25,10 @@ fn case(all: &mut Crosscheck) {
     let far = random.below(cabinet.numbers.groups + 1) as u64;
     let spare = given.spare(random);
     let (call, piece) = given.piece(random, &spare, 0, far);
-    let spare = (call.library)(&piece).buffer().to_vec();
+    let spare = (call.library)(&piece).symbols().to_vec();
     let mut store = codeword.clone();
-    store[cabinet.tray(lost)].copy_from_slice(&random.bytes(cabinet.numbers.layers));
+    let noise = random.noise(cabinet.field, cabinet.numbers.layers);
+    store[cabinet.tray(lost)].copy_from_slice(&noise);
     for _ in 0..8 {
         let random = &mut all.source.random;
         let done = random.below(far as usize + 1) as u64;
@@ -35,7 +36,7 @@ fn case(all: &mut Crosscheck) {
         let answer = all.run.compare(&read_part::CALL, &inputs);
         let tray = &codeword[cabinet.tray(inputs.small(5))];
         let run = &tray[inputs.small(6) as usize..inputs.small(7) as usize];
-        let holds = answer.refusal == 13 || answer.refusal == 0 && answer.buffer() == run;
+        let holds = answer.refusal == 13 || answer.refusal == 0 && answer.symbols() == run;
         all.run
             .claim(holds, || format!("a read while repairing: {inputs}"));
     }

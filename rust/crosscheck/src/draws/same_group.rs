@@ -3,6 +3,7 @@
 
 use super::Draw;
 use crate::crosscheck::Crosscheck;
+use crate::field::Symbol;
 use crate::given::Given;
 
 pub const DRAW: Draw = Draw {
@@ -20,8 +21,8 @@ fn case(all: &mut Crosscheck) {
     let one = Given::draw(random, &cabinet, lost);
     let group = random.below(cabinet.numbers.groups);
     let mut other = Given {
-        shares: random.bytes(one.shares.len()),
-        host: random.bytes(one.host.len()),
+        shares: random.symbols(cabinet.field, one.shares.len()),
+        host: random.symbols(cabinet.field, one.host.len()),
         ..one.clone()
     };
     for at in (group..one.shares.len()).step_by(cabinet.numbers.groups) {
@@ -38,11 +39,11 @@ fn case(all: &mut Crosscheck) {
 }
 
 /// The spare after a piece that does the group among others.
-fn written(all: &mut Crosscheck, given: &Given, group: usize) -> Vec<u8> {
+fn written(all: &mut Crosscheck, given: &Given, group: usize) -> Vec<Symbol> {
     let random = &mut all.source.random;
     let first = random.below(group + 1);
     let budget = group - first + 1 + random.below(given.cabinet.numbers.groups);
     let spare = given.spare(random);
     let (call, piece) = given.piece(random, &spare, first as u64, budget as u64);
-    all.run.compare(call, &piece).buffer().to_vec()
+    all.run.compare(call, &piece).symbols().to_vec()
 }

@@ -8,6 +8,7 @@ use crate::calls::repair::budget;
 use crate::calls::walk::{self, BAD, SOUND, UNFINISHED};
 use crate::calls::{walk_reset, Call};
 use crate::crosscheck::Crosscheck;
+use crate::field::{in_field, symbols, Symbol};
 use crate::inputs::{Inputs, Value};
 use crate::source::Source;
 use crate::spoil::spoil;
@@ -26,7 +27,7 @@ const MOST_CALLS: usize = 12;
 /// A walk as far as it has come.
 struct Walk {
     cabinet: Cabinet,
-    codeword: Vec<u8>,
+    codeword: Vec<Symbol>,
     /// The codeword's bad layers, rising.
     bad: Vec<usize>,
     record: [u32; 3],
@@ -53,7 +54,9 @@ impl Walk {
         let layers = cabinet.numbers.layers;
         let walk = Walk {
             cabinet,
-            bad: bad_layers(cabinet.numbers, &codeword, 0..layers),
+            bad: in_field!(cabinet.field, {
+                bad_layers::<F>(cabinet.numbers, &symbols::<F>(&codeword), 0..layers)
+            }),
             codeword,
             record: record_of(&answer),
         };
@@ -122,7 +125,7 @@ fn record_of(answer: &Answer) -> [u32; 3] {
 fn refused(source: &mut Source, own: &Cabinet, record: [u32; 3]) -> (&'static Call, Inputs) {
     loop {
         let cabinet = if source.random.one_in(4) {
-            source.cabinet()
+            source.cabinet_of(own.field)
         } else {
             *own
         };
@@ -133,7 +136,7 @@ fn refused(source: &mut Source, own: &Cabinet, record: [u32; 3]) -> (&'static Ca
         let mut inputs = (call.example)(source, &cabinet);
         let times = 1 + source.random.below(3);
         spoil(source, &cabinet, &mut inputs, times);
-        inputs.0[at] = Value::Record(record);
+        inputs.values[at] = Value::Record(record);
         if (call.reference)(&inputs).refusal != 0 {
             return (call, inputs);
         }

@@ -23,7 +23,7 @@ fn item(all: &mut Crosscheck, set: usize) {
     let random = &mut all.source.random;
     let given = symbols(random, DIMENSION);
     let stored = store::inputs(random, given.clone());
-    let word = all.run.compare(&store::CALL, &stored).buffer().to_vec();
+    let word = all.run.compare(&store::CALL, &stored).bytes().to_vec();
     let random = &mut all.source.random;
     let lost = erase(random, word.clone(), &erased);
     if erased.len() > MOST_ERASED {
@@ -48,7 +48,7 @@ fn item(all: &mut Crosscheck, set: usize) {
 fn answered(all: &mut Crosscheck, call: &Call, inputs: &Inputs, expected: (u32, &[u8])) {
     let answer = all.run.compare(call, inputs);
     all.run
-        .claim((answer.refusal, answer.buffer()) == expected, || {
+        .claim((answer.refusal, answer.bytes()) == expected, || {
             format!("{} {inputs}: {answer}, not {expected:?}", call.name)
         });
 }

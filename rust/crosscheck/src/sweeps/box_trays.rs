@@ -3,7 +3,7 @@
 //! is looked at exactly where the tray is neither lost nor listed.
 
 use super::Sweep;
-use crate::calls::sixteen::{difference, erase, rack_of, recover, repair, share, word};
+use crate::calls::sixteen::{difference, erase, inputs, rack_of, recover, repair, share, word};
 use crate::calls::Call;
 use crate::crosscheck::Crosscheck;
 use crate::inputs::{Inputs, Value};
@@ -40,7 +40,7 @@ fn repairs(all: &mut Crosscheck, word: &[u8], tray: u32, set: u32) {
         _ => 5,
     };
     let mut inputs = repair::of_word(&mut all.source.random, word, tray, &helpers);
-    inputs.0[2] = Value::Bytes(vec![sent(all, word, host); 2]);
+    inputs.values[2] = Value::Bytes(vec![sent(all, word, host); 2]);
     let answer = answered(all, &repair::CALL, &inputs, refusal);
     if refusal == 0 {
         let value = word[tray as usize];
@@ -49,7 +49,7 @@ fn repairs(all: &mut Crosscheck, word: &[u8], tray: u32, set: u32) {
         });
         let mut differ = inputs.bytes(2).to_vec();
         differ[1] ^= difference(&mut all.source.random);
-        inputs.0[2] = Value::Bytes(differ);
+        inputs.values[2] = Value::Bytes(differ);
         answered(all, &repair::CALL, &inputs, 8);
     }
 }
@@ -84,7 +84,7 @@ fn places(all: &mut Crosscheck, word: &[u8], tray: usize, value: u8) {
     let random = &mut all.source.random;
     let other = (tray as u32 + 1 + random.below(TRAYS - 1) as u32) % TRAYS as u32;
     let kept = erase(random, values.clone(), &[other]);
-    let listed = Inputs(vec![Value::Bytes(values), Value::List(vec![tray as u32])]);
+    let listed = inputs(vec![Value::Bytes(values), Value::List(vec![tray as u32])]);
     answered(all, &recover::CALL, &kept, looked_at);
     answered(all, &recover::CALL, &listed, 0);
     let helpers: Vec<u32> = (0..RACKS as u32)
@@ -94,7 +94,7 @@ fn places(all: &mut Crosscheck, word: &[u8], tray: usize, value: u8) {
     let mut lost = repair::of_word(&mut all.source.random, word, tray as u32, &helpers);
     let mut host = lost.bytes(3).to_vec();
     host[tray % SIZE] = value;
-    lost.0[3] = Value::Bytes(host);
+    lost.values[3] = Value::Bytes(host);
     answered(all, &repair::CALL, &lost, 0);
 }
 
@@ -104,5 +104,5 @@ fn answered(all: &mut Crosscheck, call: &Call, inputs: &Inputs, refusal: u32) ->
     all.run.claim(answer.refusal == refusal, || {
         format!("{} {inputs}: {answer}, not {refusal}", call.name)
     });
-    answer.buffer().to_vec()
+    answer.bytes().to_vec()
 }

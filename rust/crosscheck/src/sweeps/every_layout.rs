@@ -1,8 +1,10 @@
-//! The layout call on every layout in a box that holds all admissible ones.
+//! The layout call of both fields on every layout in a box that holds all
+//! admissible ones.
 
 use super::Sweep;
 use crate::calls::measure;
 use crate::crosscheck::Crosscheck;
+use crate::field::FIELDS;
 use crate::inputs::{Inputs, Value};
 use crate::run::Run;
 
@@ -30,5 +32,8 @@ fn item(all: &mut Crosscheck, racks: usize) {
 }
 
 fn compare(run: &mut Run, layout: [u32; 4]) {
-    run.compare(&measure::CALL, &Inputs(vec![Value::Layout(layout)]));
+    for field in FIELDS {
+        let values = vec![Value::Layout(layout)];
+        run.compare(&measure::CALL, &Inputs { field, values });
+    }
 }

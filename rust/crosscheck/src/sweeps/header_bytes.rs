@@ -1,13 +1,13 @@
-//! Reading images with each byte of the header changed to each value, and cut
-//! or stretched to each length.
+//! Reading images with each byte of the header and of the first symbols changed to
+//! each value, and cut or stretched to each length.
 
 use super::Sweep;
 use crate::cabinet::Cabinet;
-use crate::calls::read_image;
+use crate::calls::{copy_image, read_image, write_image};
 use crate::crosscheck::Crosscheck;
-use crate::inputs::{Inputs, Value};
+use crate::field::Field;
+use crate::inputs::Value;
 use reference::image::HEADER;
-use reference::Tray;
 
 /// An item is an image.
 pub const SWEEP: Sweep = Sweep {
@@ -17,20 +17,27 @@ pub const SWEEP: Sweep = Sweep {
     item,
 };
 
-const LAYOUTS: [[u32; 4]; 6] = [
-    [2, 1, 1, 1],
-    [3, 1, 1, 2],
-    [4, 3, 8, 3],
-    [4, 3, 5, 2],
-    [2, 17, 17, 1],
-    [5, 5, 9, 4],
+const LAYOUTS: [(Field, [u32; 4]); 12] = [
+    (Field::Of256, [2, 1, 1, 1]),
+    (Field::Of256, [3, 1, 1, 2]),
+    (Field::Of256, [4, 3, 8, 3]),
+    (Field::Of256, [4, 3, 5, 2]),
+    (Field::Of256, [2, 17, 17, 1]),
+    (Field::Of256, [5, 5, 9, 4]),
+    (Field::Of257, [2, 1, 1, 1]),
+    (Field::Of257, [3, 1, 1, 2]),
+    (Field::Of257, [5, 4, 15, 4]),
+    (Field::Of257, [4, 4, 7, 2]),
+    (Field::Of257, [2, 16, 16, 1]),
+    (Field::Of257, [5, 8, 17, 4]),
 ];
 const VOLUME: u32 = 0x0102_0304;
 
 fn item(all: &mut Crosscheck, at: usize) {
-    let cabinet = Cabinet::new(LAYOUTS[at / 2]).expect("the layouts are admissible");
+    let (field, layout) = LAYOUTS[at / 2];
+    let cabinet = Cabinet::new(field, layout).expect("the layouts are admissible");
     let image = image(all, &cabinet, 1 + at as u32 % 2);
-    for byte in 0..HEADER {
+    for byte in 0..image.len().min(HEADER + 4) {
         for value in 0..=255 {
             let mut changed = image.clone();
             changed[byte] = value;
@@ -46,18 +53,22 @@ fn item(all: &mut Crosscheck, at: usize) {
 
 /// An image by the second program.
 fn image(all: &mut Crosscheck, cabinet: &Cabinet, state: u32) -> Vec<u8> {
-    let symbols = all.source.random.bytes(cabinet.numbers.layers);
-    let tray = Tray(all.source.random.below(cabinet.numbers.trays) as u32);
-    let lent = vec![0; HEADER + symbols.len()];
-    reference::write_image(cabinet.layout.into(), tray, state, VOLUME, &symbols, &lent)
-        .expect("the inputs are good")
+    let mut inputs = write_image::example(&mut all.source, cabinet);
+    inputs.values[2] = Value::Small(state);
+    inputs.values[3] = Value::Small(VOLUME);
+    (write_image::CALL.reference)(&inputs).bytes().to_vec()
 }
 
 fn read(all: &mut Crosscheck, cabinet: &Cabinet, image: Vec<u8>) {
-    let inputs = Inputs(vec![
-        Value::Layout(cabinet.layout),
-        Value::Small(VOLUME),
-        Value::Bytes(image),
-    ]);
-    all.run.compare(&read_image::CALL, &inputs);
+    let mut inputs = cabinet.inputs([Value::Small(VOLUME), Value::Bytes(image)]);
+    let call = match cabinet.field {
+        Field::Of256 => &read_image::CALL,
+        Field::Of257 => {
+            let random = &mut all.source.random;
+            let places = random.noise(cabinet.field, cabinet.numbers.layers);
+            inputs.values.push(Value::Symbols(places));
+            &copy_image::CALL
+        }
+    };
+    all.run.compare(call, &inputs);
 }

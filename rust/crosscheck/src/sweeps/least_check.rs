@@ -1,30 +1,30 @@
 //! Testing finds the first bad layer and the least check broken there, for
-//! every check of every small layout and of some large ones.
+//! every check of every small layout with several layers and of some others.
 
 use super::Sweep;
 use crate::cabinet::Cabinet;
 use crate::calls::test;
 use crate::crosscheck::Crosscheck;
-use crate::damage::least_broken;
+use crate::damage::{add_at, least_broken};
 use crate::source::Source;
 
-/// One large layout in so many is taken.
-const LARGE_STEP: usize = 60;
+/// Of the others, one in so many.
+const FLAT_STEP: usize = 2;
+const LARGE_STEP: usize = 120;
 
 pub const SWEEP: Sweep = Sweep {
     name: "least check",
-    items: |source| cabinets(source).len(),
+    items: |source| cabinets(source).count(),
     short_step: 120,
     item,
 };
 
-fn cabinets(source: &Source) -> Vec<Cabinet> {
-    let large = source.large.iter().step_by(LARGE_STEP);
-    source.up_to_small().chain(large).copied().collect()
+fn cabinets(source: &Source) -> impl Iterator<Item = Cabinet> + '_ {
+    source.small(FLAT_STEP).chain(source.large(LARGE_STEP))
 }
 
 fn item(all: &mut Crosscheck, at: usize) {
-    let cabinet = cabinets(&all.source)[at];
+    let cabinet = cabinets(&all.source).nth(at).expect("an item is a layout");
     let sound = cabinet.codeword(&mut all.source.random);
     for check in 0..cabinet.numbers.checks {
         let random = &mut all.source.random;
@@ -34,7 +34,12 @@ fn item(all: &mut Crosscheck, at: usize) {
         // A later layer that breaks a lower check must not be reported.
         if layer + 1 < cabinet.numbers.layers {
             let later = layer + 1 + random.below(cabinet.numbers.layers - layer - 1);
-            codeword[later] ^= random.nonzero();
+            add_at(
+                &cabinet,
+                &mut codeword,
+                later,
+                random.nonzero(cabinet.field),
+            );
         }
         let answer = all
             .run

@@ -7,21 +7,28 @@ use crate::calls::{repair_many, share_add_many, share_many, Call};
 use crate::crosscheck::Crosscheck;
 use crate::given::Given;
 use crate::inputs::{Inputs, Value};
+use crate::source::Source;
 
 /// An item is a layout.
 pub const SWEEP: Sweep = Sweep {
     name: "lost counts",
-    items: |source| source.up_to_small().count(),
+    items: |source| cabinets(source).count(),
     short_step: 80,
     item,
 };
+
+/// Of the layouts with one layer, one in so many.
+const FLAT_STEP: usize = 2;
+
+fn cabinets(source: &Source) -> impl Iterator<Item = Cabinet> + '_ {
+    source.small(FLAT_STEP)
+}
 
 /// A count that is 1 in its lowest byte.
 const FAR: usize = 257;
 
 fn item(all: &mut Crosscheck, at: usize) {
-    let cabinet = all.source.up_to_small().nth(at).copied();
-    let cabinet = cabinet.expect("an item is a layout");
+    let cabinet = cabinets(&all.source).nth(at).expect("an item is a layout");
     let size = cabinet.numbers.size;
     for count in (0..=size + 1).chain([FAR]) {
         // The refusal of a call that would otherwise get this one.
@@ -45,8 +52,8 @@ fn shares(all: &mut Crosscheck, cabinet: &Cabinet, count: usize, with: impl Fn(u
     let mut add = share_add_many::draw(random, cabinet, count);
     answered(all, &share_many::CALL, &share, with(0));
     answered(all, &share_add_many::CALL, &add, with(0));
-    share.0[2] = Value::Small(share.small(3));
-    add.0[2] = Value::Small(cabinet.rack_of(add.small(3)));
+    share.values[2] = Value::Small(share.small(3));
+    add.values[2] = Value::Small(cabinet.rack_of(add.small(3)));
     answered(all, &share_many::CALL, &share, with(6));
     answered(all, &share_add_many::CALL, &add, with(6));
 }

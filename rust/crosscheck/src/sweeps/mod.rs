@@ -5,6 +5,7 @@ mod box_losses;
 mod box_trays;
 mod every_layout;
 mod header_bytes;
+mod large_numbers;
 mod least_check;
 mod lost_counts;
 mod small_layouts;
@@ -22,12 +23,13 @@ pub struct Sweep {
     pub item: fn(&mut Crosscheck, usize),
 }
 
-pub const SWEEPS: [&Sweep; 8] = [
+pub const SWEEPS: [&Sweep; 9] = [
     &every_layout::SWEEP,
     &small_layouts::SWEEP,
     &least_check::SWEEP,
     &header_bytes::SWEEP,
     &lost_counts::SWEEP,
+    &large_numbers::SWEEP,
     &whole_repairs::SWEEP,
     &box_losses::SWEEP,
     &box_trays::SWEEP,

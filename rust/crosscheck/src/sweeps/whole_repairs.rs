@@ -6,21 +6,28 @@ use crate::cabinet::Cabinet;
 use crate::calls::repair::budget;
 use crate::calls::{store, Call};
 use crate::crosscheck::Crosscheck;
+use crate::field::{Field, Symbol};
 use crate::given::Given;
 use crate::inputs::Inputs;
 use crate::source::Source;
 
 /// These are always among them, with so many lost trays.
-const COUNTED: [([u32; 4], usize); 6] = [
-    ([4, 3, 6, 3], 3),
-    ([4, 3, 6, 3], 2),
-    ([4, 3, 6, 3], 1),
-    ([4, 3, 7, 3], 2),
-    ([4, 3, 7, 3], 1),
-    ([10, 3, 24, 9], 2),
+const COUNTED: [(Field, [u32; 4], usize); 12] = [
+    (Field::Of256, [4, 3, 6, 3], 3),
+    (Field::Of256, [4, 3, 6, 3], 2),
+    (Field::Of256, [4, 3, 6, 3], 1),
+    (Field::Of256, [4, 3, 7, 3], 2),
+    (Field::Of256, [4, 3, 7, 3], 1),
+    (Field::Of256, [10, 3, 24, 9], 2),
+    (Field::Of257, [4, 4, 8, 3], 4),
+    (Field::Of257, [4, 4, 8, 3], 1),
+    (Field::Of257, [4, 4, 9, 3], 3),
+    (Field::Of257, [4, 4, 9, 3], 2),
+    (Field::Of257, [3, 16, 18, 2], 9),
+    (Field::Of257, [10, 2, 16, 9], 2),
 ];
 /// These too, with any number of them.
-const NAMED: [[u32; 4]; 13] = [
+const NAMED_256: [[u32; 4]; 13] = [
     [4, 3, 5, 2],
     [5, 3, 4, 3],
     [4, 3, 8, 3],
@@ -35,10 +42,20 @@ const NAMED: [[u32; 4]; 13] = [
     [11, 3, 27, 10],
     [12, 1, 10, 11],
 ];
+const NAMED_257: [[u32; 4]; 9] = [
+    [5, 4, 15, 4],
+    [4, 4, 7, 2],
+    [5, 2, 3, 3],
+    [2, 16, 16, 1],
+    [5, 8, 17, 4],
+    [6, 8, 16, 5],
+    [10, 4, 32, 9],
+    [7, 8, 40, 6],
+    [12, 4, 40, 11],
+];
 /// Of the others, one in so many.
-const FLAT_STEP: usize = 16;
-const SMALL_STEP: usize = 1;
-const LARGE_STEP: usize = 90;
+const FLAT_STEP: usize = 32;
+const LARGE_STEP: usize = 180;
 
 pub const SWEEP: Sweep = Sweep {
     name: "whole repairs",
@@ -49,13 +66,12 @@ pub const SWEEP: Sweep = Sweep {
 
 /// The layouts, with a number of lost trays or any.
 fn cases(source: &Source) -> Vec<(Cabinet, Option<usize>)> {
-    let named = |layout| Cabinet::new(layout).expect("they are admissible");
-    let counted = COUNTED.map(|(layout, count)| (named(layout), Some(count)));
-    let flat = source.flat.iter().step_by(FLAT_STEP);
-    let small = source.small.iter().step_by(SMALL_STEP);
-    let large = source.large.iter().step_by(LARGE_STEP);
-    let others = flat.chain(small).chain(large).copied();
-    let of_any_count = NAMED.map(named).into_iter().chain(others);
+    let named = |field, layout| Cabinet::new(field, layout).expect("they are admissible");
+    let counted = COUNTED.map(|(field, layout, count)| (named(field, layout), Some(count)));
+    let of_256 = NAMED_256.map(|layout| named(Field::Of256, layout));
+    let of_257 = NAMED_257.map(|layout| named(Field::Of257, layout));
+    let others = source.small(FLAT_STEP).chain(source.large(LARGE_STEP));
+    let of_any_count = of_256.into_iter().chain(of_257).chain(others);
     counted
         .into_iter()
         .chain(of_any_count.map(|cabinet| (cabinet, None)))
@@ -65,7 +81,7 @@ fn cases(source: &Source) -> Vec<(Cabinet, Option<usize>)> {
 fn item(all: &mut Crosscheck, at: usize) {
     let (cabinet, count) = cases(&all.source)[at];
     let stored = store::example(&mut all.source, &cabinet);
-    let codeword = all.run.compare(&store::CALL, &stored).buffer().to_vec();
+    let codeword = all.run.compare(&store::CALL, &stored).symbols().to_vec();
     for tray in cabinet.tray_numbers() {
         let random = &mut all.source.random;
         let count = count.unwrap_or_else(|| cabinet.lost_count(random));
@@ -73,7 +89,7 @@ fn item(all: &mut Crosscheck, at: usize) {
         let share = |call: &Call, inputs: &Inputs| all.run.compare(call, inputs);
         let given = Given::of_codeword(random, &cabinet, &codeword, lost, share);
         let lost_symbols = |&lost: &u32| &codeword[cabinet.tray(lost)];
-        let expected: Vec<u8> = given.lost.iter().flat_map(lost_symbols).copied().collect();
+        let expected: Vec<Symbol> = given.lost.iter().flat_map(lost_symbols).copied().collect();
         for cut in [false, true] {
             let exact = repaired(all, &given, cut) == expected;
             all.run.claim(exact, || {
@@ -84,7 +100,7 @@ fn item(all: &mut Crosscheck, at: usize) {
 }
 
 /// The spare after a repair in one piece or in several.
-fn repaired(all: &mut Crosscheck, given: &Given, cut: bool) -> Vec<u8> {
+fn repaired(all: &mut Crosscheck, given: &Given, cut: bool) -> Vec<Symbol> {
     let groups = given.cabinet.numbers.groups as u64;
     let mut spare = given.spare(&mut all.source.random);
     let mut first = 0;
@@ -96,7 +112,7 @@ fn repaired(all: &mut Crosscheck, given: &Given, cut: bool) -> Vec<u8> {
             groups
         };
         let (call, piece) = given.piece(random, &spare, first, budget);
-        spare = all.run.compare(call, &piece).buffer().to_vec();
+        spare = all.run.compare(call, &piece).symbols().to_vec();
         first += budget.min(groups - first);
     }
     spare

@@ -1,89 +1,56 @@
 //! What the tests share.
-#![allow(dead_code)] // each test file uses a part
+#![allow(dead_code, unused_imports, unused_macros)] // each test file uses a part
 
 pub mod cases;
+mod dice;
 pub mod sixteen;
+mod tried;
+
+pub use dice::Dice;
+pub use tried::Tried;
 
 use reference::checks::Checks;
 use reference::elimination::solve;
 use reference::*;
 
-/// Layouts with more than one layer a group, of every shape that matters: racks
-/// of one, of several, k no multiple of u, racks that neither host nor help.
-pub const SHAPES: [[u32; 4]; 6] = [
-    [3, 1, 1, 2],
-    [4, 1, 1, 2],
-    [3, 3, 4, 2],
-    [4, 3, 8, 3],
-    [4, 3, 5, 2],
-    [5, 3, 4, 3],
-];
+/// A test of each field from each function over any field.
+macro_rules! over_both_fields {
+    ($($name:ident,)*) => {
+        $(mod $name {
+            #[test]
+            fn of_256() {
+                super::$name::<reference::Field256>();
+            }
 
-/// Layouts for e lost trays of one rack: e up to u = 3; up to 2 of 3; the same
-/// with a rack that neither hosts nor helps; up to 3 of 5; the least rack.
-pub const SHAPES_OF_MANY: [[u32; 4]; 5] = [
-    [4, 3, 6, 3],
-    [4, 3, 7, 3],
-    [5, 3, 7, 3],
-    [3, 5, 7, 2],
-    [4, 1, 1, 2],
-];
+            #[test]
+            fn of_257() {
+                super::$name::<reference::Field257>();
+            }
+        })*
+    };
+}
+pub(crate) use over_both_fields;
 
-/// Numbers that differ by seed and follow no pattern of the code's.
-pub struct Dice(u64);
-
-impl Dice {
-    pub fn new(seed: u64) -> Dice {
-        Dice(seed.wrapping_mul(0x9E37_79B9_7F4A_7C15) | 1)
-    }
-
-    pub fn byte(&mut self) -> u8 {
-        self.0 = self
-            .0
-            .wrapping_mul(6_364_136_223_846_793_005)
-            .wrapping_add(1_442_695_040_888_963_407);
-        (self.0 >> 56) as u8
-    }
-
-    pub fn bytes(&mut self, length: usize) -> Vec<u8> {
-        (0..length).map(|_| self.byte()).collect()
-    }
-
-    /// A number below a bound of at most 65,536.
-    pub fn below(&mut self, bound: usize) -> usize {
-        (usize::from(self.byte()) << 8 | usize::from(self.byte())) % bound
-    }
-
-    /// So many of the numbers below a bound, rising.
-    pub fn choose(&mut self, count: usize, bound: usize) -> Vec<usize> {
-        let mut left: Vec<usize> = (0..bound).collect();
-        while left.len() > count {
-            left.remove(self.below(left.len()));
-        }
-        left
-    }
-
-    pub fn shuffle<T>(&mut self, list: &mut [T]) {
-        for at in 1..list.len() {
-            list.swap(at, self.below(at + 1));
-        }
-    }
+/// The symbol of a small number.
+pub fn symbol<F: Field>(number: u16) -> F::Symbol {
+    number.try_into().expect("a number of the field")
 }
 
-/// Bytes that differ by seed and follow no pattern of the code's.
-pub fn scattered(seed: u64, length: usize) -> Vec<u8> {
-    Dice::new(seed).bytes(length)
+/// Symbols that differ by seed and follow no pattern of the code's.
+pub fn scattered<F: Tried>(seed: u64, length: usize) -> Vec<F::Symbol> {
+    Dice::new(seed).symbols::<F>(length)
 }
 
 /// A codeword of scattered data.
-pub fn codeword(layout: Layout, seed: u64) -> Vec<u8> {
+pub fn codeword<F: Tried>(layout: Layout<F>, seed: u64) -> Vec<F::Symbol> {
     let numbers = layout.numbers().unwrap();
-    let data = scattered(seed, numbers.dimension * numbers.layers);
-    store(layout, &data, &vec![0; numbers.trays * numbers.layers]).unwrap()
+    let data = scattered::<F>(seed, numbers.dimension * numbers.layers);
+    let lent = vec![F::ZERO; numbers.trays * numbers.layers];
+    store(layout, &data, &lent).unwrap()
 }
 
 /// Every admissible layout.
-pub fn admissible() -> Vec<Layout> {
+pub fn admissible<F: Field>() -> Vec<Layout<F>> {
     let mut found = vec![];
     for racks in 0..62 {
         for size in 0..20 {
@@ -98,32 +65,37 @@ pub fn admissible() -> Vec<Layout> {
     found
 }
 
-/// A rack's bytes of a codeword.
-pub fn rack_of(numbers: &Numbers, codeword: &[u8], rack: usize) -> Vec<u8> {
+/// A rack's symbols of a codeword.
+pub fn rack_of<S: Copy>(numbers: &Numbers, codeword: &[S], rack: usize) -> Vec<S> {
     let length = numbers.size * numbers.layers;
     codeword[rack * length..(rack + 1) * length].to_vec()
 }
 
-/// A tray's bytes of a codeword.
-pub fn tray_of(numbers: &Numbers, codeword: &[u8], tray: Tray) -> Vec<u8> {
+/// A tray's symbols of a codeword.
+pub fn tray_of<S: Copy>(numbers: &Numbers, codeword: &[S], tray: Tray) -> Vec<S> {
     codeword[tray.0 as usize * numbers.layers..][..numbers.layers].to_vec()
 }
 
 /// The shares of the helpers, one after another.
-pub fn shares(layout: Layout, codeword: &[u8], host: Rack, helpers: &[Rack]) -> Vec<u8> {
+pub fn shares<F: Field>(
+    layout: Layout<F>,
+    codeword: &[F::Symbol],
+    host: Rack,
+    helpers: &[Rack],
+) -> Vec<F::Symbol> {
     shares_of_many(layout, codeword, 1, host, helpers)
 }
 
 /// The shares of the helpers for e lost trays, one after another.
-pub fn shares_of_many(
-    layout: Layout,
-    codeword: &[u8],
+pub fn shares_of_many<F: Field>(
+    layout: Layout<F>,
+    codeword: &[F::Symbol],
     lost_count: usize,
     host: Rack,
     helpers: &[Rack],
-) -> Vec<u8> {
+) -> Vec<F::Symbol> {
     let numbers = layout.numbers().unwrap();
-    let out = vec![0; lost_count * numbers.groups];
+    let out = vec![F::ZERO; lost_count * numbers.groups];
     let of_helper = |&helper: &Rack| {
         let rack = rack_of(&numbers, codeword, helper.0 as usize);
         share_many(layout, lost_count as u32, host, helper, &rack, &out).unwrap()
@@ -145,12 +117,31 @@ pub fn lost_lists(numbers: &Numbers, host: usize, count: usize) -> Vec<Vec<Tray>
 
 /// What to add in a layer to the first r trays so that, of all checks, just one
 /// sees it.
-pub fn seen_by_one(checks: &Checks, count: usize, layer: usize, seen: usize) -> Vec<u8> {
+pub fn seen_by_one<F: Field>(
+    checks: &Checks<F>,
+    count: usize,
+    layer: usize,
+    seen: usize,
+) -> Vec<F::Symbol> {
     let equation = |t| {
         let coefficients = (0..count).map(|tray| checks.coefficient(tray, layer, t));
-        coefficients.chain([u8::from(t == seen)]).collect()
+        let sum = if t == seen { F::ONE } else { F::ZERO };
+        coefficients.chain([sum]).collect()
     };
-    solve((0..count).map(equation).collect(), count).unwrap()
+    solve::<F>((0..count).map(equation).collect(), count).unwrap()
+}
+
+/// Adds to a layer of the first trays of a codeword.
+pub fn add_to_layer<F: Field>(
+    numbers: &Numbers,
+    codeword: &mut [F::Symbol],
+    layer: usize,
+    added: &[F::Symbol],
+) {
+    for (tray, &symbol) in added.iter().enumerate() {
+        let at = tray * numbers.layers + layer;
+        codeword[at] = F::add(codeword[at], symbol);
+    }
 }
 
 /// Every choice of d racks out of the others than the host.

@@ -1,6 +1,6 @@
 //! The data of the box from its survivors.
 
-use super::{reference_trays, survivors, Call};
+use super::{reference_trays, survivors, Call, Looks};
 use crate::answer::Answer;
 use crate::inputs::{Inputs, Kind, Value};
 use crate::lent::Lent;
@@ -11,6 +11,7 @@ pub const CALL: Call = Call {
     name: "box_data",
     shape: &[Kind::Bytes, Kind::List, Kind::Bytes],
     grounds: &[2, 3, 4, 5, 8],
+    looks: Looks::AtNone,
     example: |source, _| {
         let from = survivors(&mut source.random);
         inputs(&mut source.random, &from)
@@ -22,7 +23,7 @@ pub const CALL: Call = Call {
 /// The inputs of a recovery, and 7 bytes of anything.
 pub fn inputs(random: &mut Random, recovery: &Inputs) -> Inputs {
     let mut inputs = recovery.clone();
-    inputs.0.push(Value::Bytes(random.bytes(DIMENSION)));
+    inputs.values.push(Value::Bytes(random.bytes(DIMENSION)));
     inputs
 }
 
@@ -32,7 +33,7 @@ fn library(inputs: &Inputs) -> Answer {
     let mut data = Lent::bytes(inputs.bytes(2));
     let given = gesarumbo::sixteen::data(values.part(), erased.part(), data.part_mut());
     Answer::new(given.map(|()| []))
-        .written(&data)
+        .written_bytes(&data)
         .read("the values", &values)
         .read("the erased list", &erased)
 }
@@ -40,5 +41,5 @@ fn library(inputs: &Inputs) -> Answer {
 fn reference(inputs: &Inputs) -> Answer {
     let [values, data] = [inputs.bytes(0), inputs.bytes(2)];
     let erased = reference_trays(inputs);
-    Answer::filled(data, reference::sixteen::data(values, &erased, data))
+    Answer::filled_bytes(data, reference::sixteen::data(values, &erased, data))
 }

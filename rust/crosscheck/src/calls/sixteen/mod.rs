@@ -1,5 +1,5 @@
-//! The calls of the sixteen-tray box. They have no layout, so their examples are
-//! the same over every cabinet.
+//! The calls of the sixteen-tray box, one file and one entry of [`CALLS`] each.
+//! They have no layout, so their examples are the same over every cabinet.
 
 pub mod data;
 pub mod recover;
@@ -7,15 +7,29 @@ pub mod repair;
 pub mod share;
 pub mod store;
 
-use super::Call;
+use super::{Call, Looks};
 use crate::cabinet::Cabinet;
+use crate::field::Field;
 use crate::inputs::{Inputs, Kind, Value};
 use crate::random::Random;
 use reference::sixteen::{DIMENSION, HELPERS, MOST_ERASED, RACKS, SIZE, TRAYS};
 use reference::{Numbers, Tray};
 
+pub const CALLS: [&Call; 5] = [
+    &store::CALL,
+    &data::CALL,
+    &recover::CALL,
+    &share::CALL,
+    &repair::CALL,
+];
+
+/// The field that the box's inputs name, though it is of neither: its symbols are
+/// lent as bytes, and its vectors stand in files of this one.
+pub const FIELD: Field = Field::Of256;
+
 /// The box's numbers in place of a layout's: what a spoilt input is near to.
 pub const NUMBERS: Cabinet = Cabinet {
+    field: FIELD,
     layout: [RACKS as u32, SIZE as u32, DIMENSION as u32, HELPERS as u32],
     numbers: Numbers {
         racks: RACKS,
@@ -30,6 +44,14 @@ pub const NUMBERS: Cabinet = Cabinet {
         groups: 1,
     },
 };
+
+/// The inputs of a call of the box.
+pub fn inputs(values: Vec<Value>) -> Inputs {
+    Inputs {
+        field: FIELD,
+        values,
+    }
+}
 
 /// So many symbols of the field of 16.
 pub fn symbols(random: &mut Random, count: usize) -> Vec<u8> {
@@ -57,7 +79,7 @@ pub fn erase(random: &mut Random, mut values: Vec<u8>, erased: &[u32]) -> Inputs
     for &tray in erased {
         values[tray as usize] = random.byte();
     }
-    Inputs(vec![Value::Bytes(values), Value::List(erased.to_vec())])
+    inputs(vec![Value::Bytes(values), Value::List(erased.to_vec())])
 }
 
 /// The kinds of these inputs.

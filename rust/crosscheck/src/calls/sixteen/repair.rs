@@ -1,6 +1,6 @@
 //! Repairing a lost tray of the box.
 
-use super::{difference, rack_of, symbols, word, Call, NUMBERS};
+use super::{difference, rack_of, symbols, word, Call, Looks, NUMBERS};
 use crate::answer::Answer;
 use crate::inputs::{Inputs, Kind, Value};
 use crate::lent::Lent;
@@ -17,6 +17,7 @@ pub const CALL: Call = Call {
         Kind::Bytes,
     ],
     grounds: &[2, 3, 4, 5, 6, 8],
+    looks: Looks::AtNone,
     example: |source, _| example(&mut source.random),
     library,
     reference,
@@ -34,12 +35,12 @@ fn example(random: &mut Random) -> Inputs {
         0 => {
             let mut shares = inputs.bytes(2).to_vec();
             shares[random.below(HELPERS)] ^= difference(random);
-            inputs.0[2] = Value::Bytes(shares);
+            inputs.values[2] = Value::Bytes(shares);
         }
         1 => {
             let share = symbols(random, 1)[0];
-            inputs.0[2] = Value::Bytes(vec![share; HELPERS]);
-            inputs.0[3] = Value::Bytes(symbols(random, SIZE));
+            inputs.values[2] = Value::Bytes(vec![share; HELPERS]);
+            inputs.values[3] = Value::Bytes(symbols(random, SIZE));
         }
         _ => {}
     }
@@ -51,7 +52,7 @@ pub fn of_word(random: &mut Random, word: &[u8], lost: u32, helpers: &[u32]) -> 
     let share = |&helper: &u32| top(helper as usize, rack_of(word, helper));
     let mut host = rack_of(word, lost / SIZE as u32).to_vec();
     host[lost as usize % SIZE] = random.byte();
-    Inputs(vec![
+    super::inputs(vec![
         Value::Small(lost),
         Value::List(helpers.to_vec()),
         Value::Bytes(helpers.iter().map(share).collect()),
@@ -73,7 +74,7 @@ fn library(inputs: &Inputs) -> Answer {
         spare.part_mut(),
     );
     Answer::new(repaired.map(|done| [i128::from(done.crossed)]))
-        .written(&spare)
+        .written_bytes(&spare)
         .read("the helper list", &helpers)
         .read("the shares", &shares)
         .read("the host rack", &host)
@@ -94,8 +95,6 @@ fn reference(inputs: &Inputs) -> Answer {
     };
     let spare = inputs.bytes(4);
     let repaired = reference::sixteen::repair(given, spare);
-    let after = repaired
-        .as_ref()
-        .map_or(spare.to_vec(), |done| done.spare.clone());
-    Answer::new(repaired.map(|done| [i128::from(done.crossed)])).lent(spare, &after)
+    let after = repaired.as_ref().ok().map(|done| done.spare.clone());
+    Answer::new(repaired.map(|done| [i128::from(done.crossed)])).lent_bytes(spare, after.as_deref())
 }

@@ -1,6 +1,6 @@
 //! A helper's share for a lost tray of the box.
 
-use super::{symbols, Call};
+use super::{symbols, Call, Looks};
 use crate::answer::Answer;
 use crate::inputs::{Inputs, Kind, Value};
 use crate::lent::Lent;
@@ -11,6 +11,7 @@ pub const CALL: Call = Call {
     name: "box_share",
     shape: &[Kind::Small, Kind::Small, Kind::Bytes, Kind::Bytes],
     grounds: &[2, 3, 6],
+    looks: Looks::AtNone,
     example: |source, _| example(&mut source.random),
     library,
     reference,
@@ -25,7 +26,7 @@ fn example(random: &mut Random) -> Inputs {
 
 /// The inputs for these values, over a byte of anything.
 pub fn inputs(random: &mut Random, host: u32, helper: u32, rack: &[u8]) -> Inputs {
-    Inputs(vec![
+    super::inputs(vec![
         Value::Small(host),
         Value::Small(helper),
         Value::Bytes(rack.to_vec()),
@@ -39,12 +40,12 @@ fn library(inputs: &Inputs) -> Answer {
     let mut share = Lent::bytes(inputs.bytes(3));
     let shared = gesarumbo::sixteen::share(host, helper, rack.part(), share.part_mut());
     Answer::new(shared.map(|()| []))
-        .written(&share)
+        .written_bytes(&share)
         .read("the helper's rack", &rack)
 }
 
 fn reference(inputs: &Inputs) -> Answer {
     let [host, helper] = [0, 1].map(|at| reference::Rack(inputs.small(at)));
     let [rack, share] = [inputs.bytes(2), inputs.bytes(3)];
-    Answer::filled(share, reference::sixteen::share(host, helper, rack, share))
+    Answer::filled_bytes(share, reference::sixteen::share(host, helper, rack, share))
 }

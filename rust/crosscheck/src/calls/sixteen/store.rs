@@ -1,6 +1,6 @@
 //! Storing in the box.
 
-use super::{symbols, Call};
+use super::{symbols, Call, Looks};
 use crate::answer::Answer;
 use crate::inputs::{Inputs, Kind, Value};
 use crate::lent::Lent;
@@ -11,6 +11,7 @@ pub const CALL: Call = Call {
     name: "box_store",
     shape: &[Kind::Bytes, Kind::Bytes],
     grounds: &[2, 3],
+    looks: Looks::AtNone,
     example: |source, _| example(&mut source.random),
     library,
     reference,
@@ -24,7 +25,7 @@ fn example(random: &mut Random) -> Inputs {
 /// The inputs for these data, over 16 bytes of anything.
 pub fn inputs(random: &mut Random, data: Vec<u8>) -> Inputs {
     let values = random.bytes(TRAYS);
-    Inputs(vec![Value::Bytes(data), Value::Bytes(values)])
+    super::inputs(vec![Value::Bytes(data), Value::Bytes(values)])
 }
 
 fn library(inputs: &Inputs) -> Answer {
@@ -32,11 +33,11 @@ fn library(inputs: &Inputs) -> Answer {
     let mut values = Lent::bytes(inputs.bytes(1));
     let stored = gesarumbo::sixteen::store(data.part(), values.part_mut());
     Answer::new(stored.map(|()| []))
-        .written(&values)
+        .written_bytes(&values)
         .read("the data", &data)
 }
 
 fn reference(inputs: &Inputs) -> Answer {
     let [data, values] = [inputs.bytes(0), inputs.bytes(1)];
-    Answer::filled(values, reference::sixteen::store(data, values))
+    Answer::filled_bytes(values, reference::sixteen::store(data, values))
 }

@@ -1,0 +1,13 @@
+-- Made by tools/twin.py from crates/gesarumbo/proofs/field256/gesarumbo_repair_many/Proof.antt.
+use borrow.Author.Needs.{needs}
+use Rattle.gesarumbo.proofs.Shown.{repair-many-shown}
+use Rattle.gesarumbo.proofs.field257.gesarumbo257_repair_many.Statement.{statement}
+use Rattle.gesarumbo.proofs.field257.gesarumbo257_repair_many.Tie as tie
+
+pub gesarumbo257-repair-many-spec : {M : Type 1} → statement M
+gesarumbo257-repair-many-spec =
+    tie.close (tie.spec
+    (λ c κs. search needs)
+    (λ c κs. search needs)
+    (λ c. search needs)
+    (λ c. search repair-many-shown))

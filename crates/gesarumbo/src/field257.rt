@@ -1,0 +1,227 @@
+// Made by tools/twin.py from crates/gesarumbo/src/field256.rt.
+// The calls over the field modulo 257.
+use crate::numbers;
+use crate::numbers::MarginNumbers;
+use crate::numbers::MeasureNumbers;
+use crate::numbers::PartNumbers;
+use crate::numbers::RepairNumbers;
+use crate::numbers::ScrubNumbers;
+use crate::numbers::TestNumbers;
+use layout::Layout;
+use layout::Rack;
+use layout::Tray;
+use scrub::Walk;
+use symbol257::plain::ORDER;
+ghost use mathlib.Core.Path.{_≡_};
+ghost use mathlib.Core.List.{[], _∷_};
+ghost use lib.ListN.{length};
+ghost use Rattle.symbol257.specs.Elem.{gf257};
+ghost use Rattle.layout.specs.Layout.{measured};
+ghost use Rattle.recover.specs.Recover.{RecoverAnswer};
+ghost use Rattle.store.specs.Store.{StoreAnswer};
+ghost use Rattle.margin.specs.Margin.{marginRefusal, marginValue};
+ghost use Rattle.share.specs.Share.{shareRefusal, shareBuffer, addRefusal, addBuffer};
+ghost use Rattle.share.specs.Many.{manyRefusal, manyBuffer, addManyRefusal, addManyBuffer};
+ghost use Rattle.scrub.specs.Scrub.{scrubbed, begun};
+ghost use Rattle.gesarumbo.specs.Boundary.{measureNumbers, scrubNumbers, TestShown, RepairShown, PartShown};
+
+#[no_mangle]
+pub extern "C" fn gesarumbo257_measure(l: Layout) -> MeasureNumbers
+    ensures { λ r. ⌜ r ≡ measureNumbers (measured (gf257 .order) l) ⌝ }
+{
+    numbers::measure_numbers(layout::measure(ORDER as u32, l))
+}
+
+#[no_mangle]
+pub extern "C" fn gesarumbo257_test(l: Layout, codeword: &[u16]) -> TestNumbers
+    ensures { λ r. ⌜ TestShown gf257 l (now (codeword .entry)) r ⌝ }
+{
+    numbers::test_numbers(testing257::test(l, codeword))
+}
+
+#[no_mangle]
+pub extern "C" fn gesarumbo257_share(
+    l: Layout,
+    host: u32,
+    helper: u32,
+    rack: &[u16],
+    share: &mut [u16],
+) -> u32
+    ensures answer { λ r. ⌜ r ≡ shareRefusal gf257 l host helper (now (rack .entry)) (length (now (share .entry))) ⌝ }
+    ensures buffer { λ _. ⌜ now (share .exit) ≡ shareBuffer gf257 l host helper (now (rack .entry)) (now (share .entry)) ⌝ }
+{
+    share257::share(l, Rack::of(host), Rack::of(helper), rack, share) as u32
+}
+
+#[no_mangle]
+pub extern "C" fn gesarumbo257_share_add(
+    l: Layout,
+    host: u32,
+    tray: u32,
+    symbols: &[u16],
+    share: &mut [u16],
+) -> u32
+    ensures answer { λ r. ⌜ r ≡ addRefusal gf257 l host tray (now (symbols .entry)) (now (share .entry)) ⌝ }
+    ensures buffer { λ _. ⌜ now (share .exit) ≡ addBuffer gf257 l host tray (now (symbols .entry)) (now (share .entry)) ⌝ }
+{
+    share257::share_add(l, Rack::of(host), Tray::of(tray), symbols, share) as u32
+}
+
+#[no_mangle]
+pub extern "C" fn gesarumbo257_share_many(
+    l: Layout,
+    count: u32,
+    host: u32,
+    helper: u32,
+    rack: &[u16],
+    share: &mut [u16],
+) -> u32
+    ensures answer { λ r. ⌜ r ≡ manyRefusal gf257 l count host helper (now (rack .entry)) (length (now (share .entry))) ⌝ }
+    ensures buffer { λ _. ⌜ now (share .exit) ≡ manyBuffer gf257 l count host helper (now (rack .entry)) (now (share .entry)) ⌝ }
+{
+    share257::share_many(l, count, Rack::of(host), Rack::of(helper), rack, share) as u32
+}
+
+#[no_mangle]
+pub extern "C" fn gesarumbo257_share_add_many(
+    l: Layout,
+    count: u32,
+    host: u32,
+    tray: u32,
+    symbols: &[u16],
+    share: &mut [u16],
+) -> u32
+    ensures answer { λ r. ⌜ r ≡ addManyRefusal gf257 l count host tray (now (symbols .entry)) (now (share .entry)) ⌝ }
+    ensures buffer { λ _. ⌜ now (share .exit) ≡ addManyBuffer gf257 l count host tray (now (symbols .entry)) (now (share .entry)) ⌝ }
+{
+    share257::share_add_many(l, count, Rack::of(host), Tray::of(tray), symbols, share) as u32
+}
+
+#[no_mangle]
+pub extern "C" fn gesarumbo257_repair(
+    l: Layout,
+    lost: u32,
+    helpers: &[u32],
+    shares: &[u16],
+    host: &[u16],
+    spare: &mut [u16],
+    first: u64,
+    budget: u64,
+) -> RepairNumbers
+    ensures { λ r. ⌜ RepairShown gf257 l (lost ∷ []) (now (helpers .entry)) (now (shares .entry)) (now (host .entry)) first budget (now (spare .entry)) (now (spare .exit)) r ⌝ }
+{
+    numbers::repair_numbers(repair257::repair(
+        l,
+        Tray::of(lost),
+        helpers,
+        shares,
+        host,
+        spare,
+        first,
+        budget,
+    ))
+}
+
+#[no_mangle]
+pub extern "C" fn gesarumbo257_repair_many(
+    l: Layout,
+    lost: &[u32],
+    helpers: &[u32],
+    shares: &[u16],
+    host: &[u16],
+    spare: &mut [u16],
+    first: u64,
+    budget: u64,
+) -> RepairNumbers
+    ensures { λ r. ⌜ RepairShown gf257 l (now (lost .entry)) (now (helpers .entry)) (now (shares .entry)) (now (host .entry)) first budget (now (spare .entry)) (now (spare .exit)) r ⌝ }
+{
+    numbers::repair_numbers(repair257::repair_many(
+        l,
+        lost,
+        helpers,
+        shares,
+        host,
+        spare,
+        first,
+        budget,
+    ))
+}
+
+#[no_mangle]
+pub extern "C" fn gesarumbo257_read_part<'a>(
+    l: Layout,
+    codeword: &'a [u16],
+    spare: &'a [u16],
+    lost: u32,
+    done: u64,
+    tray: u32,
+    first: u32,
+    end: u32,
+) -> PartNumbers
+    ensures { λ r. ⌜ PartShown (gf257 .order) l (now (codeword .entry)) (now (spare .entry)) lost done tray first end r ⌝ }
+{
+    let mut refusal = 0u32;
+    let part = reading257::read_part(
+        l,
+        codeword,
+        spare,
+        Tray::of(lost),
+        done,
+        Tray::of(tray),
+        first,
+        end,
+        &mut refusal,
+    );
+    let length = part.len();
+    if refusal != 0 {
+        return PartNumbers {
+            refusal: refusal,
+            source: 0,
+            offset: 0,
+            length: 0,
+        };
+    }
+    let start = tray as usize * layout::layer_count(l) as usize + first as usize;
+    numbers::part_numbers(lost, tray, first, start, length)
+}
+
+#[no_mangle]
+pub extern "C" fn gesarumbo257_store(l: Layout, words: &[u16], codeword: &mut [u16]) -> u32
+    ensures { λ r. ⌜ StoreAnswer gf257 l (now (words .entry)) (now (codeword .entry)) (now (codeword .exit)) r ⌝ }
+{
+    store257::store(l, words, codeword) as u32
+}
+
+#[no_mangle]
+pub extern "C" fn gesarumbo257_recover(l: Layout, codeword: &mut [u16], erased: &[u32]) -> u32
+    ensures { λ r. ⌜ RecoverAnswer gf257 l (now (erased .entry)) (now (codeword .entry)) (now (codeword .exit)) r ⌝ }
+{
+    recover257::recover(l, codeword, erased) as u32
+}
+
+#[no_mangle]
+pub extern "C" fn gesarumbo257_margin(l: Layout, states: &[u8]) -> MarginNumbers
+    ensures refusal { λ r. ⌜ r .refusal ≡ marginRefusal (gf257 .order) l (now (states .entry)) ⌝ }
+    ensures margin { λ r. ⌜ r .margin ≡ marginValue (gf257 .order) l (now (states .entry)) ⌝ }
+{
+    numbers::margin_numbers(margin::margin(ORDER as u32, l, states))
+}
+
+#[no_mangle]
+pub extern "C" fn gesarumbo257_scrub_reset(l: Layout, walk: Walk) -> ScrubNumbers
+    ensures { λ r. ⌜ r ≡ scrubNumbers (begun (gf257 .order) l walk) ⌝ }
+{
+    numbers::scrub_numbers(scrub257::reset(l, walk))
+}
+
+#[no_mangle]
+pub extern "C" fn gesarumbo257_scrub(
+    l: Layout,
+    codeword: &[u16],
+    walk: Walk,
+    budget: u64,
+) -> ScrubNumbers
+    ensures { λ r. ⌜ r ≡ scrubNumbers (scrubbed gf257 l (now (codeword .entry)) walk budget) ⌝ }
+{
+    numbers::scrub_numbers(scrub257::step(l, codeword, walk, budget))
+}

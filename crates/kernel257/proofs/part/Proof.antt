@@ -1,0 +1,41 @@
+-- Made by tools/twin.py from crates/kernel/proofs/part/Proof.antt.
+use mathlib.Core.Path.{_≡_, refl}
+use Prim.Native.Nat.{_-_, _≤_}
+use native.Mathlib.Omega.{arith}
+use lib.ListN.{length, length-set}
+use borrow.Author.Needs.{needs}
+use Rattle.symbol257.specs.Elem.{gf257}
+use Rattle.kernel.specs.Runs.{Run, parted}
+use Rattle.kernel.proofs.Runs.{run-none, run-end, part-more}
+use Rattle.kernel257.proofs.part.Statement.{statement}
+use Rattle.kernel257.proofs.part.Tie as tie
+
+abbrev Inv-loop : tie.InvT-loop
+Inv-loop out₀ to len src a b j₀ out j = (j ≤ len) × (length out ≡ length out₀) × Run (parted gf257 out₀ to src a b) out₀ out to j
+
+abbrev μ-loop : tie.MeasureT-loop
+μ-loop out₀ to len src a b j₀ out j = len - j
+
+pub part-spec : {M : Type 1} → statement M
+part-spec =
+    tie.close (tie.spec Inv-loop μ-loop
+    (λ c. (omega arith, refl, run-none _ _ _))
+    (λ c. omega arith)
+    (λ c. omega arith)
+    (λ c. omega arith)
+    (λ c. omega arith)
+    (λ c. omega arith)
+    (λ c. omega arith)
+    (λ c. omega arith)
+    (λ c. omega arith)
+    (λ c. omega arith)
+    (λ c κs. search needs)
+    (λ c κs. search needs)
+    (λ c. omega arith)
+    (λ c. omega arith)
+    (λ c. omega arith)
+    (λ c. omega arith)
+    (λ c. omega arith)
+    (λ c. (omega arith, simp length-set (omega arith), search part-more))
+    (λ c. omega arith)
+    (λ c. search run-end))

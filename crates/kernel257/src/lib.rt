@@ -1,0 +1,274 @@
+// Made by tools/twin.py from crates/kernel/src/lib.rt.
+// Kernels: loops over a run of symbols, one loop each with one step a symbol and no branch or table, so that the compiler does many symbols at a time.
+// Each promises what its run holds afterwards and that every other symbol of the buffer is as it was. Beside them the table of inverses with its look-up,
+// and the test for zeros, which stops early.
+use symbol257::plain::ORDER;
+use symbol257::plain::all_powers;
+use symbol257::plain::difference;
+use symbol257::plain::index;
+use symbol257::plain::product;
+use symbol257::plain::sum;
+ghost use mathlib.Core.Path.{_≡_};
+ghost use Prim.Native.Nat.{_+_, _*_, _<_, _≤_};
+ghost use lib.ListN.{length, getD};
+ghost use Rattle.symbol257.specs.Elem.{gf257};
+ghost use Rattle.kernel.specs.Runs.{Run, filled, copied, repeated, added, addedProduct, addedMultiple, stepped, accrued, shifted, parted, lookedUp, sampled};
+ghost use Rattle.kernel.specs.Runs.{Spaced, addedSpaced, sumApart, addedApart, allZero, Inverses};
+
+// The symbol at a place.
+pub fn at(xs: &[u16], i: usize) -> u16
+    requires { ⌜ i < length (now xs) ⌝ }
+    ensures { λ r. ⌜ r ≡ getD (now (xs .entry)) i 0 ⌝ }
+{
+    xs[i]
+}
+
+// v at len places from the place `to` on.
+pub fn fill(out: &mut [u16], to: usize, len: usize, v: u16)
+    requires { ⌜ to + len ≤ length (now out) ⌝ }
+    ensures { λ _. ⌜ Run (filled v) (now (out .entry)) (now (out .exit)) to len ⌝ }
+{
+    let mut j = 0usize;
+    while j < len {
+        out[to + j] = v;
+        j += 1;
+    }
+}
+
+// A copy of another buffer's run.
+pub fn copy(out: &mut [u16], to: usize, len: usize, src: &[u16], from: usize)
+    requires { ⌜ (to + len ≤ length (now out)) × (from + len ≤ length (now src)) ⌝ }
+    ensures { λ _. ⌜ Run (copied (now (src .entry)) from) (now (out .entry)) (now (out .exit)) to len ⌝ }
+{
+    let mut j = 0usize;
+    while j < len {
+        out[to + j] = src[from + j];
+        j += 1;
+    }
+}
+
+// A copy of an earlier run of the same buffer.
+pub fn repeat(out: &mut [u16], to: usize, from: usize, len: usize)
+    requires { ⌜ (from + len ≤ to) × (to + len ≤ length (now out)) ⌝ }
+    ensures { λ _. ⌜ Run (copied (now (out .entry)) from) (now (out .entry)) (now (out .exit)) to len ⌝ }
+{
+    let mut j = 0usize;
+    while j < len {
+        out[to + j] = out[from + j];
+        j += 1;
+    }
+}
+
+// The smaller of two numbers.
+fn smaller(a: usize, b: usize) -> usize
+    requires { ⌜ (0 < a) × (0 < b) ⌝ }
+    ensures { λ m. ⌜ (m ≤ a) × (m ≤ b) × (0 < m) ⌝ }
+{
+    if a < b { a } else { b }
+}
+
+// The first so many symbols, again and again.
+pub fn extend(row: &mut [u16], period: usize, count: usize)
+    requires { ⌜ (count * period ≤ length (now row)) × (0 < count) ⌝ }
+    ensures { λ _. ⌜ Run (repeated (now (row .entry)) period) (now (row .entry)) (now (row .exit)) 0 (count * period) ⌝ }
+{
+    let mut c = 1usize;
+    while c < count {
+        let m = smaller(c, count - c);
+        repeat(row, c * period, 0, m * period);
+        c += m;
+    }
+}
+
+// Every step-th symbol of another buffer.
+pub fn sample(out: &mut [u16], to: usize, len: usize, src: &[u16], step: usize)
+    requires { ⌜ (to + len ≤ length (now out)) × (len * step ≤ length (now src)) × (0 < step) ⌝ }
+    ensures { λ _. ⌜ Run (sampled (now (src .entry)) step) (now (out .entry)) (now (out .exit)) to len ⌝ }
+{
+    let mut j = 0usize;
+    while j < len {
+        out[to + j] = src[j * step];
+        j += 1;
+    }
+}
+
+// A run plus another buffer's.
+pub fn add(out: &mut [u16], to: usize, len: usize, src: &[u16], from: usize)
+    requires { ⌜ (to + len ≤ length (now out)) × (from + len ≤ length (now src)) ⌝ }
+    ensures { λ _. ⌜ Run (added gf257 (now (out .entry)) to (now (src .entry)) from) (now (out .entry)) (now (out .exit)) to len ⌝ }
+{
+    let mut j = 0usize;
+    while j < len {
+        out[to + j] = sum(out[to + j], src[from + j]);
+        j += 1;
+    }
+}
+
+// The sum of n symbols, so many places apart.
+fn sum_apart(src: &[u16], at: usize, gap: usize, n: usize) -> u16
+    requires { ⌜ at + n * gap < length (now src) + gap ⌝ }
+    ensures { λ r. ⌜ r ≡ sumApart gf257 (now (src .entry)) at gap n ⌝ }
+{
+    let mut v = 0u16;
+    let mut b = 0usize;
+    while b < n {
+        v = sum(v, src[at + b * gap]);
+        b += 1;
+    }
+    v
+}
+
+// A run plus n runs of another buffer, so many places apart.
+pub fn add_apart(
+    out: &mut [u16],
+    to: usize,
+    len: usize,
+    src: &[u16],
+    from: usize,
+    gap: usize,
+    n: usize,
+)
+    requires { ⌜ (to + len ≤ length (now out)) × (from + len ≤ length (now src)) × (from + n * gap + len ≤ length (now src) + gap) ⌝ }
+    ensures { λ _. ⌜ Run (addedApart gf257 (now (out .entry)) to (now (src .entry)) from gap n) (now (out .entry)) (now (out .exit)) to len ⌝ }
+{
+    let mut j = 0usize;
+    while j < len {
+        out[to + j] = sum(out[to + j], sum_apart(src, from + j, gap, n));
+        j += 1;
+    }
+}
+
+// Every step-th symbol plus every stride-th one of another buffer.
+pub fn add_spaced(
+    out: &mut [u16],
+    to: usize,
+    step: usize,
+    len: usize,
+    src: &[u16],
+    from: usize,
+    stride: usize,
+)
+    requires { ⌜ (to + len * step < length (now out) + step) × (from + len * stride < length (now src) + stride) × (0 < step) ⌝ }
+    ensures { λ _. ⌜ Spaced (addedSpaced gf257 (now (out .entry)) to step (now (src .entry)) from stride) (now (out .entry)) (now (out .exit)) to step len ⌝ }
+{
+    let mut j = 0usize;
+    while j < len {
+        out[to + j * step] = sum(out[to + j * step], src[from + j * stride]);
+        j += 1;
+    }
+}
+
+// A run plus the products of two other buffers' runs.
+pub fn add_product(
+    out: &mut [u16],
+    to: usize,
+    len: usize,
+    src: &[u16],
+    from: usize,
+    by: &[u16],
+    at: usize,
+)
+    requires { ⌜ (to + len ≤ length (now out)) × (from + len ≤ length (now src)) × (at + len ≤ length (now by)) ⌝ }
+    ensures { λ _. ⌜ Run (addedProduct gf257 (now (out .entry)) to (now (src .entry)) from (now (by .entry)) at) (now (out .entry)) (now (out .exit)) to len ⌝ }
+{
+    let mut j = 0usize;
+    while j < len {
+        out[to + j] = sum(out[to + j], product(src[from + j], by[at + j]));
+        j += 1;
+    }
+}
+
+// A run plus another buffer's, times one symbol.
+pub fn add_multiple(out: &mut [u16], to: usize, len: usize, src: &[u16], from: usize, v: u16)
+    requires { ⌜ (to + len ≤ length (now out)) × (from + len ≤ length (now src)) ⌝ }
+    ensures { λ _. ⌜ Run (addedMultiple gf257 (now (out .entry)) to (now (src .entry)) from v) (now (out .entry)) (now (out .exit)) to len ⌝ }
+{
+    let mut j = 0usize;
+    while j < len {
+        out[to + j] = sum(out[to + j], product(src[from + j], v));
+        j += 1;
+    }
+}
+
+// The current terms times their factors, and the products added to a run.
+pub fn accrue(out: &mut [u16], to: usize, len: usize, cur: &mut [u16], by: &[u16])
+    requires { ⌜ (to + len ≤ length (now out)) × (len ≤ length (now cur)) × (len ≤ length (now by)) ⌝ }
+    ensures { λ _. ⌜ Run (accrued gf257 (now (out .entry)) to (now (cur .entry)) (now (by .entry))) (now (out .entry)) (now (out .exit)) to len ⌝ }
+    ensures { λ _. ⌜ Run (stepped gf257 (now (cur .entry)) (now (by .entry))) (now (cur .entry)) (now (cur .exit)) 0 len ⌝ }
+{
+    let mut j = 0usize;
+    while j < len {
+        let v = product(cur[j], by[j]);
+        cur[j] = v;
+        out[to + j] = sum(out[to + j], v);
+        j += 1;
+    }
+}
+
+// What is carried, less a run times another buffer's; the run as it was is carried on.
+pub fn shift(out: &mut [u16], to: usize, len: usize, carry: &mut [u16], by: &[u16], at: usize)
+    requires { ⌜ (to + len ≤ length (now out)) × (len ≤ length (now carry)) × (at + len ≤ length (now by)) ⌝ }
+    ensures { λ _. ⌜ Run (shifted gf257 (now (out .entry)) to (now (carry .entry)) (now (by .entry)) at) (now (out .entry)) (now (out .exit)) to len ⌝ }
+    ensures { λ _. ⌜ Run (copied (now (out .entry)) to) (now (carry .entry)) (now (carry .exit)) 0 len ⌝ }
+{
+    let mut j = 0usize;
+    while j < len {
+        let v = out[to + j];
+        out[to + j] = difference(carry[j], product(v, by[at + j]));
+        carry[j] = v;
+        j += 1;
+    }
+}
+
+// A run times the differences of two runs of another buffer.
+pub fn part(out: &mut [u16], to: usize, len: usize, src: &[u16], a: usize, b: usize)
+    requires { ⌜ (to + len ≤ length (now out)) × (a + len ≤ length (now src)) × (b + len ≤ length (now src)) ⌝ }
+    ensures { λ _. ⌜ Run (parted gf257 (now (out .entry)) to (now (src .entry)) a b) (now (out .entry)) (now (out .exit)) to len ⌝ }
+{
+    let mut j = 0usize;
+    while j < len {
+        out[to + j] = product(out[to + j], difference(src[a + j], src[b + j]));
+        j += 1;
+    }
+}
+
+// What a table of all symbols has for each symbol of a run.
+pub fn look_up(out: &mut [u16], to: usize, len: usize, table: &[u16])
+    requires { ⌜ (to + len ≤ length (now out)) × (length (now table) ≡ gf257 .coding .size) ⌝ }
+    ensures { λ _. ⌜ Run (lookedUp gf257 (now (out .entry)) to (now (table .entry))) (now (out .entry)) (now (out .exit)) to len ⌝ }
+{
+    let mut j = 0usize;
+    while j < len {
+        out[to + j] = table[index(out[to + j])];
+        j += 1;
+    }
+}
+
+// Whether the first len symbols are zero.
+pub fn all_zero(xs: &[u16], len: usize) -> bool
+    requires { ⌜ len ≤ length (now xs) ⌝ }
+    ensures { λ r. ⌜ r ≡ allZero gf257 (now (xs .entry)) len ⌝ }
+{
+    let mut j = 0usize;
+    while j < len {
+        if index(xs[j]) != 0 {
+            return false;
+        }
+        j += 1;
+    }
+    true
+}
+
+// A table of the inverses of all symbols; of zero, zero.
+pub fn inverses(table: &mut [u16])
+    requires { ⌜ length (now table) ≡ gf257 .coding .size ⌝ }
+    ensures { λ _. ⌜ Inverses gf257 (now (table .exit)) ⌝ }
+{
+    let powers = all_powers();
+    table[0] = 0;
+    let mut i = 0usize;
+    while i < ORDER {
+        table[index(powers[i])] = powers[(ORDER - i) % ORDER];
+        i += 1;
+    }
+}

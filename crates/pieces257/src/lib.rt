@@ -1,0 +1,178 @@
+// Made by tools/twin.py from crates/pieces/src/lib.rt.
+// A piece of a repair: consecutive groups, a block at a time. A block is a power of s of groups that begins at a multiple of itself, so that the groups' points
+// go through it in runs (crates sums and group). Promises that the layers of these groups in the spare are as the rule fixes them, and every other symbol as
+// it was.
+use layout::Layout;
+use symbol257::plain::SIZE;
+ghost use Prim.Native.Nat.{_+_, _%_, _≤_};
+ghost use lib.ListN.{length};
+ghost use Rattle.symbol257.specs.Elem.{gf257};
+ghost use Rattle.kernel.specs.Runs.{Inverses};
+ghost use Rattle.layout.specs.Layout.{Cabinet};
+ghost use Rattle.rule.specs.Lost.{Piece};
+ghost use Rattle.sums.specs.Inner.{Groups};
+ghost use Rattle.pieces.specs.Inner.{Rows, Fitting, Piecing, Rooms};
+
+// The rows that a block needs: for the unknowns of its groups, and for their host sums.
+fn row_count(l: Layout, e: u32) -> u32
+    requires { ⌜ Cabinet l × (e + l .dimension % l .size ≤ l .size) ⌝ }
+    ensures { λ r. ⌜ Rows l e r ⌝ }
+{
+    let unknowns = sums257::unknown_count(l);
+    let host_sums = e * layout::digit_count(l);
+    if unknowns < host_sums {
+        return host_sums;
+    }
+    unknowns
+}
+
+// Repairs a block of groups.
+fn mend_block(
+    l: Layout,
+    lost: &[u32],
+    helpers: &[u32],
+    shares: &[u16],
+    host: &[u16],
+    w: u32,
+    first: u32,
+    spare: &mut [u16],
+    sums: &mut [u16],
+    sides: &mut [u16],
+    found: &mut [u16],
+    points: &mut [u16],
+    coefs: &mut [u16],
+    row: &mut [u16],
+    cur: &mut [u16],
+    table: &[u16],
+)
+    requires { ⌜ Piecing (gf257 .order) l (now lost) (now helpers) (now shares) (now host) first w (now spare) × Groups l w first × Fitting l (length (now lost)) w × Rooms (now sums) (now sides) (now found) (now points) (now coefs) (now row) (now cur) × Inverses gf257 (now table) ⌝ }
+    ensures { λ _. ⌜ Piece gf257 l (now (lost .entry)) (now (helpers .entry)) (now (shares .entry)) (now (host .entry)) first w (now (spare .entry)) (now (spare .exit)) ⌝ }
+{
+    let h = lost[0] / l.size;
+    let e = lost.len() as u32;
+    sums257::block_sums(
+        sums,
+        l,
+        h,
+        w as usize,
+        first as usize,
+        helpers,
+        shares,
+        e,
+        sides,
+        found,
+        points,
+        coefs,
+        row,
+        cur,
+        table,
+    );
+    group257::mend_block(
+        l,
+        h,
+        lost,
+        host,
+        w as usize,
+        first,
+        sums,
+        sides,
+        found,
+        points,
+        coefs,
+        row,
+        cur,
+        table,
+        spare,
+    );
+}
+
+// Block after block.
+fn mend_blocks(
+    l: Layout,
+    lost: &[u32],
+    helpers: &[u32],
+    shares: &[u16],
+    host: &[u16],
+    first: u32,
+    count: u32,
+    spare: &mut [u16],
+    sums: &mut [u16],
+    sides: &mut [u16],
+    found: &mut [u16],
+    points: &mut [u16],
+    coefs: &mut [u16],
+    row: &mut [u16],
+    cur: &mut [u16],
+    table: &[u16],
+)
+    requires { ⌜ Piecing (gf257 .order) l (now lost) (now helpers) (now shares) (now host) first count (now spare) × Rooms (now sums) (now sides) (now found) (now points) (now coefs) (now row) (now cur) × Inverses gf257 (now table) ⌝ }
+    ensures { λ _. ⌜ Piece gf257 l (now (lost .entry)) (now (helpers .entry)) (now (shares .entry)) (now (host .entry)) first count (now (spare .entry)) (now (spare .exit)) ⌝ }
+{
+    let rows = row_count(l, lost.len() as u32);
+    let mut k = 0u32;
+    while k < count {
+        let w = blocks::block_at(l, first + k, count - k, rows);
+        mend_block(
+            l,
+            lost,
+            helpers,
+            shares,
+            host,
+            w,
+            first + k,
+            spare,
+            sums,
+            sides,
+            found,
+            points,
+            coefs,
+            row,
+            cur,
+            table,
+        );
+        k += w;
+    }
+}
+
+// Repairs `count` groups from `first` on.
+pub fn mend_groups(
+    l: Layout,
+    lost: &[u32],
+    helpers: &[u32],
+    shares: &[u16],
+    host: &[u16],
+    first: u32,
+    count: u32,
+    spare: &mut [u16],
+)
+    requires { ⌜ Piecing (gf257 .order) l (now lost) (now helpers) (now shares) (now host) first count (now spare) ⌝ }
+    ensures { λ _. ⌜ Piece gf257 l (now (lost .entry)) (now (helpers .entry)) (now (shares .entry)) (now (host .entry)) first count (now (spare .entry)) (now (spare .exit)) ⌝ }
+{
+    let mut sums = [0u16; blocks::ROOM];
+    let mut sides = [0u16; blocks::ROOM];
+    let mut found = [0u16; blocks::ROOM];
+    let mut points = [0u16; blocks::ROOM];
+    let mut coefs = [0u16; blocks::ROOM];
+    let mut row = [0u16; blocks::BLOCK];
+    let mut cur = [0u16; blocks::BLOCK];
+    let mut table = [0u16; SIZE];
+    kernel257::inverses(&mut table);
+    mend_blocks(
+        l,
+        lost,
+        helpers,
+        shares,
+        host,
+        first,
+        count,
+        spare,
+        &mut sums,
+        &mut sides,
+        &mut found,
+        &mut points,
+        &mut coefs,
+        &mut row,
+        &mut cur,
+        &table,
+    );
+}

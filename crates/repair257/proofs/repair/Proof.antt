@@ -1,0 +1,20 @@
+-- Made by tools/twin.py from crates/repair/proofs/repair/Proof.antt.
+use mathlib.Core.Path.{subst}
+use mathlib.Core.List.{[], _∷_}
+use borrow.Author.Needs.{needs}
+use Rattle.symbol257.specs.Elem.{gf257}
+use Rattle.repair.specs.Repair.{RepairAnswer}
+use Rattle.repair257.proofs.repair.Statement.{statement}
+use Rattle.repair257.proofs.repair.Tie as tie
+
+pub repair-spec : {M : Type 1} → statement M
+repair-spec =
+    tie.close (tie.spec
+    (λ c κs. search needs)
+    (λ c. search needs)
+    (λ c κs. search needs)
+    (λ c. search needs)
+    (λ c.
+    let a = c .before .before .before .before .before .before .before .before .before .before .args in
+    subst (λ y. RepairAnswer gf257 (a .l) (y ∷ []) (a .helpers .now) (a .shares .now) (a .host .now) (a .first) (a .budget) (a .spare .now) (c .before .before .repair-many .last .1 .1 .1 .1 .1 .0) (c .before .before .repair-many .result)) (c .before .before .before .before .before .number .ensures)
+    (c .before .before .repair-many .ensures)))

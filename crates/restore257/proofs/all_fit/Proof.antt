@@ -1,0 +1,17 @@
+-- Made by tools/twin.py from crates/restore/proofs/all_fit/Proof.antt.
+use mathlib.Core.Path.{_∙_}
+use Prim.Native.Nat.{_-_}
+use Rattle.symbol257.proofs.Working.{working}
+use Rattle.restore.proofs.Fits.{fit-all}
+use borrow.Author.Needs.{needs}
+use Rattle.restore257.proofs.all_fit.Statement.{statement}
+use Rattle.restore257.proofs.all_fit.Tie as tie
+
+pub all-fit-spec : {M : Type 1} → statement M
+all-fit-spec =
+    tie.close (tie.spec
+    (λ c κs. search needs)
+    (λ c. search needs)
+    (λ c. let a = c .before .before .before .before .args in fit-all working (a .l) (a .total) (a .es .now) (a .c .now) (c .before .before .before .before .pre .0) (c .before .before .before .before .pre .1) (c .if1 .taken ∙ c .before .check-count .ensures))
+    (λ c κs. search needs)
+    (λ c. search needs))

@@ -1,0 +1,56 @@
+-- Made by tools/twin.py from crates/restore/proofs/restore_blocks/Proof.antt.
+use mathlib.Core.Path.{_≡_, refl}
+use Prim.Native.Nat.{_-_, _*_, _/_, _≤_}
+use native.Mathlib.Omega.{arith}
+use lib.ListN.{length}
+use borrow.Author.Needs.{needs}
+use Rattle.symbol257.specs.Elem.{gf257}
+use Rattle.symbol257.proofs.Working.{working}
+use Rattle.restore.specs.Restored.{RestoredTo}
+use Rattle.blocks.proofs.Whole.{start-fits, width-pos, count-whole, block-of}
+use Rattle.restore.proofs.Put.{restored-none, restored-more, restored-end}
+use Rattle.restore.proofs.Room.{space-next, space-as, erasing-next, count-fits}
+use Rattle.restore257.proofs.restore_blocks.Statement.{statement}
+use Rattle.restore257.proofs.restore_blocks.Tie as tie
+
+abbrev Inv-loop : tie.InvT-loop
+Inv-loop c₀ l total e es sums₀ found₀ points₀ coefs₀ row₀ cur₀ table w count q₀ c sums found points coefs row cur q = (q ≤ count) × (length c ≡ length c₀) × (length sums ≡ length sums₀) × (length found ≡ length found₀) × (length points ≡ length points₀) × (length coefs ≡ length coefs₀) × (length row ≡ length row₀) × (length cur ≡ length cur₀) × RestoredTo gf257 l es c₀ (q * w) c
+
+abbrev μ-loop : tie.MeasureT-loop
+μ-loop c₀ l total e es sums₀ found₀ points₀ coefs₀ row₀ cur₀ table w count q₀ c sums found points coefs row cur q = count - q
+
+pub restore-blocks-spec : {M : Type 1} → statement M
+restore-blocks-spec =
+    tie.close (tie.spec Inv-loop μ-loop
+    (λ c κs. (search needs, omega arith))
+    (λ c.
+    let c1 = c .before .before .before .before .before .before .before .before .before .before in
+    width-pos (c1 .args .l) (c1 .args .e) (c .block-width .result) (c1 .args .total) (c1 .pre .1 .adm) (c1 .pre .0) (c .block-width .ensures)
+    (c1 .pre .1 .total-is))
+    (λ c. (omega arith, refl, refl, refl, refl, refl, refl, refl, restored-none working _ _ _ _))
+    (λ c.
+    let c1 = c .before in
+    let c2 = c1 .before in
+    let c3 = c2 .before in
+    let c4 = c3 .before .before .before .before .before .before .before .before .before .before in
+    start-fits (c4 .args .l) (c3 .block-width .result) (c2 .loop .q * c3 .block-width .result) (block-of (c4 .args .l) (c4 .args .e)
+    (c3 .block-width .result) (c4 .args .total) (c4 .pre .1 .adm) (c4 .pre .0) (c3 .block-width .ensures) (c4 .pre .1 .total-is) (c2 .loop .q)
+    (c1 .loop-test .taken)))
+    (λ c κs. let a = c .before .before .before .before .before .before .before .before .before .before .before .before .before .before .before .before .before .before .before .args in let p = c .before .before .before .before .before .before .before .before .before .before .before .before .before .before .before .before .before .before .before .pre in ((block-of (a .l) (a .e) (c .before .before .before .before .before .before .before .before .before .block-width .result) (a .total) (c .before .before .before .before .before .before .before .before .before .before .before .before .before .before .before .before .before .before .before .pre .1 .adm) (c .before .before .before .before .before .before .before .before .before .before .before .before .before .before .before .before .before .before .before .pre .0) (c .before .before .before .before .before .before .before .before .before .block-width .ensures) (c .before .before .before .before .before .before .before .before .before .before .before .before .before .before .before .before .before .before .before .pre .1 .total-is) (c .before .before .before .before .before .before .before .before .loop .q) (c .before .before .before .before .before .before .before .loop-test .taken)), p .0, c .before .before .before .before .before .before .before .before .before .block-width .ensures, erasing-next (a .l) (a .total) (a .es .now) (a .c .now) (c .before .before .before .before .before .before .before .before .loop .c) (p .1) (c .before .before .before .before .before .before .before .before .loop .inv .1), space-next (a .l) (c .before .before .before .before .before .before .before .before .before .block-width .result) (a .sums .now) (a .found .now) (a .points .now) (a .coefs .now) (a .row .now) (c .before .before .before .before .before .before .before .before .loop .sums) (c .before .before .before .before .before .before .before .before .loop .found) (c .before .before .before .before .before .before .before .before .loop .points) (c .before .before .before .before .before .before .before .before .loop .coefs) (c .before .before .before .before .before .before .before .before .loop .row) (space-as (a .l) (a .e) (c .before .before .before .before .before .before .before .before .before .block-width .result) (a .sums .now) (a .found .now) (a .points .now) (a .coefs .now) (a .row .now) (c .before .before .before .before .before .before .before .before .before .block-width .ensures) (p .2)) (c .before .before .before .before .before .before .before .before .loop .inv .2) (c .before .before .before .before .before .before .before .before .loop .inv .3) (c .before .before .before .before .before .before .before .before .loop .inv .4) (c .before .before .before .before .before .before .before .before .loop .inv .5) (c .before .before .before .before .before .before .before .before .loop .inv .6), omega (arith, c .before .before .before .before .before .before .before .before .before .block-width .ensures, p .3, c .before .before .before .before .before .before .before .before .loop .inv .7), p .4))
+    (λ c.
+    let c1 = c .before .before .before .before .before .before .before .before .before .before .before .before .before .before .before .before .before .before .before .before .before .before in
+    let c2 = c1 .before in
+    let c3 = c2 .before in
+    let c4 = c3 .before .before .before .before .before .before .before .before .before .before in
+    count-fits (c4 .args .l) (c4 .args .total) (c3 .block-width .result) (c2 .loop .q) (c4 .args .es .now) (c4 .args .c .now) (c4 .pre .1)
+    (c1 .loop-test .taken))
+    (λ c. omega arith)
+    (λ c. (omega (arith, c .before .before .before .before .before .before .before .before .before .before .before .before .before .before .before .before .before .before .before .before .before .before .loop-test .taken), search needs, search needs, search needs, search needs, search needs, search needs, search needs, let a = c .before .before .before .before .before .before .before .before .before .before .before .before .before .before .before .before .before .before .before .before .before .before .before .before .before .before .before .before .before .before .before .before .before .before .args in restored-more working (a .l) (a .es .now) (a .c .now) (c .before .before .before .before .before .before .before .before .before .before .before .before .before .before .before .before .before .before .before .before .before .before .before .before .block-width .result) (c .before .before .before .before .before .before .before .before .before .before .before .before .before .before .before .before .before .before .before .before .before .before .before .loop .q) (c .before .before .before .before .before .before .before .before .before .before .before .before .before .before .before .before .before .before .before .before .before .before .before .loop .c) (c .before .before .before .before .before .before .before .before .before .before .before .before .before .before .restore-block .last .0) (c .before .before .before .before .before .before .before .before .before .before .before .before .before .before .before .before .before .before .before .before .before .before .before .before .before .before .before .before .before .before .before .before .before .before .pre .1 .listed .places) ((block-of (a .l) (a .e) (c .before .before .before .before .before .before .before .before .before .before .before .before .before .before .before .before .before .before .before .before .before .before .before .before .block-width .result) (a .total) (c .before .before .before .before .before .before .before .before .before .before .before .before .before .before .before .before .before .before .before .before .before .before .before .before .before .before .before .before .before .before .before .before .before .before .pre .1 .adm) (c .before .before .before .before .before .before .before .before .before .before .before .before .before .before .before .before .before .before .before .before .before .before .before .before .before .before .before .before .before .before .before .before .before .before .pre .0) (c .before .before .before .before .before .before .before .before .before .before .before .before .before .before .before .before .before .before .before .before .before .before .before .before .block-width .ensures) (c .before .before .before .before .before .before .before .before .before .before .before .before .before .before .before .before .before .before .before .before .before .before .before .before .before .before .before .before .before .before .before .before .before .before .pre .1 .total-is) (c .before .before .before .before .before .before .before .before .before .before .before .before .before .before .before .before .before .before .before .before .before .before .before .loop .q) (c .before .before .before .before .before .before .before .before .before .before .before .before .before .before .before .before .before .before .before .before .before .before .loop-test .taken)) .inside) (c .before .before .before .before .before .before .before .before .before .before .before .before .before .before .before .before .before .before .before .before .before .before .before .loop .inv .8) (c .before .before .before .before .before .before .before .before .before .before .before .before .before .before .restore-block .ensures)))
+    (λ c. search needs)
+    (λ c. search needs)
+    (λ c. search needs)
+    (λ c. search needs)
+    (λ c. search needs)
+    (λ c. search needs)
+    (λ c. search needs)
+    (λ c. let a = c .before .before .before .before .before .before .before .before .before .before .before .before .args in restored-end working (a .l) (a .es .now) (a .c .now) (c .before .before .block-width .result) (c .before .loop .q) (a .total / c .before .before .block-width .result) (c .before .loop .c) (c .before .loop .inv .8) (c .before .loop .inv .0) (omega arith) (count-whole (a .l) (a .e) (c .before .before .block-width .result) (a .total) (c .before .before .before .before .before .before .before .before .before .before .before .before .pre .1 .adm) (c .before .before .before .before .before .before .before .before .before .before .before .before .pre .0) (c .before .before .block-width .ensures) (c .before .before .before .before .before .before .before .before .before .before .before .before .pre .1 .total-is))))

@@ -1,0 +1,89 @@
+// Made by tools/twin.py from crates/scrub/src/lib.rt.
+// Testing a stored codeword some layers at a time (document 02, W6). A walk is begun by a reset, and each call looks at some more layers, and at no symbol of
+// another. Promises that after each call the record holds exactly how many layers below the next are bad and the least of them, and what the report says; a
+// refused call leaves the record as it came. `reset` and `step` take the record by value and hand it back; `scrub_reset` and `scrub` change a lent one in its place.
+mod grounds;
+mod look;
+
+use layout::Layout;
+use scrub::Report;
+use scrub::Scrubbed;
+use scrub::Walk;
+use symbol257::plain::ORDER;
+ghost use mathlib.Core.Path.{_≡_};
+ghost use Rattle.symbol257.specs.Elem.{gf257};
+ghost use Rattle.scrub.specs.Scrub.{reportOf, scrubbed, begun};
+
+// What a record says of a walk over so many layers.
+fn report_of(total: u32, walk: Walk) -> Report
+    ensures { λ r. ⌜ r ≡ reportOf total walk ⌝ }
+{
+    let j = walk.next;
+    let n = walk.bad;
+    if j < total {
+        return Report::Unfinished;
+    }
+    if n == 0 {
+        return Report::Sound;
+    }
+    Report::Bad
+}
+
+// Starts a new walk, whatever the old record holds.
+pub fn reset(l: Layout, old: Walk) -> Scrubbed
+    ensures { λ r. ⌜ r ≡ begun (gf257 .order) l old ⌝ }
+{
+    if !layout::admitted(ORDER as u32, l) {
+        return Scrubbed {
+            report: Report::Refused(1),
+            walk: old,
+        };
+    }
+    Scrubbed {
+        report: Report::Begun,
+        walk: Walk {
+            next: 0,
+            bad: 0,
+            first: layout::layer_count(l),
+        },
+    }
+}
+
+// Looks at the smaller of the budget and the layers left.
+pub fn step(l: Layout, c: &[u16], walk: Walk, budget: u64) -> Scrubbed
+    ensures { λ r. ⌜ r ≡ scrubbed gf257 l (now (c .entry)) walk budget ⌝ }
+{
+    let no = grounds::refusal(l, c, walk, budget);
+    if no != 0 {
+        return Scrubbed {
+            report: Report::Refused(no),
+            walk: walk,
+        };
+    }
+    let total = layout::layer_count(l);
+    let count = grounds::step_layers(total, walk, budget);
+    let seen = look::look_on(l, total, c, walk, count);
+    Scrubbed {
+        report: report_of(total, seen),
+        walk: seen,
+    }
+}
+
+// A reset with the record lent, and changed in its place.
+pub fn scrub_reset(l: Layout, walk: &mut Walk) -> Report
+    ensures { λ r. ⌜ (r ≡ begun (gf257 .order) l (now (walk .entry)) .report) × (now (walk .exit) ≡ begun (gf257 .order) l (now (walk .entry)) .walk) ⌝ }
+{
+    let s = reset(l, *walk);
+    *walk = s.walk;
+    s.report
+}
+
+// A step with the record lent, and changed in its place.
+pub fn scrub(l: Layout, c: &[u16], walk: &mut Walk, budget: u64) -> Report
+    ensures { λ r. ⌜ (r ≡ scrubbed gf257 l (now (c .entry)) (now (walk .entry)) budget .report)
+        × (now (walk .exit) ≡ scrubbed gf257 l (now (c .entry)) (now (walk .entry)) budget .walk) ⌝ }
+{
+    let s = step(l, c, *walk, budget);
+    *walk = s.walk;
+    s.report
+}

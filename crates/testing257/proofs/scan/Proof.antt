@@ -1,0 +1,18 @@
+-- Made by tools/twin.py from crates/testing/proofs/scan/Proof.antt.
+use mathlib.Core.Path.{refl}
+use Prim.Native.Nat.{_-_}
+use borrow.Author.Needs.{needs}
+use Rattle.testing.proofs.Room.{room}
+use Rattle.testing257.proofs.scan.Statement.{statement}
+use Rattle.testing257.proofs.scan.Tie as tie
+
+pub scan-spec : {M : Type 1} → statement M
+scan-spec =
+    tie.close (tie.spec
+    (λ c κs. search needs)
+    (λ c. search needs)
+    (λ c. search needs)
+    (λ c. search needs)
+    (λ c. search needs)
+    (λ c κs. let s = c .before .before .before .before .before .before in let d = c .before .before .before .before .block-digits in (d .ensures .0, s .pre, refl, room (s .args .l) (d .result) (d .ensures .1) (d .ensures .2)))
+    (λ c. search needs))

@@ -1,0 +1,337 @@
+// The tests of one field, included for each: the module says what BAD, GOOD and LESS are, U, K and N
+// of GOOD, what a symbol is and how many bytes it has in an image.
+
+/// R of GOOD, and the lengths of its buffers.
+const R: u32 = N - K;
+const DATA: usize = K as usize * 16;
+const CODEWORD: usize = N as usize * 16;
+const RACK: usize = U as usize * 16;
+const IMAGE: usize = 24 + BYTES * 16;
+
+/// So many symbols, all zero.
+fn zeros(length: usize) -> Vec<Symbol> {
+    vec![0; length]
+}
+
+#[test]
+fn storing() {
+    for (ground, layout, data, length) in [
+        (Refusal::Layout, BAD, DATA - 1, CODEWORD - 1),
+        (Refusal::Length, GOOD, DATA - 1, CODEWORD),
+        (Refusal::Length, GOOD, DATA, CODEWORD - 1),
+    ] {
+        refused(ground, length, |out| store(layout, &zeros(data), out));
+    }
+}
+
+#[test]
+fn testing() {
+    let length = CODEWORD + 1;
+    refused(Refusal::Layout, length, |codeword| test(BAD, codeword));
+    refused(Refusal::Length, length, |codeword| test(GOOD, codeword));
+}
+
+#[test]
+fn recovering() {
+    let too_many: Vec<u32> = (0..=R).collect();
+    for (ground, layout, length, erased) in [
+        (
+            Refusal::Layout,
+            BAD,
+            CODEWORD - 1,
+            &[N, 1, 1, 2, 3, 4, 5][..],
+        ),
+        (Refusal::Length, GOOD, CODEWORD - 1, &[N, 1, 1, 2, 3, 4, 5]),
+        (Refusal::Number, GOOD, CODEWORD, &[N, 1, 1, 2, 3, 4, 5]),
+        (Refusal::Order, GOOD, CODEWORD, &[0, 1, 1, 2, 3, 4, 5]),
+        (Refusal::Count, GOOD, CODEWORD, &too_many),
+        (Refusal::Survivors, GOOD, CODEWORD, &[0, 1, 2]),
+        (Refusal::Survivors, GOOD, CODEWORD, &[]),
+    ] {
+        refused(ground, length, |c| recover(layout, c, &trays(erased)));
+    }
+}
+
+#[test]
+fn sharing() {
+    for (ground, layout, host, helper, rack, length) in [
+        (Refusal::Layout, BAD, 4, 4, RACK - 1, 7),
+        (Refusal::Length, GOOD, 4, 4, RACK - 1, 8),
+        (Refusal::Length, GOOD, 4, 4, RACK, 7),
+        (Refusal::Number, GOOD, 4, 4, RACK, 8),
+        (Refusal::Number, GOOD, 0, 4, RACK, 8),
+        (Refusal::Host, GOOD, 3, 3, RACK, 8),
+    ] {
+        let (host, helper) = (Rack::new(host), Rack::new(helper));
+        refused(ground, length, |out| {
+            share(layout, host, helper, &zeros(rack), out)
+        });
+    }
+}
+
+#[test]
+fn sharing_tray_by_tray() {
+    for (ground, layout, host, tray, symbols, length) in [
+        (Refusal::Layout, BAD, 4, N, 15, 7),
+        (Refusal::Length, GOOD, 4, N, 15, 8),
+        (Refusal::Length, GOOD, 4, N, 16, 7),
+        (Refusal::Number, GOOD, 4, N, 16, 8),
+        (Refusal::Number, GOOD, 4, N - 1, 16, 8),
+        (Refusal::Number, GOOD, 3, N, 16, 8),
+        (Refusal::Host, GOOD, 3, N - 1, 16, 8),
+    ] {
+        let (host, tray) = (Rack::new(host), Tray::new(tray));
+        refused(ground, length, |share| {
+            share_add(layout, host, tray, &zeros(symbols), share)
+        });
+    }
+}
+
+#[test]
+fn sharing_for_several() {
+    for (ground, layout, count, host, helper, rack, length) in [
+        (Refusal::Layout, BAD, 3, 4, 4, RACK - 1, 23),
+        (Refusal::Length, LESS, 3, 4, 4, RACK - 1, 24),
+        (Refusal::Length, LESS, 3, 4, 4, RACK, 23),
+        (Refusal::Length, LESS, 1 << 29, 4, 4, RACK, 0), // 2^32 symbols
+        (Refusal::Number, LESS, 3, 4, 4, RACK, 24),
+        (Refusal::Number, LESS, 3, 0, 4, RACK, 24),
+        (Refusal::LostCount, LESS, 3, 3, 3, RACK, 24),
+        (Refusal::LostCount, LESS, 0, 3, 3, RACK, 0),
+        (Refusal::LostCount, GOOD, 2, 3, 3, RACK, 16),
+        (Refusal::Host, LESS, 2, 3, 3, RACK, 16),
+    ] {
+        let (host, helper) = (Rack::new(host), Rack::new(helper));
+        refused(ground, length, |out| {
+            share_many(layout, count, host, helper, &zeros(rack), out)
+        });
+    }
+}
+
+#[test]
+fn sharing_tray_by_tray_for_several() {
+    for (ground, layout, count, host, tray, symbols, length) in [
+        (Refusal::Layout, BAD, 3, 4, N, 15, 23),
+        (Refusal::Length, LESS, 3, 4, N, 15, 24),
+        (Refusal::Length, LESS, 3, 4, N, 16, 23),
+        (Refusal::Length, LESS, 1 << 29, 4, N, 16, 0),
+        (Refusal::Number, LESS, 3, 4, N - 1, 16, 24),
+        (Refusal::Number, LESS, 3, 3, N, 16, 24),
+        (Refusal::LostCount, LESS, 3, 3, N - 1, 16, 24),
+        (Refusal::LostCount, LESS, 0, 3, N - 1, 16, 0),
+        (Refusal::LostCount, GOOD, 2, 3, N - 1, 16, 16),
+        (Refusal::Host, LESS, 2, 3, N - 1, 16, 16),
+    ] {
+        let (host, tray) = (Rack::new(host), Tray::new(tray));
+        refused(ground, length, |share| {
+            share_add_many(layout, count, host, tray, &zeros(symbols), share)
+        });
+    }
+}
+
+#[test]
+fn repairing() {
+    for (ground, layout, lost, helpers, shares, host, length) in [
+        (Refusal::Layout, BAD, N, &[1, 0, 4, 3][..], 25, RACK + 1, 15),
+        (Refusal::Length, GOOD, N, &[1, 0, 4, 3], 25, RACK, 16),
+        (Refusal::Length, GOOD, N, &[1, 0, 4, 3], 24, RACK + 1, 16),
+        (Refusal::Length, GOOD, N, &[1, 0, 4, 3], 24, RACK, 15),
+        (Refusal::Number, GOOD, N, &[1, 0, 2, 3], 24, RACK, 16),
+        (Refusal::Number, GOOD, N - 1, &[1, 0, 4, 3], 24, RACK, 16),
+        (Refusal::Order, GOOD, N - 1, &[1, 0, 2, 3], 24, RACK, 16),
+        (Refusal::Count, GOOD, N - 1, &[0, 1, 2, 3], 24, RACK, 16),
+        (Refusal::Host, GOOD, N - 1, &[0, 1, 3], 24, RACK, 16),
+        (Refusal::FirstGroup, GOOD, N - 1, &[0, 1, 2], 24, RACK, 16),
+    ] {
+        let (lost, helpers) = (Tray::new(lost), racks(helpers));
+        let (shares, host) = (zeros(shares), zeros(host));
+        refused(ground, length, |spare| {
+            repair(layout, lost, &helpers, &shares, &host, spare, 9, 0)
+        });
+    }
+}
+
+#[test]
+fn repairing_several() {
+    let outside = &[1, 0, 4, 3][..];
+    let [falling, four, own] = [&[1, 0, 2, 3][..], &[0, 1, 2, 3], &[0, 1, 3]];
+    // The last three trays of the last rack, and trays that are not of one rack.
+    let [a, b, c] = [N - 3, N - 2, N - 1];
+    let [none, two_racks] = [&[N, a, c][..], &[c, N - U - 1, b]];
+    for (ground, layout, lost, helpers, longer) in [
+        (Refusal::Layout, BAD, none, outside, [1, 1, 1]),
+        (Refusal::Length, LESS, none, outside, [1, 0, 0]),
+        (Refusal::Length, LESS, none, outside, [0, 1, 0]),
+        (Refusal::Length, LESS, none, outside, [0, 0, 1]),
+        (Refusal::Number, LESS, none, falling, [0; 3]),
+        (Refusal::Number, LESS, two_racks, falling, [0; 3]),
+        (Refusal::Number, LESS, &[b, a, c], outside, [0; 3]),
+        (Refusal::Order, LESS, &[b, a, c], four, [0; 3]),
+        (Refusal::Order, LESS, &[a, c, c], four, [0; 3]),
+        (Refusal::Order, LESS, &[a, b, c], falling, [0; 3]),
+        (Refusal::Count, LESS, &[a, b, c], four, [0; 3]),
+        (Refusal::Count, LESS, &[], four, [0; 3]),
+        (Refusal::LostCount, LESS, &[a, b, c], own, [0; 3]),
+        (Refusal::LostCount, LESS, &[], own, [0; 3]),
+        (Refusal::LostCount, GOOD, &[a, c], own, [0; 3]),
+        (Refusal::Host, LESS, &[a, c], own, [0; 3]),
+        (Refusal::FirstGroup, LESS, &[a, c], &[0, 1, 2], [0; 3]),
+    ] {
+        let (lost, helpers) = (trays(lost), racks(helpers));
+        let [shares, host, spare] = [24 * lost.len(), RACK, 16 * lost.len()];
+        let (shares, host) = (zeros(shares + longer[0]), zeros(host + longer[1]));
+        refused(ground, spare + longer[2], |spare| {
+            repair_many(layout, &lost, &helpers, &shares, &host, spare, 9, 0)
+        });
+    }
+}
+
+#[test]
+fn reading_while_repairing() {
+    let codeword: Vec<Symbol> = (0..CODEWORD).map(|at| (at % 251) as Symbol).collect();
+    let spare: Vec<Symbol> = (0..16).rev().collect();
+    let (short, whole) = (CODEWORD - 1, CODEWORD);
+    let beyond = (u32::MAX, u32::MAX);
+    // Tray 5 stands in rack 1: layers 0, 1, 2, 3 and 4 are in groups 0, 1, 0, 1 and 2.
+    for (answer, layout, length, lost, groups, tray, layers) in [
+        (Err(Refusal::Layout), BAD, short, N, 9, N, (5, 4)),
+        (Err(Refusal::Length), GOOD, short, N, 9, N, (5, 4)),
+        (Err(Refusal::Number), GOOD, whole, N, 1, 5, (0, 16)),
+        (Err(Refusal::Number), GOOD, whole, 5, 1, N, (0, 16)),
+        (Err(Refusal::Number), GOOD, whole, 5, 9, 5, (0, 16)),
+        (Err(Refusal::Number), GOOD, whole, 5, 1, 5, (0, 17)),
+        (Err(Refusal::Number), GOOD, whole, 5, 1, 5, (1, 0)),
+        (Err(Refusal::Number), GOOD, whole, 5, 1, 5, beyond),
+        (Err(Refusal::Number), GOOD, whole, 5, 1 << 32, 4, (0, 1)),
+        (Err(Refusal::NotRepaired), GOOD, whole, 5, 1, 5, (0, 2)),
+        (Err(Refusal::NotRepaired), GOOD, whole, 5, 2, 5, (0, 5)),
+        (Ok(&spare[..4]), GOOD, whole, 5, 2, 5, (0, 4)),
+        (Ok(&spare[2..3]), GOOD, whole, 5, 1, 5, (2, 3)),
+        (Ok(&spare[..]), GOOD, whole, 5, 8, 5, (0, 16)),
+        (Ok(&[][..]), GOOD, whole, 5, 0, 5, (16, 16)),
+        (Ok(&codeword[66..80]), GOOD, whole, 5, 0, 4, (2, 16)),
+    ] {
+        let (lost, tray) = (Tray::new(lost), Tray::new(tray));
+        let layers = Layer::new(layers.0)..Layer::new(layers.1);
+        let store = &codeword[..length];
+        let read = read_part(layout, store, &spare, lost, groups, tray, layers);
+        assert_eq!(read, answer);
+    }
+}
+
+#[test]
+fn writing_an_image() {
+    for (ground, layout, tray, state, symbols, length) in [
+        (Refusal::Layout, BAD, N, 3, 15, IMAGE - 1),
+        (Refusal::Length, GOOD, N, 3, 15, IMAGE),
+        (Refusal::Length, GOOD, N, 3, 16, IMAGE + 1),
+        (Refusal::Number, GOOD, N, u32::from(LIVE), 16, IMAGE),
+        (Refusal::Number, GOOD, N - 1, u32::from(ABSENT), 16, IMAGE),
+        (
+            Refusal::Number,
+            GOOD,
+            N - 1,
+            256 + u32::from(LIVE),
+            16,
+            IMAGE,
+        ),
+    ] {
+        let (tray, symbols) = (Tray::new(tray), zeros(symbols));
+        refused(ground, length, |image| {
+            write_image(layout, tray, state, 7, &symbols, image)
+        });
+    }
+}
+
+/// An image of tray 2 with 16 symbols.
+fn image_of(layout: Layout, state: u8, volume: u32) -> Vec<u8> {
+    let mut image = vec![0; IMAGE];
+    let (tray, symbols) = (Tray::new(2), [0xC3; 16]);
+    let written = write_image(layout, tray, state.into(), volume, &symbols, &mut image);
+    assert_eq!(written, Ok(()));
+    image
+}
+
+#[test]
+fn reading_an_image() {
+    let live = image_of(GOOD, LIVE, 7);
+    let demonstration = image_of(GOOD, DEMONSTRATION, 8);
+    let other = image_of(LESS, LIVE, 7);
+    for (ground, layout, volume, image) in [
+        (Refusal::Layout, BAD, 8, &live[1..]),
+        (Refusal::Malformed, GOOD, 8, &live[..IMAGE - 1]),
+        (Refusal::Malformed, GOOD, 7, &demonstration[1..]),
+        (Refusal::Demonstration, GOOD, 7, &demonstration),
+        (Refusal::Other, GOOD, 8, &live),
+        (Refusal::Other, GOOD, 7, &other),
+    ] {
+        assert_eq!(read_tray(layout, volume, image), Err(ground));
+    }
+    let read = read_tray(GOOD, 7, &live);
+    assert_eq!(read, Ok((Tray::new(2), vec![0xC3; 16])));
+}
+
+#[test]
+fn the_margin() {
+    let trays = N as usize;
+    assert_eq!(margin(BAD, &vec![3; trays - 1]), Err(Refusal::Layout));
+    assert_eq!(margin(GOOD, &vec![3; trays - 1]), Err(Refusal::Length));
+    assert_eq!(margin(GOOD, &vec![3; trays]), Err(Refusal::Number));
+    assert_eq!(margin(GOOD, &vec![ABSENT; trays]), Ok(-(K as i32)));
+}
+
+#[test]
+fn scrubbing() {
+    for (ground, layout, length, record) in [
+        (Refusal::Layout, BAD, CODEWORD - 1, [17, 18, 19]),
+        (Refusal::Length, GOOD, CODEWORD - 1, [17, 18, 19]),
+        (Refusal::Number, GOOD, CODEWORD, [17, 0, 16]), // next above L
+        (Refusal::Number, GOOD, CODEWORD, [5, 6, 4]),   // count above next
+        (Refusal::Number, GOOD, CODEWORD, [5, 0, 4]),   // none bad, first not L
+        (Refusal::Number, GOOD, CODEWORD, [5, 1, 5]),   // some bad, first not below next
+        (Refusal::Number, GOOD, CODEWORD, [16, 1, 16]),
+    ] {
+        let codeword = zeros(length);
+        record_left(ground, record, |r| scrub(layout, &codeword, r, 1));
+    }
+    record_left(Refusal::Layout, [17, 18, 19], |r| scrub_reset(BAD, r));
+}
+
+/// A record that no walk can have, but that no ground refuses.
+#[test]
+fn two_bad_layers_of_one() {
+    let mut record = ScrubRecord::new(2, 2, 1);
+    let scrubbed = scrub(GOOD, &zeros(CODEWORD), &mut record, 14);
+    assert_eq!(scrubbed, Ok(Scrubbed::Bad));
+    assert_eq!(record, ScrubRecord::new(16, 2, 1));
+}
+
+#[test]
+fn nothing_lent_is_a_wrong_length() {
+    let (rack, tray) = (Rack::new(0), Tray::new(0));
+    let length = Refusal::Length;
+    let nothing: &[Symbol] = &[];
+    refused(length, 0, |out| store(GOOD, nothing, out));
+    refused(length, 0, |codeword| test(GOOD, codeword));
+    refused(length, 0, |codeword| recover(GOOD, codeword, &[]));
+    refused(length, 0, |out| share(GOOD, rack, rack, nothing, out));
+    refused(length, 0, |out| {
+        share_many(GOOD, 1, rack, rack, nothing, out)
+    });
+    refused(length, 0, |out| {
+        share_add_many(GOOD, 1, rack, tray, nothing, out)
+    });
+    refused(length, 0, |s| {
+        repair(GOOD, tray, &[], nothing, nothing, s, 0, 0)
+    });
+    refused(length, 0, |s| {
+        repair_many(GOOD, &[], &[], nothing, nothing, s, 0, 0)
+    });
+    let none = Layer::new(0)..Layer::new(0);
+    let read = read_part(GOOD, nothing, nothing, tray, 0, tray, none);
+    assert_eq!(read, Err(length));
+    refused(length, 0, |i| write_image(GOOD, tray, 1, 7, nothing, i));
+    assert_eq!(read_tray(GOOD, 7, &[]), Err(Refusal::Malformed));
+    assert_eq!(margin(GOOD, &[]), Err(length));
+    record_left(length, [0, 0, 16], |r| scrub(GOOD, nothing, r, 1));
+}

@@ -1,0 +1,26 @@
+//! Writes the vectors of W1, W6, W7, W8, W10 and W11, in the format of
+//! `tests/vectors/FORMAT.md`, into the folder named:
+//!
+//!     cargo run --offline --release -p reference --example vectors -- FOLDER
+
+#[path = "../../tests/common/mod.rs"]
+mod common;
+
+mod drawn;
+mod lines;
+mod sheet;
+mod w1;
+mod w10;
+mod w11;
+mod w6;
+mod w7;
+mod w8;
+
+fn main() -> std::io::Result<()> {
+    let folder = std::env::args().nth(1).unwrap_or_else(|| "vectors".into());
+    let of_256 = [w1::sheet, w6::sheet, w7::sheet, w8::sheet, w11::sheet];
+    of_256
+        .into_iter()
+        .try_for_each(|sheet| sheet().write(&folder))?;
+    w10::sheet().write(&folder)
+}

@@ -1,0 +1,159 @@
+#!/usr/bin/env python3
+"""Makes the code of the second field, the one modulo 257, from that of the first, by a table of renames.
+
+    tools/twin.py            write what is not current; then run `rt fmt`
+    tools/twin.py --check    name what is not current, and fail if there is any: a step of the gate
+
+A twin crate X257 has the code of X over 16-bit numbers, and the answers of its proofs (proofs/F/Proof.antt). Definitions and lemmas are not copied: they are stated in X
+over any field, and the twin cites them there. A place and a part of 16-bit numbers ask one fact more than those of bytes: its answer stands in the first field's proof in a
+comment that begins with `twin:`, which is opened here. In the crate of the C boundary the module field257 is made from field256 in the same way.
+"""
+import os
+import re
+import sys
+
+ROOT = os.path.join(os.path.dirname(os.path.abspath(__file__)), '..', 'crates')
+
+# the crates that have a twin, and those of their functions that return a symbol
+TWINS = {
+    'kernel': ['at', 'sum_apart'],
+    'columns': [],
+    'syndrome': [],
+    'restore': [],
+    'range': ['higher', 'highest'],
+    'testing': [],
+    'sums': ['digit_point', 'inverse'],
+    'group': [],
+    'pieces': [],
+    'share': [],
+    'seen': [],
+    'repair': [],
+    'reading': [],
+    'recover': [],
+    'store': [],
+    'scrub': [],
+    'points': ['point_power', 'place_power'],
+}
+# types of a crate that its twin takes from it
+TAKEN = {'repair': ['Repaired'], 'scrub': ['Report', 'Scrubbed', 'Walk']}
+# the crate of the boundary, its module over the first field, and the one that is made from it
+BOUNDARY, FIRST, SECOND = 'gesarumbo', 'field256', 'field257'
+
+
+def symbols(text, returning):
+    """Symbols as 16-bit numbers. A tray's state stays a byte."""
+    text = re.sub(r'(?<!states: &)\[u8\]', '[u16]', text)
+    text = re.sub(r'(\d)u8\b', r'\1u16', text)
+    text = re.sub(r': u8\b', ': u16', text)
+    for f in returning:
+        text = re.sub(r'(fn %s\([^{]*?-> )u8\b' % f, r'\1u16', text, flags=re.S)
+    for crate in list(TWINS) + ['symbol']:
+        kinds = ''.join(r'(?!%s\b)' % kind for kind in TAKEN.get(crate, []))
+        text = re.sub(r'(?<![\w:])%s::%s' % (crate, kinds), crate + '257::', text)
+    return text
+
+
+def field(text):
+    """The definitions of the other field."""
+    return text.replace('gf256', 'gf257').replace('Rattle.symbol.', 'Rattle.symbol257.')
+
+
+def code(name, text):
+    """The code of the twin of a crate."""
+    text = symbols(text, TWINS[name])
+    for kind in TAKEN.get(name, []):
+        text, named = re.subn(r'use crate::%s;\n|(// [^\n]*\n|#\[[^\n]*\n)*pub (enum|struct) %s \{.*?\n\}\n\n' % (kind, kind), '', text, flags=re.S)
+        if named:
+            text = text.replace('\nuse symbol257', '\nuse %s::%s;\nuse symbol257' % (name, kind), 1)
+    return cited(name, text)
+
+
+def cited(name, text):
+    """The modules that a file of the twin of a crate cites."""
+    text = field(text)
+    text = text.replace('Rattle.%s.specs.' % name, 'Rattle.%s.specs.' % name)
+    text = re.sub(r'Rattle\.%s\.proofs\.([A-Z])' % name, r'Rattle.%s.proofs.\1' % name, text)
+    return re.sub(r'Rattle\.%s\.proofs\.([a-z+])' % name, r'Rattle·%s257·proofs.proofs.\1' % name, text)
+
+
+def proof(name, text):
+    """The answers, those for 16-bit numbers with them. A walk of the code by hand names the kind of symbols and the functions called."""
+    text = re.sub(r'\bu8\b', 'u16', text.replace('-- twin: ', ''))
+    return cited(name, text.replace('calls-%s·' % name, 'calls-%s257·' % name))
+
+
+def exported(text):
+    """The names at the boundary."""
+    return re.sub(r'\bgesarumbo([_-])', r'gesarumbo257\1', field(text)).replace(FIRST, SECOND).replace('the field of 256', 'the field modulo 257')
+
+
+def files(base):
+    """Every file below a folder, and its path there."""
+    for folder, _, names in os.walk(base):
+        for name in names:
+            path = os.path.join(folder, name)
+            yield path, os.path.relpath(path, base)
+
+
+def made():
+    """Every file that is made: the one it is made from, its own path and its text."""
+    for name in TWINS:
+        for path, rel in files(os.path.join(ROOT, name)):
+            target = os.path.join(ROOT, name + '257', rel)
+            text = open(path).read()
+            if rel.startswith('src'):
+                yield path, target, code(name, text)
+            elif rel.endswith('Proof.antt'):
+                yield path, target, proof(name, text)
+    base = os.path.join(ROOT, BOUNDARY)
+    for path, rel in files(base):
+        target = os.path.join(base, rel.replace(FIRST, SECOND).replace('/gesarumbo_', '/gesarumbo257_'))
+        text = open(path).read()
+        if rel == 'src/%s.rt' % FIRST:
+            yield path, target, exported(symbols(text, []))
+        elif rel.startswith('proofs/%s/' % FIRST) or rel.startswith('proofs/images/gesarumbo_write_image/'):
+            yield path, target, exported(text.replace('-- twin: ', ''))
+
+
+def headed(source, text):
+    """A made file says first what it is made from."""
+    return '%s Made by tools/twin.py from %s.\n%s' % ('//' if source.endswith('.rt') else '--', 'crates/' + os.path.relpath(source, ROOT), text)
+
+
+def same(a, b):
+    """Whether two texts differ in their layout only: `rt fmt` breaks a longer line."""
+    bare = lambda t: re.sub(r',(?=\))', '', re.sub(r'\s+', '', t))
+    return a is not None and bare(a) == bare(b)
+
+
+def left_over(kept):
+    """Files of the twins that would be made from nothing."""
+    for name in TWINS:
+        for path, rel in files(os.path.join(ROOT, name + '257')):
+            if (rel.startswith('src') or rel.endswith('Proof.antt')) and os.path.normpath(path) not in kept:
+                yield path
+
+
+def main():
+    check = '--check' in sys.argv
+    stale, kept = [], set()
+    for source, path, text in made():
+        kept.add(os.path.normpath(path))
+        text = headed(source, text)
+        old = open(path).read() if os.path.exists(path) else None
+        if not same(old, text):
+            stale.append(path)
+            if not check:
+                os.makedirs(os.path.dirname(path), exist_ok=True)
+                open(path, 'w').write(text)
+    for path in left_over(kept):
+        stale.append(path)
+        if not check:
+            os.remove(path)
+    for path in stale:
+        print(os.path.relpath(path, ROOT))
+    if check and stale:
+        sys.exit(1)
+
+
+main()
