@@ -1,7 +1,8 @@
 /*
  * A cabinet's life in one program: data are stored, a reset tray is refused, a lost tray is
  * repaired in pieces and read meanwhile, the codeword is tested some layers at a time, two erased
- * trays are recovered. In a cabinet with less data, two lost trays of one rack are repaired. Racks
+ * trays are recovered. In a cabinet with less data, two lost trays of one rack are repaired. In one
+ * that allows for a wrong share, a lost tray is repaired although one rack's share is stale. Racks
  * of four trays are had in the second field, where a tray is stored, repaired and imaged.
  *
  * Every buffer is lent from one pool with guard bytes between, which must be untouched at the end.
@@ -23,15 +24,21 @@ enum { RACK_LENGTH = SIZE * LAYERS, SHARES_LENGTH = HELPERS * GROUPS };
 /* The same cabinet with less data, and so many trays of a rack lost together. */
 enum { LESS_DATA = 6, LOST = 2 };
 
+/* A cabinet of five racks in which one of four helpers may send a wrong share, and what follows. */
+enum { WARY_RACKS = 5, WARY_TRAYS = WARY_RACKS * SIZE, WARY_DATA = 4, WARY_HELPERS = 4, ERRORS = 1 };
+enum { WARY_LAYERS = 32, WARY_GROUPS = 16, WARY_RACK = SIZE * WARY_LAYERS };
+enum { WARY_SHARES = WARY_HELPERS * WARY_GROUPS };
+
 /* A cabinet of the second field: five racks of four trays, fifteen trays' worth of data. */
 enum { RACKS_4 = 5, SIZE_4 = 4, TRAYS_4 = RACKS_4 * SIZE_4, DATA_4 = 15, HELPERS_4 = 4 };
 enum { LAYERS_4 = 32, GROUPS_4 = 16, IMAGE_4 = 24 + 2 * LAYERS_4 };
 
 enum { ABSENT = 0, LIVE = 1, DEMONSTRATION = 2, VOLUME = 7 };
 
-static const gesarumbo_layout layout = { RACKS, SIZE, DATA, HELPERS };
-static const gesarumbo_layout less = { RACKS, SIZE, LESS_DATA, HELPERS };
-static const gesarumbo_layout fours = { RACKS_4, SIZE_4, DATA_4, HELPERS_4 };
+static const gesarumbo_layout layout = { RACKS, SIZE, DATA, HELPERS, 0 };
+static const gesarumbo_layout less = { RACKS, SIZE, LESS_DATA, HELPERS, 0 };
+static const gesarumbo_layout wary = { WARY_RACKS, SIZE, WARY_DATA, WARY_HELPERS, ERRORS };
+static const gesarumbo_layout fours = { RACKS_4, SIZE_4, DATA_4, HELPERS_4, 0 };
 
 /* Ends the program if something is not as the library promises. */
 static void must(int holds, const char *what)
@@ -77,7 +84,8 @@ static int guards_untouched(void)
 
 /* What the cabinet works with, all of it lent from the pool. */
 static uint8_t *data, *codeword, *images, *shares, *spare, *states, *shares_of_two, *two_spares;
-static uint32_t *helpers, *erased, *lost;
+static uint8_t *wary_codeword, *wary_shares, *wary_spare;
+static uint32_t *helpers, *erased, *lost, *wary_helpers;
 /* The same for the second field. */
 static uint16_t *data_4, *codeword_4, *shares_4, *spare_4;
 static uint8_t *image_4;
@@ -97,6 +105,10 @@ static void lend_all(void)
     lost = lend(LOST * sizeof *lost);
     shares_of_two = lend(LOST * SHARES_LENGTH);
     two_spares = lend(LOST * LAYERS);
+    wary_codeword = lend(WARY_TRAYS * WARY_LAYERS);
+    wary_shares = lend(WARY_SHARES);
+    wary_spare = lend(WARY_LAYERS);
+    wary_helpers = lend(WARY_HELPERS * sizeof *wary_helpers);
     data_4 = lend(DATA_4 * LAYERS_4 * sizeof *data_4);
     codeword_4 = lend(TRAYS_4 * LAYERS_4 * sizeof *codeword_4);
     shares_4 = lend(HELPERS_4 * GROUPS_4 * sizeof *shares_4);
@@ -134,7 +146,7 @@ static void measure(void)
     must(m.refusal == 0 && m.layers == LAYERS, "the layout is admissible");
     printf("layers %u, checks %u, traffic of a repair %u\n", m.layers, m.checks, m.traffic);
 
-    gesarumbo_layout even = { 4, 4, 8, 3 };
+    gesarumbo_layout even = { 4, 4, 8, 3, 0 };
     printf("racks of four trays: refused %u\n", gesarumbo_measure(even).refusal);
 }
 
@@ -326,6 +338,8 @@ static void lend_nothing(void)
     printf(", of many %u %u", gesarumbo_share_many(layout, 1, 1, 0, NULL, 0, NULL, 0),
            gesarumbo_repair_many(layout, NULL, 0, NULL, 0, NULL, 0, NULL, 0, NULL, 0, 0, 1)
                .refusal);
+    printf(", correcting %u",
+           gesarumbo_repair_correcting(wary, 5, NULL, 0, NULL, 0, NULL, 0, NULL, 0).refusal);
     printf(", part %u",
            gesarumbo_read_part(layout, NULL, 0, NULL, 0, 5, 0, 5, 0, 0).refusal);
     printf(", write %u", gesarumbo_write_image(layout, 5, LIVE, VOLUME, NULL, 0, NULL, 0));
@@ -386,6 +400,55 @@ static void repair_two_in_pieces(void)
     }
     printf("trays 3 and 5 are %s\n",
            memcmp(two_spares, kept, sizeof kept) == 0 ? "as they were" : "wrong");
+}
+
+/* Racks 0, 2, 3 and 4 each send a share for rack 1, which has lost tray 4. */
+static void collect_wary_shares(void)
+{
+    static const uint32_t others[WARY_HELPERS] = { 0, 2, 3, 4 };
+    memcpy(wary_helpers, others, sizeof others);
+    for (size_t i = 0; i < WARY_HELPERS; i++)
+        must(gesarumbo_share(wary, 1, others[i], wary_codeword + others[i] * WARY_RACK, WARY_RACK,
+                             wary_shares + i * WARY_GROUPS, WARY_GROUPS) == 0,
+             "a share is worked out");
+}
+
+static gesarumbo_corrected repair_correcting(gesarumbo_layout of)
+{
+    return gesarumbo_repair_correcting(of, 4, wary_helpers, WARY_HELPERS, wary_shares, WARY_SHARES,
+                                       wary_codeword + WARY_RACK, WARY_RACK, wary_spare,
+                                       WARY_LAYERS);
+}
+
+/* Rack 3 sends a share of what it held last year; then rack 4 sends a wrong symbol besides. */
+static void correct_a_share(void)
+{
+    const uint8_t *tray = wary_codeword + 4 * WARY_LAYERS;
+    must(gesarumbo_store(wary, data, WARY_DATA * WARY_LAYERS, wary_codeword,
+                         WARY_TRAYS * WARY_LAYERS) == 0,
+         "data are stored where a share may be wrong");
+    collect_wary_shares();
+    gesarumbo_corrected all = repair_correcting(wary);
+    must(all.refusal == 0 && all.rack == WARY_RACKS, "true shares name no rack");
+    must(memcmp(wary_spare, tray, WARY_LAYERS) == 0, "the tray comes back");
+
+    for (size_t p = 0; p < WARY_GROUPS; p++)
+        wary_shares[2 * WARY_GROUPS + p] ^= (uint8_t)(p % 3);
+    memset(wary_spare, 0xEE, WARY_LAYERS);
+    gesarumbo_corrected one = repair_correcting(wary);
+    printf("a stale share: rack %u named, crossed %u, tray 4 is %s\n", one.rack,
+           (unsigned)one.crossed,
+           memcmp(wary_spare, tray, WARY_LAYERS) == 0 ? "as it was" : "wrong");
+
+    wary_shares[3 * WARY_GROUPS] ^= 1;
+    gesarumbo_corrected two = repair_correcting(wary);
+    printf("two wrong shares: refused %u; in pieces: refused %u; with E = 0: refused %u\n",
+           two.refusal,
+           gesarumbo_repair(wary, 4, wary_helpers, WARY_HELPERS, wary_shares, WARY_SHARES,
+                            wary_codeword + WARY_RACK, WARY_RACK, wary_spare, WARY_LAYERS, 0, 1)
+               .refusal,
+           repair_correcting(layout).refusal);
+    must(memcmp(wary_spare, tray, WARY_LAYERS) == 0, "a refusal changes nothing");
 }
 
 static void print_symbols(const char *name, const uint16_t *symbols, size_t count)
@@ -475,6 +538,7 @@ int main(void)
     margin();
     lend_nothing();
     repair_two_in_pieces();
+    correct_a_share();
     store_fours();
     repair_fours();
     image_fours();

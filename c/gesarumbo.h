@@ -2,13 +2,15 @@
  * gesarumbo: rack-aware erasure coding for packaged record stores, every call proved.
  *
  * The cabinet. It has B racks of u trays, n = B*u trays in all; tray x stands in rack x/u, at place
- * x mod u. k trays' worth of data are stored, and d racks help in a repair. Write K = k/u (whole),
- * v = k mod u, r = n - k, s = d - K + 1 and L = s^B. A tray has L symbols of one byte, in layers 0
- * to L-1. A codeword lies tray after tray, symbol j of tray x at x*L + j, so that the trays of a
- * rack lie side by side.
+ * x mod u. k trays' worth of data are stored, and d racks help in a repair, of which E may send a
+ * wrong share. Write K = k/u (whole), v = k mod u, r = n - k, s = d - K + 1 - 2*E and L = s^B. A
+ * tray has L symbols of one byte, in layers 0 to L-1. A codeword lies tray after tray, symbol j of
+ * tray x at x*L + j, so that the trays of a rack lie side by side.
  *
  * A layout is admissible exactly when all of these hold: B >= 2; u is 1, 3, 5, 15 or 17; n <= 60;
- * u <= k; u <= n - k; K <= d; d <= B - 1; L <= 4096.
+ * u <= k; u <= n - k; E is 0 or 1; K + 2*E <= d; d <= B - 1; L <= 4096. With E = 1 a lost tray is
+ * repaired by gesarumbo_repair_correcting; the calls whose ground 1 says so are for E = 0 only, and
+ * all others for both. E is a number of the code: data stored with one E are not read with another.
  *
  * The code. Symbols are elements of the field of 256 with polynomial 11D (hex) and root 2. Layer j
  * has a digit in base s for each rack, that of rack 0 the lowest. The point of rack i, digit a and
@@ -21,7 +23,7 @@
  * applies, on the first that does:
  *
  *    0   done
- *    1   layout not admissible
+ *    1   layout not admissible, or E not the one that the call is for
  *    2   a lent buffer is not exactly the length its rule gives (symbols, shares, spare, states, an
  *        image being written; not lists, not an image being read)
  *    3   a tray or rack number outside the layout, a state outside its values, an image to be
@@ -39,6 +41,7 @@
  *   10   image marked demonstration
  *   11   image of another layout or volume
  *   13   a layer asked for of the lost tray is not in a group that is done
+ *   14   the shares do not meet the checks, and no change of one helper's share makes them
  *
  * A refused call has changed no byte of any buffer, and every other number it answers is 0; a scrub
  * record is handed back as it came.
@@ -60,9 +63,9 @@
 extern "C" {
 #endif
 
-/* B, u, k and d: any values, each call says whether they are admissible. */
+/* B, u, k, d and E: any values, each call says whether they are admissible. */
 typedef struct {
-    uint32_t racks, size, dimension, helpers;
+    uint32_t racks, size, dimension, helpers, errors;
 } gesarumbo_layout;
 
 typedef struct {
@@ -85,6 +88,12 @@ typedef struct {
     uint64_t crossed;   /* symbols crossed: d for each lost tray and group done */
     uint64_t remaining; /* symbols still to come: as many for each group after the last one done */
 } gesarumbo_repaired;
+
+typedef struct {
+    uint32_t refusal;
+    uint32_t rack;    /* the helper whose share was wrong; B where none was; 0 with a refusal */
+    uint64_t crossed; /* symbols crossed: d*L/s */
+} gesarumbo_corrected;
 
 typedef struct {
     uint32_t refusal;
@@ -178,7 +187,8 @@ uint32_t gesarumbo_share_add(gesarumbo_layout layout, uint32_t host, uint32_t tr
 /*
  * Works out a helper rack's shares for a host rack with e = lost_count lost trays, from the
  * helper's u*L bytes. They are shares m = 0 to e-1, L/s bytes each, one after another.
- * Grounds: 1; 2, rack or the e*L/s bytes of share; 3, either rack; 12; 6, both racks are the same.
+ * Grounds: 1, also for E = 1; 2, rack or the e*L/s bytes of share; 3, either rack; 12; 6, both racks
+ * are the same.
  * Done: every byte of share is written, whatever it held. Symbol p of share m is the exclusive or
  * of all the helper's symbols in the s layers of group p, those of the tray at place g each times
  * 2 to the power g*m*(255/u). With e = 1 the bytes are those of gesarumbo_share.
@@ -192,8 +202,8 @@ uint32_t gesarumbo_share_many(gesarumbo_layout layout, uint32_t lost_count,
  * Adds one tray's part to the shares of e*L/s bytes for a host rack with e = lost_count lost trays,
  * from the tray's L bytes. Clear the shares first and feed each of the rack's u trays once, in any
  * order: they are then the rack's shares.
- * Grounds: 1; 2, either buffer; 3, the host rack or the tray; 12; 6, the tray stands in the host
- * rack.
+ * Grounds: 1, also for E = 1; 2, either buffer; 3, the host rack or the tray; 12; 6, the tray stands
+ * in the host rack.
  * Done: share holds what it held, plus this tray's part. Part m is 2 to the power g*m*(255/u) times
  * what gesarumbo_share_add adds, g being the tray's place. A tray fed twice cancels.
  */
@@ -206,7 +216,7 @@ uint32_t gesarumbo_share_add_many(gesarumbo_layout layout, uint32_t lost_count,
  * Repairs a lost tray, or a piece of it. helpers are d racks, rising; shares are theirs in this
  * order, d*L/s bytes; host is the u*L bytes of the lost tray's rack, of which those of the lost
  * tray are not looked at; spare has L bytes.
- * Grounds: 1; 2, shares, host or spare; 3, the tray or a helper; 4; 5; 6; 7.
+ * Grounds: 1, also for E = 1; 2, shares, host or spare; 3, the tray or a helper; 4; 5; 6; 7.
  * Done: the groups from first on, the smaller of budget and the groups left. Their layers of spare
  * are written, and no other byte. From the shares and sound trays of a codeword these are its lost
  * symbols; from any others they are fixed all the same, by the checks t = 0, u, 2u and on summed
@@ -227,8 +237,8 @@ gesarumbo_repaired gesarumbo_repair(gesarumbo_layout layout, uint32_t lost,
  * helpers rise; shares are the helpers' in this order, e*d*L/s bytes, those of one helper in order
  * of m; host is the u*L bytes of the lost trays' rack, of which those of the lost trays are not
  * looked at; spare has e*L bytes, tray after tray as listed.
- * Grounds: 1; 2, shares, host or spare; 3, a lost tray, also one outside the first one's rack, or a
- * helper; 4, either list; 5; 12; 6; 7.
+ * Grounds: 1, also for E = 1; 2, shares, host or spare; 3, a lost tray, also one outside the first
+ * one's rack, or a helper; 4, either list; 5; 12; 6; 7.
  * Done: the groups from first on, the smaller of budget and the groups left. Their layers of every
  * tray in spare are written, and no other byte. From the shares and sound trays of a codeword these
  * are its lost symbols; from any others they are fixed all the same, by the checks t = m, u + m,
@@ -245,10 +255,34 @@ gesarumbo_repaired gesarumbo_repair_many(gesarumbo_layout layout,
                                          uint64_t first, uint64_t budget);
 
 /*
+ * Repairs a lost tray, all groups at once, though one helper's share may be wrong: E is 1. helpers
+ * are d racks, rising; shares are theirs in this order, as gesarumbo_share gives them, d*L/s bytes;
+ * host is the u*L bytes of the lost tray's rack, of which those of the lost tray are not looked at;
+ * spare has L bytes.
+ * The shares meet the checks where, in each group, some sums of the host rack in its layers and
+ * some group sums of the racks that do not help solve the R = B - K checks t = 0, u, 2u and on
+ * summed over the group. At most one helper and one changed share make them do so.
+ * Grounds: 1, also for E = 0; 2, shares, host or spare; 3, the tray or a helper; 4; 5; 6; 14, exactly
+ * when the shares neither meet the checks nor can be made to by changing one helper's share, in any
+ * of its symbols.
+ * Done: every byte of spare is written, whatever it held: in each layer the host rack's sum, of the
+ * shares so changed, plus its other trays' symbols. rack is the helper whose share had to be
+ * changed, B where none had. d*L/s symbols have crossed.
+ * If sound trays and shares are a codeword's, but for at most one helper's share, which may be wrong
+ * in any of its symbols, then spare is the codeword's lost tray, and rack is the helper whose share
+ * differs, B for none. Where two are wrong nothing is said of this.
+ */
+gesarumbo_corrected gesarumbo_repair_correcting(gesarumbo_layout layout, uint32_t lost,
+                                                const uint32_t *helpers, size_t helpers_count,
+                                                const uint8_t *shares, size_t shares_length,
+                                                const uint8_t *host, size_t host_length,
+                                                uint8_t *spare, size_t spare_length);
+
+/*
  * Reads layers first to end - 1 of a tray while the tray lost is being repaired in spare, where so
  * many groups are done from group 0. codeword, the store, has n*L bytes and spare has L.
- * Grounds: 1; 2, codeword or spare; 3, either tray, groups above L/s, end above L, or end below
- * first; 13.
+ * Grounds: 1, also for E = 1; 2, codeword or spare; 3, either tray, groups above L/s, end above L, or
+ * end below first; 13.
  * Done: where the part lies: in the store for a tray that is not lost, in the spare for the lost
  * one, every layer asked for being in a group done. With first = end it is empty. Nothing is
  * written.
@@ -270,7 +304,8 @@ gesarumbo_part gesarumbo_read_part(gesarumbo_layout layout,
  *    at 3      1 byte    state
  *    at 4..7   1 each    B, u, k, d
  *    at 8      1 byte    tray number
- *    at 9      3 bytes   zero
+ *    at 9      1 byte    E
+ *    at 10     2 bytes   zero
  *    at 12     4 bytes   volume number
  *    at 16     4 bytes   offset of the symbols, 24
  *    at 20     4 bytes   count of the symbols, L
@@ -335,8 +370,9 @@ gesarumbo_scrubbed gesarumbo_scrub(gesarumbo_layout layout,
  * of 3, with 256/u in place of 255/u.
  *
  * Symbols are the numbers 0 to 256, and every sum is one modulo 257 in place of the exclusive or.
- * So signs matter: a tray fed twice to a share counts twice. Lengths count symbols; images and
- * states stay bytes, and their lengths count bytes.
+ * So signs matter: a lost symbol is the host rack's sum less its other trays' symbols, and a tray
+ * fed twice to a share counts twice. Lengths count symbols; images and states stay bytes, and their
+ * lengths count bytes.
  *
  * Ground 3 applies also where a number above 256 stands where the call looks:
  *
@@ -347,6 +383,7 @@ gesarumbo_scrubbed gesarumbo_scrub(gesarumbo_layout layout,
  *    share_add, share_add_many   the tray, and what the share holds
  *    repair, repair_many         the share symbols of the groups that the call does, and the
  *                                symbols of the host's sound trays in their layers
+ *    repair_correcting           the shares, and the host's sound trays
  *    write_image                 the symbols
  *    scrub                       the layers that the call tests
  *
@@ -411,6 +448,12 @@ gesarumbo_repaired gesarumbo257_repair_many(gesarumbo_layout layout,
                                             const uint16_t *host, size_t host_length,
                                             uint16_t *spare, size_t spare_length,
                                             uint64_t first, uint64_t budget);
+
+gesarumbo_corrected gesarumbo257_repair_correcting(gesarumbo_layout layout, uint32_t lost,
+                                                   const uint32_t *helpers, size_t helpers_count,
+                                                   const uint16_t *shares, size_t shares_length,
+                                                   const uint16_t *host, size_t host_length,
+                                                   uint16_t *spare, size_t spare_length);
 
 gesarumbo_part gesarumbo257_read_part(gesarumbo_layout layout,
                                       const uint16_t *codeword, size_t codeword_length,

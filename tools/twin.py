@@ -25,6 +25,8 @@ TWINS = {
     'sums': ['digit_point', 'inverse'],
     'group': [],
     'pieces': [],
+    'locating': [],
+    'correcting': [],
     'share': [],
     'seen': [],
     'repair': [],
@@ -35,7 +37,7 @@ TWINS = {
     'points': ['point_power', 'place_power'],
 }
 # types of a crate that its twin takes from it
-TAKEN = {'repair': ['Repaired'], 'scrub': ['Report', 'Scrubbed', 'Walk']}
+TAKEN = {'repair': ['Repaired'], 'correcting': ['Corrected'], 'scrub': ['Report', 'Scrubbed', 'Walk']}
 # the crate of the boundary, its module over the first field, and the one that is made from it
 BOUNDARY, FIRST, SECOND = 'gesarumbo', 'field256', 'field257'
 
@@ -121,8 +123,12 @@ def headed(source, text):
 
 
 def same(a, b):
-    """Whether two texts differ in their layout only: `rt fmt` breaks a longer line."""
-    bare = lambda t: re.sub(r',(?=\))', '', re.sub(r'\s+', '', t))
+    """Whether two texts differ in their layout only: `rt fmt` breaks a longer line and sorts the uses."""
+    def bare(text):
+        uses = [line for line in text.split('\n') if line.startswith('use ')]
+        rest = '\n'.join(line for line in text.split('\n') if not line.startswith('use '))
+        return sorted(uses), re.sub(r',(?=\))', '', re.sub(r'\s+', '', rest))
+
     return a is not None and bare(a) == bare(b)
 
 

@@ -9,7 +9,7 @@ use lib.Dec.{eqb}
 use Rattle.algebra.specs.Field.{Ops, Laws}
 use Rattle.algebra.specs.Sum.{sum, pow}
 use Rattle.algebra.specs.Lagrange.{check}
-use Rattle.algebra.specs.Erasure.{choose, Alike, Places, Meets, recover}
+use Rattle.algebra.specs.Erasure.{choose, Alike, Places, Meets, zeros, recover}
 use Rattle.algebra.specs.Shape.{Shape, Fits}
 use Rattle.algebra.specs.Points.{point, place, rackSum, rackCheck}
 use Rattle.algebra.specs.Layers.{digit, groupOf, layerOf}
@@ -22,7 +22,7 @@ use Rattle.algebra.proofs.Sum.{sum-congr, sum-swap, sum-single, sum-is-
 use Rattle.algebra.proofs.Erasure.{check-congr, recovered, recovered-only}
 use Rattle.algebra.proofs.Points.{places-distinct, rack-check}
 use Rattle.algebra.proofs.Layers.{digit-below, layer-digit, layer-other, layer-group, layer-in, layer-back}
-use Rattle.algebra.proofs.Skip.{skip-other, unskip-skip, digits-host, digits-other, join-low, join-high}
+use Rattle.algebra.proofs.Skip.{skip-other, skip-unskip, unskip-skip, digits-host, digits-other, join-low, join-high, join-add}
 use Rattle.algebra.proofs.Group.{group-check}
 use Rattle.algebra.proofs.Repair.{point-not-zero, solution, solution-meets, solution-shares, solution-host, host-only}
 
@@ -145,9 +145,22 @@ module _ {A : Type 0} (sh : Shape A) (fits : Fits sh) (h : ℕ) (host : h < sh .
             back : (x s : ℕ) → ¬ (x < s) → s + (x - s) ≡ x
             back x s k = omega arith
 
-    pub solved : Solution sh m h p helper d R share witness
-    unfolding helperPlace weight groupOther
-    solved = record {
+    -- the word of the group by the first R checks
+    pub group-solution : ℕ → A
+    group-solution = solution sh fits h a a-below helper d R helping m share
+
+    pub group-meets : Meets o (groupPoint sh h (digit s (layerOf s h p 0))) (s + (B - 1)) R (zeros o) group-solution
+    unfolding group-solution a
+    group-meets = solution-meets sh fits h a a-below helper d R helping m share
+
+    pub group-shares : (k : ℕ) → k < d → group-solution (helperPlace s h helper k) ≡ pow o (point sh (helper k) (digit s (layerOf s h p 0) (helper k)) 0) m ⊗ share k
+    unfolding group-solution a
+    group-shares = solution-shares sh fits h a a-below helper d R helping m share
+
+    -- so far as it meets checks, there is a solution of these
+    pub solved-to : (r : ℕ) → Meets o (groupPoint sh h (digit s (layerOf s h p 0))) (s + (B - 1)) r (zeros o) group-solution → Solution sh m h p helper d r share witness
+    unfolding helperPlace weight groupOther group-solution a
+    solved-to r good = record {
       given = λ k l.
           group-sum (witness (helper k))
           ∙ witness-sum (helper k) (helping .other k l)
@@ -157,8 +170,25 @@ module _ {A : Type 0} (sh : Shape A) (fits : Fits sh) (h : ℕ) (host : h < sh .
           sum-checks m witness w
           ∙ group-check sh fits h host a (λ b i. witness i (layerOf s h p b)) w m
           ∙ check-congr o L (groupPoint sh h a) (s + (B - 1)) (λ x. x) _ _ w word-is
-          ∙ (solution-meets sh fits h a a-below helper d R helping m share) .at w l;
+          ∙ good .at w l;
     }
+
+    pub solved : Solution sh m h p helper d R share witness
+    solved = solved-to R group-meets
+
+  -- the word of a solution meets the checks, and has at the helpers' places what they sent
+  module _ (m : ℕ) (helper : ℕ → ℕ) (d r : ℕ) (share : ℕ → A) (ρ : ℕ → ℕ → A) (sol : Solution sh m h p helper d r share ρ) where
+    pub solution-word : Meets o (groupPoint sh h (digit s (layerOf s h p 0))) (s + (B - 1)) r (zeros o) (groupWord sh h (digit s (layerOf s h p 0)) m (λ b i. ρ i (layerOf s h p b)))
+    unfolding a
+    solution-word = record { at = λ w l. sym (group-check sh fits h host a (λ b i. ρ i (layerOf s h p b)) w m) ∙ sym (sum-checks m ρ w) ∙ sol .checks w l }
+
+    pub solution-sent : (k : ℕ) → k < d → ¬ (helper k ≡ h) →
+        groupWord sh h (digit s (layerOf s h p 0)) m (λ b i. ρ i (layerOf s h p b)) (helperPlace s h helper k) ≡ pow o (point sh (helper k) (digit s (layerOf s h p 0) (helper k)) 0) m ⊗ share k
+    unfolding groupWord helperPlace a
+    solution-sent k l d′ =
+        join-add s _ _ (unskip h (helper k))
+        ∙ ap (λ i. pow o (point sh i (a i) 0) m ⊗ sum o s (λ b. ρ i (layerOf s h p b))) (skip-unskip h (helper k) d′)
+        ∙ ap (λ x. pow o (point sh (helper k) (a (helper k)) 0) m ⊗ x) (sym (group-sum (ρ (helper k))) ∙ sol .given k l)
 
   -- a codeword's rack sums are a solution for its shares
   pub codeword-solution : (m : ℕ) (helper : ℕ → ℕ) (d R r : ℕ) → ((w : ℕ) → w < R → u * w + m < r) → (c : ℕ → ℕ → A) → Codeword sh r c →

@@ -19,3 +19,5 @@ pub mod Repair
 pub mod Cabinet
 pub mod Restore
 pub mod Numbers
+pub mod Residue
+pub mod Locate

@@ -11,3 +11,5 @@ pub mod Cabinet
 pub mod Group
 pub mod Repair
 pub mod Plain
+pub mod Consistent
+pub mod Locate

@@ -34,7 +34,7 @@ AllHold [] = Unit
 AllHold (line ∷ lines) = Holds line × AllHold lines
 
 abbrev pub cabinet : ℕ → ℕ → ℕ → ℕ → Layout
-cabinet b u k d = record { racks = b; size = u; dimension = k; helpers = d }
+cabinet b u k d = record { racks = b; size = u; dimension = k; helpers = d; errors = 0 }
 
 -- (3, 1, 1, 2): tray after tray
 abbrev pub tray0 : List ℕ

@@ -1,5 +1,6 @@
 pub mod Usable
 pub mod Buffers
+pub mod Words
 pub mod Points
 pub mod Answers
 pub mod Unique

@@ -34,10 +34,14 @@ module _ {A : Type 0} (f : Field A) (l : Layout) where
     pub symbols : InRange (f .coding) c
     pub holds : (j : ℕ) → j < layers l → (t : ℕ) → t < checks l → checkAt c j t ≡ f .ops .zero
 
--- what the theorems ask of a field and a layout; every layout that is admissible for the field has it
+-- what the theorems ask of a field and a layout; every layout that is admissible for the field has it (`usable`)
 pub record Usable {A : Type 0} (f : Field A) (l : Layout) : Type 0 where
   pub field : FieldLaws f
   pub fits : Fits (shapeOf f l)
+
+-- what the rule of repair in pieces asks besides: as many checks of a group as unknowns. Every such layout with E = 0 has it (`solvable`)
+pub record Solvable {A : Type 0} (f : Field A) (l : Layout) : Type 0 where
+  pub usable : Usable f l
   pub groups-are : groups l ≡ digits l ^ (l .racks - 1)
   pub total : parityRacks l + l .helpers ≡ digits l + (l .racks - 1)
   pub few : l .helpers ≤ l .racks - 1

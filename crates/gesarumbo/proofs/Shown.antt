@@ -20,7 +20,10 @@ use Rattle.repair.specs.Repair.{RepairAnswer}
 use Rattle.algebra.specs.Shape.{Field}
 use Rattle.gesarumbo.specs.declared.numbers.PartNumbers.{PartNumbers}
 use Rattle.gesarumbo.specs.declared.numbers.RepairNumbers.{RepairNumbers}
-use Rattle.gesarumbo.specs.Boundary.{repairNumbers, ReadShown, RepairShown, PartShown}
+use Rattle.correcting.specs.declared.Corrected.{Corrected}
+use Rattle.correcting.specs.Correcting.{CorrectingAnswer}
+use Rattle.gesarumbo.specs.declared.numbers.CorrectedNumbers.{CorrectedNumbers}
+use Rattle.gesarumbo.specs.Boundary.{repairNumbers, correctedNumbers, ReadShown, RepairShown, CorrectingShown, PartShown}
 use Rattle.gesarumbo.specs.Inner.{partNumbers}
 
 -- a part is as long as it says
@@ -64,6 +67,13 @@ module _ {A : Type 0} (f : Field A) (l : Layout) (helpers shares host : List ℕ
       RepairShown f l (lost ∷ []) helpers shares host first budget old new r
   repair-shown lost t e right shown =
       repair-many-shown (lost ∷ []) (subst (λ x. RepairAnswer f l (x ∷ []) helpers shares host first budget old new a) e right) shown
+
+-- the calls for one lost tray, by its number
+module _ {A : Type 0} (f : Field A) (l : Layout) (helpers shares host old new : List ℕ) (lost : ℕ) (t : Tray) (e : t .0 ≡ lost) where
+  pub correcting-shown : (a : Corrected) (r : CorrectedNumbers) → CorrectingAnswer f l (t .0) helpers shares host old new a → r ≡ correctedNumbers a →
+      CorrectingShown f l lost helpers shares host old new r
+  correcting-shown a r right shown =
+      record { answer = a; right = subst (λ x. CorrectingAnswer f l x helpers shares host old new a) e right; shown = shown }
 
 -- and so is one of two runs
 own-run : (b : Bool) (n x y : ℕ) (s c part : List ℕ) → part ≡ cond b (take n (drop x s)) (take n (drop y c)) →

@@ -22,7 +22,10 @@ use Rattle.gesarumbo.specs.declared.numbers.MarginNumbers.{MarginNumbers
 use Rattle.gesarumbo.specs.declared.numbers.MeasureNumbers.{MeasureNumbers}
 use Rattle.repair.specs.declared.Repaired.{Repaired}
 use Rattle.repair.specs.Repair.{report, RepairAnswer}
+use Rattle.correcting.specs.declared.Corrected.{Corrected}
+use Rattle.correcting.specs.Correcting.{CorrectingAnswer, report as corrected}
 use Rattle.reading.specs.Reading.{partRefusal, partGiven}
+use Rattle.gesarumbo.specs.declared.numbers.CorrectedNumbers.{CorrectedNumbers}
 use Rattle.gesarumbo.specs.declared.numbers.PartNumbers.{PartNumbers}
 use Rattle.gesarumbo.specs.declared.numbers.RepairNumbers.{RepairNumbers}
 use Rattle.gesarumbo.specs.declared.numbers.TestNumbers.{TestNumbers}
@@ -41,6 +44,9 @@ marginNumbers a = record { refusal = refusalOf a; margin = valueOf a }
 abbrev pub repairNumbers : Repaired → RepairNumbers
 repairNumbers a =
     record { refusal = report a .refusal; groups = report a .groupsDone; crossed = report a .crossed; remaining = report a .remaining }
+
+abbrev pub correctedNumbers : Corrected → CorrectedNumbers
+correctedNumbers a = record { refusal = corrected a .refusal; rack = corrected a .rack; crossed = corrected a .crossed }
 
 abbrev pub scrubNumbers : Scrubbed → ScrubNumbers
 scrubNumbers a = record { refusal = reported (a .report) .refusal; report = reported (a .report) .report; walk = a .walk }
@@ -64,6 +70,12 @@ pub record RepairShown {A : Type 0} (f : Field A) (l : Layout) (lost helpers sha
   pub answer : Repaired
   pub right : RepairAnswer f l lost helpers shares host first budget old new answer
   pub shown : r ≡ repairNumbers answer
+
+-- the same of the correcting repair
+pub record CorrectingShown {A : Type 0} (f : Field A) (l : Layout) (lost : ℕ) (helpers shares host old new : List ℕ) (r : CorrectedNumbers) : Type 0 where
+  pub answer : Corrected
+  pub right : CorrectingAnswer f l lost helpers shares host old new answer
+  pub shown : r ≡ correctedNumbers answer
 
 -- the place of the part that a read gives while a tray is being repaired: source is 1 for the codeword and 2 for the spare. N is the number of powers of the field's root
 module _ (N : ℕ) (l : Layout) (codeword spare : List ℕ) (lost done tray first end : ℕ) where

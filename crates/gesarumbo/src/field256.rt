@@ -1,5 +1,6 @@
 // The calls over the field of 256.
 use crate::numbers;
+use crate::numbers::CorrectedNumbers;
 use crate::numbers::MarginNumbers;
 use crate::numbers::MeasureNumbers;
 use crate::numbers::PartNumbers;
@@ -22,7 +23,7 @@ ghost use Rattle.margin.specs.Margin.{marginRefusal, marginValue};
 ghost use Rattle.share.specs.Share.{shareRefusal, shareBuffer, addRefusal, addBuffer};
 ghost use Rattle.share.specs.Many.{manyRefusal, manyBuffer, addManyRefusal, addManyBuffer};
 ghost use Rattle.scrub.specs.Scrub.{scrubbed, begun};
-ghost use Rattle.gesarumbo.specs.Boundary.{measureNumbers, scrubNumbers, TestShown, RepairShown, PartShown};
+ghost use Rattle.gesarumbo.specs.Boundary.{measureNumbers, scrubNumbers, TestShown, RepairShown, CorrectingShown, PartShown};
 
 #[no_mangle]
 pub extern "C" fn gesarumbo_measure(l: Layout) -> MeasureNumbers
@@ -143,6 +144,27 @@ pub extern "C" fn gesarumbo_repair_many(
         spare,
         first,
         budget,
+    ))
+}
+
+#[no_mangle]
+pub extern "C" fn gesarumbo_repair_correcting(
+    l: Layout,
+    lost: u32,
+    helpers: &[u32],
+    shares: &[u8],
+    host: &[u8],
+    spare: &mut [u8],
+) -> CorrectedNumbers
+    ensures { λ r. ⌜ CorrectingShown gf256 l lost (now (helpers .entry)) (now (shares .entry)) (now (host .entry)) (now (spare .entry)) (now (spare .exit)) r ⌝ }
+{
+    numbers::corrected_numbers(correcting::repair_correcting(
+        l,
+        Tray::of(lost),
+        helpers,
+        shares,
+        host,
+        spare,
     ))
 }
 

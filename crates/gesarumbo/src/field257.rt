@@ -1,6 +1,7 @@
 // Made by tools/twin.py from crates/gesarumbo/src/field256.rt.
 // The calls over the field modulo 257.
 use crate::numbers;
+use crate::numbers::CorrectedNumbers;
 use crate::numbers::MarginNumbers;
 use crate::numbers::MeasureNumbers;
 use crate::numbers::PartNumbers;
@@ -23,7 +24,7 @@ ghost use Rattle.margin.specs.Margin.{marginRefusal, marginValue};
 ghost use Rattle.share.specs.Share.{shareRefusal, shareBuffer, addRefusal, addBuffer};
 ghost use Rattle.share.specs.Many.{manyRefusal, manyBuffer, addManyRefusal, addManyBuffer};
 ghost use Rattle.scrub.specs.Scrub.{scrubbed, begun};
-ghost use Rattle.gesarumbo.specs.Boundary.{measureNumbers, scrubNumbers, TestShown, RepairShown, PartShown};
+ghost use Rattle.gesarumbo.specs.Boundary.{measureNumbers, scrubNumbers, TestShown, RepairShown, CorrectingShown, PartShown};
 
 #[no_mangle]
 pub extern "C" fn gesarumbo257_measure(l: Layout) -> MeasureNumbers
@@ -144,6 +145,27 @@ pub extern "C" fn gesarumbo257_repair_many(
         spare,
         first,
         budget,
+    ))
+}
+
+#[no_mangle]
+pub extern "C" fn gesarumbo257_repair_correcting(
+    l: Layout,
+    lost: u32,
+    helpers: &[u32],
+    shares: &[u16],
+    host: &[u16],
+    spare: &mut [u16],
+) -> CorrectedNumbers
+    ensures { λ r. ⌜ CorrectingShown gf257 l lost (now (helpers .entry)) (now (shares .entry)) (now (host .entry)) (now (spare .entry)) (now (spare .exit)) r ⌝ }
+{
+    numbers::corrected_numbers(correcting257::repair_correcting(
+        l,
+        Tray::of(lost),
+        helpers,
+        shares,
+        host,
+        spare,
     ))
 }
 

@@ -1,5 +1,6 @@
 // The structs that cross to C, as in c/gesarumbo.h, and the numbers that they have for an answer.
 use codeword::Tested;
+use correcting::Corrected;
 use layout::Measured;
 use margin::LossMargin;
 use repair::Repaired;
@@ -7,7 +8,7 @@ use scrub::Report;
 use scrub::Scrubbed;
 use scrub::Walk;
 ghost use mathlib.Core.Path.{_≡_};
-ghost use Rattle.gesarumbo.specs.Boundary.{measureNumbers, testNumbers, marginNumbers, repairNumbers, scrubNumbers};
+ghost use Rattle.gesarumbo.specs.Boundary.{measureNumbers, testNumbers, marginNumbers, repairNumbers, correctedNumbers, scrubNumbers};
 ghost use Rattle.gesarumbo.specs.Inner.{partNumbers};
 
 #[repr(C)]
@@ -32,6 +33,13 @@ pub struct RepairNumbers {
     pub groups: u64,
     pub crossed: u64,
     pub remaining: u64,
+}
+
+#[repr(C)]
+pub struct CorrectedNumbers {
+    pub refusal: u32,
+    pub rack: u32,
+    pub crossed: u64,
 }
 
 #[repr(C)]
@@ -133,6 +141,24 @@ pub fn repair_numbers(answer: Repaired) -> RepairNumbers
             groups: 0,
             crossed: 0,
             remaining: 0,
+        },
+    }
+}
+
+// The numbers of an answer of the correcting repair.
+pub fn corrected_numbers(answer: Corrected) -> CorrectedNumbers
+    ensures { λ r. ⌜ r ≡ correctedNumbers answer ⌝ }
+{
+    match answer {
+        Corrected::Done { rack, crossed } => CorrectedNumbers {
+            refusal: 0,
+            rack: rack,
+            crossed: crossed,
+        },
+        Corrected::Refused(e) => CorrectedNumbers {
+            refusal: e as u32,
+            rack: 0,
+            crossed: 0,
         },
     }
 }

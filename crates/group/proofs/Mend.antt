@@ -23,11 +23,11 @@ use Rattle.kernel.specs.Runs.{cell}
 use Rattle.kernel.proofs.Rows.{cell-is}
 use Rattle.columns.specs.Columns.{column, Systems, Solved}
 use Rattle.layout.specs.declared.Layout.{Layout}
-use Rattle.layout.specs.Layout.{digits, layers, groups, Admissible}
+use Rattle.layout.specs.Layout.{digits, layers, groups, AdmissibleWith}
 use Rattle.layout.proofs.Facts.{bounds}
 use Rattle.layout.proofs.Numbers.{layer-below}
 use Rattle.codeword.specs.Codeword.{shapeOf}
-use Rattle.codeword.proofs.Usable.{usable}
+use Rattle.codeword.proofs.Usable.{solvable}
 use Rattle.blocks.specs.Blocks.{Block}
 use Rattle.rule.specs.Rule.{groupAt, rackSymbol}
 use Rattle.rule.specs.Lost.{firstLost, lostPlace, Losses, Piece}
@@ -134,13 +134,13 @@ module _ {A : Type 0} {f : Field A} (W : Working f) where
     mended-end a s old new es g p q = let e : a ≡ digits l = omega arith in subst (λ n. BlockMended f l h lost host w first sums n old new) e g
 
   -- a block written whole, by the host's own sums, is as the rule fixes it
-  module _ (l : Layout) (lost helpers shares host : List ℕ) (w first : ℕ) (sums : List ℕ) (adm : Admissible (f .order) l) (given : Losses l lost helpers) (block : Block l w first)
+  module _ (l : Layout) (lost helpers shares host : List ℕ) (w first : ℕ) (sums : List ℕ) (adm : AdmissibleWith (f .order) 0 l) (given : Losses l lost helpers) (block : Block l w first)
       (inside : first + w ≤ groups l) (S : (SumsTo f) l (firstLost l lost / l .size) w first helpers shares (length lost) (length lost) sums) where
     abbrev h : ℕ
     h = firstLost l lost / l .size
 
     pos : 0 < digits l
-    pos = bounds l (adm .cabinet) .digits-low
+    pos = bounds l (adm .admissible .cabinet) .digits-low
 
     group-is : (y b j : ℕ) → b < digits l → y ≡ layerOf (digits l) h (first + j) b → groupAt l (firstLost l lost) y ≡ first + j
     group-is y b j hb e = ap (groupAt l (firstLost l lost)) e ∙ layer-group (digits l) pos h (first + j) b hb
@@ -159,7 +159,7 @@ module _ {A : Type 0} {f : Field A} (W : Working f) where
       symbol-is : (i : ℕ) → val (foundAt f l lost host h w first sums (digit (digits l) y h) j i) ≡ lostSymbol f l lost helpers shares host i y
       unfolding foundAt lostSymbol
       symbol-is i =
-          ap val (erased-congr ops (place (shapeOf f l)) (l .size) (lostPlace l lost) (length lost) (lost-places f l (usable W l adm) lost helpers given) _ _ _ _
+          ap val (erased-congr ops (place (shapeOf f l)) (l .size) (lostPlace l lost) (length lost) (lost-places f l (solvable W l adm) lost helpers given) _ _ _ _
           sum-is (record { at = λ g hg out. ap (rackSymbol f l host g) layer-is }) i)
 
       written : (old new : List ℕ) → BlockMended f l h lost host w first sums (digits l) old new →
@@ -173,7 +173,7 @@ module _ {A : Type 0} {f : Field A} (W : Working f) where
         Piece f l lost helpers shares host first w old new
     mended-piece old new q = record {
       long = q .long;
-      done = λ p low high. is-ruled f l (usable W l adm) lost helpers given shares host p (omega arith) new (λ i k y hy e.
+      done = λ p low high. is-ruled f l (solvable W l adm) lost helpers given shares host p (omega arith) new (λ i k y hy e.
           let b : p - first < w = omega arith in
           let c : p ≡ first + (p - first) = omega arith in
           written y (p - first) b (e ∙ c) old new q i k hy);

@@ -17,7 +17,7 @@ module _ (ed : Edition) (l : Layout) (tray state volume : ℕ) where
   -- the header byte for byte
   pub header-is : (total x : ℕ) → total ≡ layers l → x ≡ tray →
       _≡_ {A = List ℕ}
-      (headerLength ∷ 0 ∷ ed .number % 256 ∷ state % 256 ∷ l .racks % 256 ∷ l .size % 256 ∷ l .dimension % 256 ∷ l .helpers % 256 ∷ x % 256 ∷ 0 ∷ 0 ∷ 0
+      (headerLength ∷ 0 ∷ ed .number % 256 ∷ state % 256 ∷ l .racks % 256 ∷ l .size % 256 ∷ l .dimension % 256 ∷ l .helpers % 256 ∷ x % 256 ∷ l .errors % 256 ∷ 0 ∷ 0
       ∷ volume % 256 ∷ volume / 256 % 256 ∷ volume / 256 / 256 % 256 ∷ volume / 256 / 256 / 256 % 256 ∷ headerLength ∷ 0 ∷ 0 ∷ 0
       ∷ total % 256 ∷ total / 256 % 256 ∷ total / 256 / 256 % 256 ∷ total / 256 / 256 / 256 % 256 ∷ [])
       (header ed l tray state volume)

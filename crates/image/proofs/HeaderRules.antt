@@ -42,7 +42,8 @@ module _ (ed : Edition) (g : Proper ed) (s : List ℕ) (byte : (i : ℕ) → get
       ++ entry 1 6 (getD s 6 0) (one 6) i
       ++ entry 1 7 (getD s 7 0) (one 7) i
       ++ entry 1 8 (ownTray s) (one 8) i
-      ++ entry 3 9 0 (sym (r .zero-is)) i
+      ++ entry 1 9 (getD s 9 0) (one 9) i
+      ++ entry 2 10 0 (sym (r .zero-is)) i
       ++ entry 4 12 (ownVolume s) refl i
       ++ entry 4 16 headerLength (sym (r .offset-is)) i
       ++ entry 4 20 (layers (ownLayout s)) (sym (r .count-is)) i
@@ -71,7 +72,7 @@ module _ (ed : Edition) (g : Proper ed) (s : List ℕ) (byte : (i : ℕ) → get
 record Fixed (ed : Edition) (s : List ℕ) (total : ℕ) : Type 0 where
   length-is : numberAt 0 2 s ≡ headerLength
   edition-is : numberAt 2 1 s ≡ ed .number
-  zero-is : numberAt 9 3 s ≡ 0
+  zero-is : numberAt 10 2 s ≡ 0
   offset-is : numberAt 16 4 s ≡ headerLength
   count-is : numberAt 20 4 s ≡ total
 

@@ -11,7 +11,7 @@ use Rattle.image.specs.Image.{edition1, edition2, little, header, symbol
 use Rattle.image.specs.Image.{headerFormed, wellFormed, sameLayout, formedRefusal, readRefusal, readTray, readSymbols}
 
 abbrev small : Layout
-small = record { racks = 2; size = 1; dimension = 1; helpers = 1 }
+small = record { racks = 2; size = 1; dimension = 1; helpers = 1; errors = 0 }
 
 abbrev book : List ℕ
 book =

@@ -59,6 +59,7 @@ module _ (ed : Edition) (g : Proper ed) (l : Layout) (tray state volume : ℕ) (
         size = low (l .size) (omega arith) i;
         dimension = low (l .dimension) (omega arith) i;
         helpers = low (l .helpers) (omega arith) i;
+        errors = low (l .errors) (omega (arith, w .adm .errors-high)) i;
       }
 
   pub its-state : ownState image ≡ state

@@ -1,4 +1,4 @@
--- Tray images: a header of 24 bytes by document 01's table, then the symbols; and what writing and reading give. An edition says what the images of a field
+-- Tray images: a header of 24 bytes by document 01's table, with document 02's fifth number of a layout (W12), then the symbols; and what writing and reading give. An edition says what the images of a field
 -- have of their own: its number, the order of the field's root, how many symbols the field has, and the bytes that a symbol takes.
 -- Assumes nothing.
 use mathlib.Core.Bool.{Bool, cond, _&&_, _||_, not}
@@ -54,7 +54,8 @@ header e l tray state volume =
     ++ little 1 (l .dimension)
     ++ little 1 (l .helpers)
     ++ little 1 tray
-    ++ little 3 0
+    ++ little 1 (l .errors)
+    ++ little 2 0
     ++ little 4 volume
     ++ little 4 headerLength
     ++ little 4 (layers l)
@@ -102,7 +103,7 @@ abbrev pub ownState : List ℕ → ℕ
 ownState s = getD s 3 0
 
 unfoldable pub ownLayout : List ℕ → Layout
-ownLayout s = record { racks = getD s 4 0; size = getD s 5 0; dimension = getD s 6 0; helpers = getD s 7 0 }
+ownLayout s = record { racks = getD s 4 0; size = getD s 5 0; dimension = getD s 6 0; helpers = getD s 7 0; errors = getD s 9 0 }
 
 abbrev pub ownTray : List ℕ → ℕ
 ownTray s = getD s 8 0
@@ -143,10 +144,11 @@ headerFormed e s =
 unfoldable pub wellFormed : Edition → List ℕ → Bool
 wellFormed e s = headerFormed e s && symbolsHeld e s (layers (ownLayout s))
 
--- the same four numbers
+-- the same five numbers
 unfoldable pub sameLayout : Layout → Layout → Bool
 sameLayout l m =
     eqb (l .racks) (m .racks) && eqb (l .size) (m .size) && eqb (l .dimension) (m .dimension) && eqb (l .helpers) (m .helpers)
+    && eqb (l .errors) (m .errors)
 
 -- an image of the layout and volume expected
 abbrev pub expected : Layout → ℕ → List ℕ → Bool

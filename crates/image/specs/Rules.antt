@@ -18,7 +18,7 @@ pub record Rules (e : Edition) (s : List ℕ) : Type 0 where
   pub length-is : numberAt 0 2 s ≡ headerLength
   pub edition-is : numberAt 2 1 s ≡ e .number
   pub state-ok : stateAllowed (ownState s) ≡ true
-  pub zero-is : numberAt 9 3 s ≡ 0
+  pub zero-is : numberAt 10 2 s ≡ 0
   pub volume-ok : volumeAllowed (ownVolume s) ≡ true
   pub offset-is : numberAt 16 4 s ≡ headerLength
   pub count-is : numberAt 20 4 s ≡ layers (ownLayout s)

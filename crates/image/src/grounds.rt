@@ -134,7 +134,10 @@ fn same_layout(l: Layout, m: Layout) -> bool
     if l.dimension != m.dimension {
         return false;
     }
-    l.helpers == m.helpers
+    if l.helpers != m.helpers {
+        return false;
+    }
+    l.errors == m.errors
 }
 
 // The refusal of a well-formed image that is not a live one of the layout and volume expected, 0 for none.

@@ -27,7 +27,7 @@ pub fn head(e: Edition, l: Layout, tray: Tray, state: u32, volume: u32) -> [u8; 
         (l.dimension % 256) as u8,
         (l.helpers % 256) as u8,
         (x % 256) as u8,
-        0,
+        (l.errors % 256) as u8,
         0,
         0,
         (volume % 256) as u8,
@@ -63,6 +63,7 @@ pub fn own_layout(image: &[u8]) -> Layout
         size: byte_at(image, 5),
         dimension: byte_at(image, 6),
         helpers: byte_at(image, 7),
+        errors: byte_at(image, 9),
     }
 }
 

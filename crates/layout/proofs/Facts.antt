@@ -1,5 +1,5 @@
 -- What an admissible layout is, as a test and as facts, and what follows for its numbers.
-use mathlib.Core.Path.{_≡_, sym, ap, _∙_}
+use mathlib.Core.Path.{_≡_, refl, sym, ap, _∙_}
 use mathlib.Core.Bool.{Bool, true, false, not, _&&_, false≢true}
 use Prim.Native.Nat.{ℕ, zero, suc, _+_, _-_, _*_, _/_, _%_, _^_, _≤_, _<_}
 use native.Mathlib.Nat.{mul-div-le, mul-le-mul-right, le-mul-of-pos-right, one-le-pow, pow-le-pow-right, le-trans, le-of-lt, div-lt-iff-lt-mul, div-le-self}
@@ -10,7 +10,7 @@ use lib.Dec.{leb, eqb}
 use borrow.Author.Tests.{leb-true, le-leb, lt-leb, eqb-true, eq-eqb}
 use Rattle.lists.proofs.Bools.{both, and-true, not-both, not-true-false, told-true}
 use Rattle.layout.specs.declared.Layout.{Layout}
-use Rattle.layout.specs.Layout.{trays, wholeRacks, digits, layers, groups, trayLimit, layerLimit, sizeAllowed, admissible, lostCountFits, Cabinet, Admissible}
+use Rattle.layout.specs.Layout.{trays, wholeRacks, digits, layers, groups, trayLimit, layerLimit, sizeAllowed, admissible, admissibleWith, lostCountFits, Cabinet, Admissible, AdmissibleWith}
 
 -- the test of a size
 pub size-none : (N u : ℕ) → u ≡ 0 → false ≡ sizeAllowed N u
@@ -37,8 +37,9 @@ module _ (N : ℕ) (l : Layout) where
   admissible-facts h =
       let h7 = both _ (leb (layers l) layerLimit) h in
       let h6 = both _ (leb (l .helpers) (l .racks - 1)) (h7 .0) in
-      let h5 = both _ (leb (wholeRacks l) (l .helpers)) (h6 .0) in
-      let h4 = both _ (leb (l .size) (trays l - l .dimension)) (h5 .0) in
+      let h5 = both _ (leb (wholeRacks l + 2 * l .errors) (l .helpers)) (h6 .0) in
+      let h45 = both _ (leb (l .errors) 1) (h5 .0) in
+      let h4 = both _ (leb (l .size) (trays l - l .dimension)) (h45 .0) in
       let h3 = both _ (leb (l .size) (l .dimension)) (h4 .0) in
       let h2 = both _ (leb (trays l) trayLimit) (h3 .0) in
       let h1 = both (leb 2 (l .racks)) (sizeAllowed N (l .size)) (h2 .0) in
@@ -54,6 +55,7 @@ module _ (N : ℕ) (l : Layout) where
           layers-high = leb-true _ _ (h7 .1);
         };
         size-ok = size-facts N (l .size) (h1 .1) .1;
+        errors-high = leb-true _ _ (h45 .1);
       }
 
   pub facts-admissible : Admissible N l → true ≡ admissible N l
@@ -67,6 +69,7 @@ module _ (N : ℕ) (l : Layout) where
         le-leb _ _ (a .trays-high),
         le-leb _ _ (a .dimension-low),
         le-leb _ _ (a .checks-low),
+        le-leb _ _ (q .errors-high),
         le-leb _ _ (a .helpers-low),
         le-leb _ _ (a .helpers-high),
         le-leb _ _ (a .layers-high),
@@ -78,6 +81,30 @@ module _ (N : ℕ) (l : Layout) where
 
   pub inadmissible : (Admissible N l → ⊥) → false ≡ admissible N l
   inadmissible h = not-true-false (admissible N l) (λ e. h (admissible-facts e))
+
+-- the calls that are for one E only
+module _ (N e : ℕ) (l : Layout) where
+  pub with-facts : admissibleWith N e l ≡ true → AdmissibleWith N e l
+  unfolding admissibleWith
+  with-facts h = let p = both _ _ h in record { admissible = admissible-facts N l (p .0); errors-are = eqb-true _ _ (p .1) }
+
+  pub with-so : (a : Bool) → a ≡ admissibleWith N e l → not a ≡ false → AdmissibleWith N e l
+  with-so a k h = with-facts (told-true k h)
+
+  pub with-other : ¬ (l .errors ≡ e) → false ≡ admissibleWith N e l
+  unfolding admissibleWith
+  with-other d = sym (not-both (admissible N l) (eqb (l .errors) e) (λ s t. d (eqb-true _ _ t)))
+
+  pub with-same : (a : Bool) → l .errors ≡ e → a ≡ admissible N l → a ≡ admissibleWith N e l
+  unfolding admissibleWith
+  with-same a s t = t ∙ go (admissible N l) (eqb (l .errors) e) (eq-eqb _ _ s)
+    where
+      go : (b t : Bool) → t ≡ true → b ≡ (b && t)
+      go true t h = sym h
+      go false t h = refl
+
+  pub facts-with : AdmissibleWith N e l → true ≡ admissibleWith N e l
+  facts-with a = with-same true (a .errors-are) (facts-admissible N l (a .admissible))
 
 -- bounds on the numbers of an admissible layout
 pub record Bounds (l : Layout) : Type 0 where

@@ -2,7 +2,7 @@
 -- Assumes nothing.
 use mathlib.Core.Path.{_≡_, refl, ap, _∙_}
 use Prim.Native.Nat.{ℕ, suc, _+_, _-_, _*_, _/_, _%_, _^_, _≤_, _<_}
-use native.Mathlib.Nat.{mul-le-mul, le-div-iff-mul-le, pow-suc, mul-div-cancel, mod-lt}
+use native.Mathlib.Nat.{mul-le-mul, mul-comm, mul-sub, le-div-iff-mul-le, pow-suc, mul-div-cancel, div-mul-le-self, mod-lt}
 use native.Mathlib.Omega.{arith}
 use Rattle.algebra.specs.Layers.{groupOf, layerOf}
 use Rattle.algebra.proofs.Layers.{layer-in, group-in}
@@ -10,6 +10,13 @@ use Rattle.algebra.proofs.Numbers.{room-from, base-small, total-from, enough-fr
 use Rattle.layout.specs.declared.Layout.{Layout}
 use Rattle.layout.specs.Layout.{trays, wholeRacks, parityRacks, groups, checks, digits, layers, Cabinet}
 use Rattle.layout.proofs.Facts.{bounds}
+
+-- R racks have room for the r trays that the checks determine
+pub checks-fit : (l : Layout) → checks l ≤ parityRacks l * l .size
+checks-fit l = fit (l .racks) (l .size) (wholeRacks l) (l .dimension) (div-mul-le-self (l .dimension) (l .size))
+  where
+    fit : (B u K k : ℕ) → K * u ≤ k → B * u - k ≤ (B - K) * u
+    fit B u K k h = rw (mul-comm (B - K) u, mul-sub u B K) (omega (arith, mul-comm u B, mul-comm u K))
 
 module _ (l : Layout) (a : Cabinet l) where
   -- K ≥ 1
@@ -51,9 +58,14 @@ module _ (l : Layout) (a : Cabinet l) where
       more : (n : ℕ) → 2 ≤ n → n ≡ suc (n - 1)
       more n h = omega arith
 
-  -- the unknowns of a group and the helpers are all of its places
-  pub total : parityRacks l + l .helpers ≡ digits l + (l .racks - 1)
-  total = total-from (l .racks) (wholeRacks l) (l .helpers) (parityRacks l) (digits l) (omega arith) (omega arith) (omega arith) refl refl
+  -- the checks of a group and the helpers are as many as its places, and with E = 1 two more
+  pub total : parityRacks l + l .helpers ≡ digits l + (l .racks - 1) + 2 * l .errors
+  total =
+      let t = total-from (l .racks) (wholeRacks l) (l .helpers - 2 * l .errors) (parityRacks l) (digits l) (omega arith) (omega arith) (omega arith) refl refl in omega arith
+
+  -- with E = 0 there are as many checks as unknowns
+  pub total-plain : l .errors ≡ 0 → parityRacks l + l .helpers ≡ digits l + (l .racks - 1)
+  total-plain e = omega (arith, total, e)
 
   -- the layers of a group below L/s are below L, and the group of a layer is below L/s
   pub layer-below : (h p b : ℕ) → h < l .racks → p < groups l → b < digits l → layerOf (digits l) h p b < layers l

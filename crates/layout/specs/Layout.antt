@@ -1,4 +1,4 @@
--- The numbers of a cabinet and which layouts are admissible, as document 01 says, with the limits of document 02 (W4).
+-- The numbers of a cabinet and which layouts are admissible, as document 01 says, with the limits (W4) and the fifth number (W12) of document 02.
 -- Assumes nothing.
 use mathlib.Core.Bool.{Bool, cond, _&&_}
 use mathlib.Core.Path.{_≡_}
@@ -31,9 +31,9 @@ checks l = trays l - l .dimension
 abbrev pub parityRacks : Layout → ℕ
 parityRacks l = l .racks - wholeRacks l
 
--- s, the base of a layer's digits
+-- s, the base of a layer's digits: d - K + 1, and two less with E = 1, where two helpers more are to find a wrong share
 abbrev pub digits : Layout → ℕ
-digits l = l .helpers - wholeRacks l + 1
+digits l = l .helpers - 2 * l .errors - wholeRacks l + 1
 
 -- L, the layers
 abbrev pub layers : Layout → ℕ
@@ -60,29 +60,40 @@ admissible N l =
     && leb (trays l) trayLimit
     && leb (l .size) (l .dimension)
     && leb (l .size) (trays l - l .dimension)
-    && leb (wholeRacks l) (l .helpers)
+    && leb (l .errors) 1
+    && leb (wholeRacks l + 2 * l .errors) (l .helpers)
     && leb (l .helpers) (l .racks - 1)
     && leb (layers l) layerLimit
+
+-- those with one E only: the calls for one E answer 1 for the other
+unfoldable pub admissibleWith : ℕ → ℕ → Layout → Bool
+admissibleWith N e l = admissible N l && eqb (l .errors) e
 
 -- e lost trays of one rack can be repaired: 1 to u - v, where v = k mod u
 unfoldable pub lostCountFits : Layout → ℕ → Bool
 lostCountFits l e = leb 1 e && leb (e + l .dimension % l .size) (l .size)
 
--- the same as facts, for the contracts of functions that want an admissible layout: what holds for every field
+-- the same as facts, for the contracts of functions that want an admissible layout: what holds for every field and either E
 pub record Cabinet (l : Layout) : Type 0 where
   pub racks-low : 2 ≤ l .racks
   pub size-low : 1 ≤ l .size
   pub trays-high : trays l ≤ trayLimit
   pub dimension-low : l .size ≤ l .dimension
   pub checks-low : l .size ≤ trays l - l .dimension
-  pub helpers-low : wholeRacks l ≤ l .helpers
+  pub helpers-low : wholeRacks l + 2 * l .errors ≤ l .helpers
   pub helpers-high : l .helpers ≤ l .racks - 1
   pub layers-high : layers l ≤ layerLimit
 
--- and what the field adds
+-- and what is asked besides: the field has points for the racks, and E is 0 or 1
 pub record Admissible (N : ℕ) (l : Layout) : Type 0 where
   pub cabinet : Cabinet l
   pub size-ok : l .size * (N / l .size) ≡ N
+  pub errors-high : l .errors ≤ 1
+
+-- with one E only
+pub record AdmissibleWith (N e : ℕ) (l : Layout) : Type 0 where
+  pub admissible : Admissible N l
+  pub errors-are : l .errors ≡ e
 
 -- the answer of the layout call
 unfoldable pub measured : ℕ → Layout → Measured

@@ -1,4 +1,4 @@
-// Layouts: the four numbers of a cabinet, which of them documents 01 and 02 admit, and the numbers that follow. Promises the definitions of specs/Layout.antt
+// Layouts: the five numbers of a cabinet, which of them documents 01 and 02 admit, and the numbers that follow. Promises the definitions of specs/Layout.antt
 // for all 32-bit values, with no sum or product that wraps. A rack, a tray and a layer number are kinds of their own.
 pub mod power;
 
@@ -6,7 +6,7 @@ use power::capped_power;
 ghost use mathlib.Core.Path.{_≡_};
 ghost use Prim.Native.Nat.{_+_, _*_, _/_, _%_, _^_, _<_, _≤_};
 ghost use Rattle.algebra.specs.Layers.{digit, groupOf, layerOf};
-ghost use Rattle.layout.specs.Layout.{sizeAllowed, admissible, lostCountFits, trays, checks, digits, layers, groups, layerLimit, Cabinet, measured};
+ghost use Rattle.layout.specs.Layout.{sizeAllowed, admissible, admissibleWith, lostCountFits, trays, checks, digits, layers, groups, layerLimit, Cabinet, measured};
 ghost use Rattle.layout.specs.Inner.{InGroup, HasLayer};
 
 // The limits on the trays of a cabinet and the layers of a tray (document 02, W4).
@@ -14,13 +14,14 @@ pub const TRAYS: u32 = 60;
 
 pub const LAYERS: u32 = 4096;
 
-// Document 01's B, u, k and d: any 32-bit values.
+// Document 01's B, u, k and d, and document 02's E (W12): any 32-bit values.
 #[repr(C)]
 pub struct Layout {
     pub racks: u32,
     pub size: u32,
     pub dimension: u32,
     pub helpers: u32,
+    pub errors: u32,
 }
 
 // The number of a rack.
@@ -102,6 +103,7 @@ pub fn admitted(order: u32, l: Layout) -> bool
     let u = l.size;
     let k = l.dimension;
     let d = l.helpers;
+    let e = l.errors;
     if b < 2 {
         return false;
     }
@@ -127,17 +129,31 @@ pub fn admitted(order: u32, l: Layout) -> bool
     if n - k < u {
         return false;
     }
+    if 1 < e {
+        return false;
+    }
     let whole = k / u;
-    if d < whole {
+    if d < whole + 2 * e {
         return false;
     }
     if b <= d {
         return false;
     }
-    if LAYERS < capped_power(d - whole + 1, b) {
+    if LAYERS < capped_power(d - 2 * e - whole + 1, b) {
         return false;
     }
     true
+}
+
+// The same for one E only.
+pub fn admitted_with(order: u32, errors: u32, l: Layout) -> bool
+    ensures { λ r. ⌜ r ≡ admissibleWith order errors l ⌝ }
+{
+    let e = l.errors;
+    if e != errors {
+        return false;
+    }
+    admitted(order, l)
 }
 
 // L, the number of layers.
@@ -153,7 +169,7 @@ pub fn digit_count(l: Layout) -> u32
     requires { ⌜ Cabinet l ⌝ }
     ensures { λ r. ⌜ r ≡ digits l ⌝ }
 {
-    l.helpers - l.dimension / l.size + 1
+    l.helpers - 2 * l.errors - l.dimension / l.size + 1
 }
 
 // n, the number of trays.

@@ -61,11 +61,11 @@ module _ (N : ℕ) (l : Layout) (lost helpers shares host : List ℕ) (w first :
 
   host-in : h < l .racks
   unfolding h
-  host-in = rack-in l (p .adm .cabinet) (firstLost l lost) (p .losses .help .lost-in)
+  host-in = rack-in l (p .adm .admissible .cabinet) (firstLost l lost) (p .losses .help .lost-in)
 
   -- e rows are fewer than e·s
   lost-rows : length lost * w ≤ roomLimit
-  lost-rows = le-trans (mul-le-mul-right w (le-mul-of-pos-right (length lost) (bounds l (p .adm .cabinet) .digits-low))) (fit .sums)
+  lost-rows = le-trans (mul-le-mul-right w (le-mul-of-pos-right (length lost) (bounds l (p .adm .admissible .cabinet) .digits-low))) (fit .sums)
 
   pub summing-of : Summing l (firstLost l lost / l .size) w first helpers shares (length lost) sums sides found points coefs row cur
   unfolding h
@@ -74,7 +74,8 @@ module _ (N : ℕ) (l : Layout) (lost helpers shares host : List ℕ) (w first :
       record {
         received = record {
           chosen = record {
-            adm = p .adm .cabinet;
+            adm = p .adm .admissible .cabinet;
+            plain = p .adm .errors-are;
             host-in = host-in;
             many = p .losses .help .many;
             inside = p .losses .help .inside;
@@ -100,7 +101,7 @@ module _ (N : ℕ) (l : Layout) (lost helpers shares host : List ℕ) (w first :
   unfolding h
   mending-of f sums′ table e t = record {
     losing = record {
-      adm = p .adm .cabinet;
+      adm = p .adm .admissible .cabinet;
       host-in = host-in;
       some = p .losses .some;
       few = few;
@@ -115,7 +116,7 @@ module _ (N : ℕ) (l : Layout) (lost helpers shares host : List ℕ) (w first :
   pub space-of : (sides′ found′ points′ coefs′ row′ cur′ : List ℕ) → length sides′ ≡ length sides → length found′ ≡ length found → length points′ ≡ length points →
       length coefs′ ≡ length coefs → length row′ ≡ length row → length cur′ ≡ length cur → Workspace (length lost) w sides′ found′ points′ coefs′ row′ cur′
   space-of sides′ found′ points′ coefs′ row′ cur′ e1 e2 e3 e4 e5 e6 =
-      let b = bounds l (p .adm .cabinet) in
+      let b = bounds l (p .adm .admissible .cabinet) in
       let n : length lost ≤ trayLimit = omega (arith, few) in
       let u = lost-rows in
       record {
@@ -151,4 +152,4 @@ rooms = record { sums-long = all; sides-long = all; found-long = all; points-lon
     row = rw row-long (omega arith)
 
 pub start-fits : (N : ℕ) (l : Layout) (lost helpers shares host : List ℕ) (first count k : ℕ) (spare : List ℕ) → Piecing N l lost helpers shares host first count spare → k < count → Fits w32 (first + k)
-start-fits N l lost helpers shares host first count k spare p h = let b = bounds l (p .adm .cabinet) in record { fits = omega (arith, p .within) }
+start-fits N l lost helpers shares host first count k spare p h = let b = bounds l (p .adm .admissible .cabinet) in record { fits = omega (arith, p .within) }

@@ -5,7 +5,7 @@ use mathlib.Core.List.{List}
 use Prim.Native.Nat.{ℕ, _+_, _*_, _≤_}
 use lib.ListN.{length}
 use Rattle.layout.specs.declared.Layout.{Layout}
-use Rattle.layout.specs.Layout.{digits, layers, groups, parityRacks, trayLimit, Admissible}
+use Rattle.layout.specs.Layout.{digits, layers, groups, parityRacks, trayLimit, AdmissibleWith}
 use Rattle.blocks.specs.Blocks.{blockLimit, roomLimit}
 use Rattle.rule.specs.Lost.{Losses}
 
@@ -21,9 +21,9 @@ pub record Fitting (l : Layout) (e w : ℕ) : Type 0 where
   pub unknowns : parityRacks l * w ≤ roomLimit
   pub sums : e * digits l * w ≤ roomLimit
 
--- lost trays of one rack with the helpers' shares, the host rack and the spare, and groups to repair, in a field whose root has N powers
+-- lost trays of one rack with the helpers' shares, the host rack and the spare, and groups to repair, with E = 0 in a field whose root has N powers
 pub record Piecing (N : ℕ) (l : Layout) (lost helpers shares host : List ℕ) (first count : ℕ) (spare : List ℕ) : Type 0 where
-  pub adm : Admissible N l
+  pub adm : AdmissibleWith N 0 l
   pub losses : Losses l lost helpers
   pub shares-long : length shares ≡ l .helpers * (length lost * groups l)
   pub host-long : length host ≡ l .size * layers l

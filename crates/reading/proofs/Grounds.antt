@@ -11,18 +11,18 @@ use lib.ListN.{length, take, drop}
 use borrow.Author.Tests.{eq-eqb, ne-eqb, eqb-true}
 use Rattle.lists.proofs.Bools.{both, not-both, passed, told-false, told-true}
 use Rattle.layout.specs.declared.Layout.{Layout}
-use Rattle.layout.specs.Layout.{trayLimit, layerLimit, trays, layers, admissible, Admissible, Cabinet}
-use Rattle.layout.proofs.Facts.{admissible-facts, admitted-so}
+use Rattle.layout.specs.Layout.{trayLimit, layerLimit, trays, layers, admissibleWith, AdmissibleWith, Cabinet}
+use Rattle.layout.proofs.Facts.{with-facts, with-so}
 use Rattle.reading.specs.Reading.{inRange, available, partRefusal, run, partGiven}
 use Rattle.reading.specs.Inner.{Readable}
 use Rattle.reading.proofs.Ranges.{range-facts}
 
 module _ (N : ℕ) (l : Layout) (codeword spare lost done tray first end : ℕ) where
-  pub ground-1 : (a : Bool) → a ≡ admissible N l → not a ≡ true → 1 ≡ partRefusal N l codeword spare lost done tray first end
+  pub ground-1 : (a : Bool) → a ≡ admissibleWith N 0 l → not a ≡ true → 1 ≡ partRefusal N l codeword spare lost done tray first end
   unfolding partRefusal
   ground-1 a e h = simp (told-false e h)
 
-  module _ (a : Bool) (e : a ≡ admissible N l) (h : not a ≡ false) (n m : ℕ) (p : n ≡ trays l) (q : m ≡ layers l) where
+  module _ (a : Bool) (e : a ≡ admissibleWith N 0 l) (h : not a ≡ false) (n m : ℕ) (p : n ≡ trays l) (q : m ≡ layers l) where
     lengths : (codeword ≡ trays l * layers l → spare ≡ layers l → ⊥) → 2 ≡ partRefusal N l codeword spare lost done tray first end
     unfolding partRefusal
     lengths k = simp (told-true e h, not-both (eqb codeword (trays l * layers l)) (eqb spare (layers l)) (λ c s. k (eqb-true _ _ c) (eqb-true _ _ s)))
@@ -49,7 +49,7 @@ module _ (N : ℕ) (l : Layout) (codeword spare lost done tray first end : ℕ) 
 
   -- what lets a read through
   pub record Accepted : Type 0 where
-    pub adm : Admissible N l
+    pub adm : AdmissibleWith N 0 l
     pub readable : Readable l lost done tray first end
     pub codeword-long : codeword ≡ trays l * layers l
     pub spare-long : spare ≡ layers l
@@ -58,21 +58,21 @@ module _ (N : ℕ) (l : Layout) (codeword spare lost done tray first end : ℕ) 
   pub accepted : partRefusal N l codeword spare lost done tray first end ≡ 0 → Accepted
   unfolding partRefusal
   accepted z =
-      let g1 = passed (admissible N l) 1 _ (omega arith) z in
+      let g1 = passed (admissibleWith N 0 l) 1 _ (omega arith) z in
       let g2 = passed (eqb codeword (trays l * layers l) && eqb spare (layers l)) 2 _ (omega arith) (g1 .1) in
       let g3 = passed (inRange l lost done tray first end) 3 _ (omega arith) (g2 .1) in
       let g13 = passed (available l lost done tray first end) 13 0 (omega arith) (g3 .1) in
       let two = both (eqb codeword (trays l * layers l)) (eqb spare (layers l)) (g2 .0) in
       record {
-        adm = admissible-facts N l (g1 .0);
-        readable = range-facts l lost done tray first end (admissible-facts N l (g1 .0) .cabinet) (g3 .0);
+        adm = with-facts N 0 l (g1 .0);
+        readable = range-facts l lost done tray first end (with-facts N 0 l (g1 .0) .admissible .cabinet) (g3 .0);
         codeword-long = eqb-true _ _ (two .0);
         spare-long = eqb-true _ _ (two .1);
         given = g13 .0;
       }
 
-pub cabinet-so : (N : ℕ) (l : Layout) (a : Bool) → a ≡ admissible N l → not a ≡ false → Cabinet l
-cabinet-so N l a e h = admitted-so N l a e h .cabinet
+pub cabinet-so : (N : ℕ) (l : Layout) (a : Bool) → a ≡ admissibleWith N 0 l → not a ≡ false → Cabinet l
+cabinet-so N l a e h = with-so N 0 l a e h .admissible .cabinet
 
 -- the end of a run of tray y lies within n trays of m symbols
 pub run-in : (n m y end : ℕ) → y < n → end ≤ m → y * m + end ≤ n * m

@@ -17,7 +17,7 @@ use Rattle.algebra.specs.Plain.{Working}
 use Rattle.layout.specs.declared.Layout.{Layout}
 use Rattle.layout.specs.declared.Tray.{Tray}
 use Rattle.layout.specs.Layout.{trays, layers}
-use Rattle.codeword.proofs.Usable.{usable}
+use Rattle.codeword.proofs.Usable.{solvable}
 use Rattle.codeword.proofs.Buffers.{layers-pos}
 use Rattle.rule.specs.Rule.{trayPart, groupAt}
 use Rattle.rule.proofs.Racks.{tray-long, tray-at}
@@ -46,8 +46,8 @@ module _ {A : Type 0} {f : Field A} (W : Working f) (l : Layout) (x : Tray) (c c
   -- the lost tray, in the spare
   lost-run : Accepted (f .order) l (length codeword) (length spare) (x .0) done tray first end → tray ≡ x .0 → take (end - first) (drop first spare) ≡ take (end - first) (drop first (trayPart l c tray))
   lost-run a e =
-      let ok = usable W l (a .adm) in
-      let long : length (trayPart l c tray) ≡ layers l = tray-long l c (trays l) tray (layers-pos f l ok) (r .of .codeword .long) (a .readable .tray-in) in
+      let ok = solvable W l (a .adm) in
+      let long : length (trayPart l c tray) ≡ layers l = tray-long l c (trays l) tray (layers-pos f l (ok .usable)) (r .of .codeword .long) (a .readable .tray-in) in
       let ready = done-facts l (x .0) done first end (all-of-it l (x .0) done tray first end e (a .given)) in
       let cut = cutting-one W l (a .adm) (x .0) (r .helpers) (r .shares) (r .host) (r .chosen) (r .start) (r .calls) in
       same-run spare (trayPart l c tray) first first (end - first) (omega (arith, a .spare-long, a .readable .end-in, a .readable .rises)) (omega (arith, long, a .readable .end-in, a .readable .rises)) (λ i h.
@@ -61,8 +61,8 @@ module _ {A : Type 0} {f : Field A} (W : Working f) (l : Layout) (x : Tray) (c c
   store-run : Accepted (f .order) l (length codeword) (length spare) (x .0) done tray first end → ¬ (tray ≡ x .0) →
       take (end - first) (drop (tray * layers l + first) codeword) ≡ take (end - first) (drop first (trayPart l c tray))
   store-run a d =
-      let ok = usable W l (a .adm) in
-      let long : length (trayPart l codeword tray) ≡ layers l = tray-long l codeword (trays l) tray (layers-pos f l ok) (a .codeword-long) (a .readable .tray-in) in
+      let ok = solvable W l (a .adm) in
+      let long : length (trayPart l codeword tray) ≡ layers l = tray-long l codeword (trays l) tray (layers-pos f l (ok .usable)) (a .codeword-long) (a .readable .tray-in) in
       same-run codeword (trayPart l codeword tray) (tray * layers l + first) first (end - first)
       (omega (arith, a .codeword-long, a .readable .rises, run-in (trays l) (layers l) tray end (a .readable .tray-in) (a .readable .end-in)))
       (omega (arith, long, a .readable .end-in, a .readable .rises)) (λ i h.

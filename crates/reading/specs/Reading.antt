@@ -7,7 +7,7 @@ use lib.Dec.{eqb, leb, ltb}
 use lib.ListN.{length, take, drop}
 use Rattle.lists.specs.Lists.{unless, all}
 use Rattle.layout.specs.declared.Layout.{Layout}
-use Rattle.layout.specs.Layout.{trays, layers, groups, admissible}
+use Rattle.layout.specs.Layout.{trays, layers, groups, admissibleWith}
 use Rattle.rule.specs.Rule.{groupAt}
 
 -- ground 3: both trays of the layout, at most L/s groups done, and a run that lies in 0 .. L and does not end before it begins
@@ -23,10 +23,11 @@ allDone l lost done first end = all (λ i. ltb (groupAt l lost (first + i)) done
 unfoldable pub available : Layout → ℕ → ℕ → ℕ → ℕ → ℕ → Bool
 available l lost done tray first end = not (eqb tray lost) || allDone l lost done first end
 
--- the refusal of a read in a field whose root has N powers, given the lengths of the codeword and the spare; 0 for none. No symbol is looked at
+-- the refusal of a read in a field whose root has N powers, given the lengths of the codeword and the spare; 0 for none. No symbol is looked at. Only repair in pieces,
+-- with E = 0, is read from
 unfoldable pub partRefusal : ℕ → Layout → ℕ → ℕ → ℕ → ℕ → ℕ → ℕ → ℕ → ℕ
 partRefusal N l codeword spare lost done tray first end =
-    unless (admissible N l) 1
+    unless (admissibleWith N 0 l) 1
     (unless (eqb codeword (trays l * layers l) && eqb spare (layers l)) 2
     (unless (inRange l lost done tray first end) 3 (unless (available l lost done tray first end) 13 0)))
 

@@ -73,7 +73,7 @@ fn refusal(
 ) -> u8
     ensures { λ r. ⌜ r ≡ partRefusal (gf257 .order) l codeword spare lost done tray first end ⌝ }
 {
-    if !layout::admitted(ORDER as u32, l) {
+    if !layout::admitted_with(ORDER as u32, 0, l) {
         return 1;
     }
     let total = layout::layer_count(l) as usize;

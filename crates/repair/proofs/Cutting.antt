@@ -14,10 +14,10 @@ use Rattle.algebra.specs.Points.{place}
 use Rattle.algebra.proofs.Layers.{power-pos}
 use Rattle.algebra.proofs.Erasure.{fill-congr, check-congr}
 use Rattle.layout.specs.declared.Layout.{Layout}
-use Rattle.layout.specs.Layout.{digits, layers, groups, traffic, Admissible}
-use Rattle.codeword.specs.Codeword.{shapeOf, Usable}
+use Rattle.layout.specs.Layout.{digits, layers, groups, traffic, AdmissibleWith}
+use Rattle.codeword.specs.Codeword.{shapeOf, Solvable}
 use Rattle.layout.proofs.Facts.{size-pos}
-use Rattle.codeword.proofs.Usable.{usable}
+use Rattle.codeword.proofs.Usable.{solvable}
 use Rattle.codeword.proofs.Buffers.{layers-pos}
 use Rattle.rule.specs.Rule.{groupAt}
 use Rattle.rule.specs.Lost.{firstLost, lostPlace, Losses, sentSymbol, mended, SoundAlike, Ruled}
@@ -32,9 +32,9 @@ use Rattle.repair.proofs.Seen.{piece-symbols}
 use Rattle.pieces.proofs.Pieces.{ruled-kept}
 use Rattle.repair.proofs.Pieces.{kept-at}
 
-module _ {A : Type 0} {f : Field A} (W : Working f) (l : Layout) (adm : Admissible (f .order) l) (lost helpers : List ℕ) (given : Losses l lost helpers) (shares host start : List ℕ) where
-  abbrev ok : Usable f l
-  ok = usable W l adm
+module _ {A : Type 0} {f : Field A} (W : Working f) (l : Layout) (adm : AdmissibleWith (f .order) 0 l) (lost helpers : List ℕ) (given : Losses l lost helpers) (shares host start : List ℕ) where
+  abbrev ok : Solvable f l
+  ok = solvable W l adm
 
   -- what the rule fixes for a host rack it fixes for one that is alike in the sound trays
   ruled-host : (host′ : List ℕ) (p : ℕ) (spare : List ℕ) → ((j : ℕ) → j < layers l → SoundAlike f l lost j host host′) → Ruled f l lost helpers shares host′ p spare →
@@ -44,7 +44,7 @@ module _ {A : Type 0} {f : Field A} (W : Working f) (l : Layout) (adm : Admissib
     sums = r .sums;
     solution = r .solution;
     holds = λ j hj e m hm.
-        check-congr (f .ops) (ok .field .laws) (place (shapeOf f l)) (l .size) (lostPlace l lost) _ _ m
+        check-congr (f .ops) (ok .usable .field .laws) (place (shapeOf f l)) (l .size) (lostPlace l lost) _ _ m
         (λ g hg. fill-congr (f .ops) (place (shapeOf f l)) (l .size) (lostPlace l lost) (length lost) (lost-places f l ok lost helpers given) _ _ _
         (record { at = λ y hy out. alike j hj y hy out }) g hg)
         ∙ r .holds j hj e m hm;
@@ -78,7 +78,7 @@ module _ {A : Type 0} {f : Field A} (W : Working f) (l : Layout) (adm : Admissib
           | no k ↦ ruled-host host′ p spare′ alike (r .piece .done p (omega arith) hp)
         ];
         kept = λ n hn out.
-            kept-at (length lost) (layers l) (layers-pos f l ok) n spare spare′ (omega (arith, hn, s .long, made .spare-long))
+            kept-at (length lost) (layers l) (layers-pos f l (ok .usable)) n spare spare′ (omega (arith, hn, s .long, made .spare-long))
             (λ i hi j hj e. r .piece .kept i hi j hj (λ w. out (subst (λ y. groupAt l (firstLost l lost) y < G + g) e (w .1))))
             ∙ s .kept n hn (λ w. out (omega arith));
         crossed-is = ap₂ _+_ (s .crossed-is) (r .crossed-is) ∙ counts-add G g;
@@ -103,7 +103,7 @@ module _ {A : Type 0} {f : Field A} (W : Working f) (l : Layout) (adm : Admissib
   done-long calls = sofar calls .sized
 
   some-group : 0 < groups l
-  some-group = rw (ok .groups-are) (power-pos (digits l) (l .racks - 1) (ok .fits .some-digits))
+  some-group = rw (ok .groups-are) (power-pos (digits l) (l .racks - 1) (ok .usable .fits .some-digits))
 
   -- one uncut call over a spare of e·L symbols, with the rule's own outcome
   uncut-call : length shares ≡ length lost * traffic l → length host ≡ l .size * layers l → InRange (f .coding) shares → SoundSymbols f l lost host → (other : List ℕ) → length other ≡ length lost * layers l → Uncut f l lost helpers shares host other
@@ -117,7 +117,7 @@ module _ {A : Type 0} {f : Field A} (W : Working f) (l : Layout) (adm : Admissib
         answer = record {
           accepted = accepted f l lost helpers shares host _ 0 (groups l) (lost-high f l ok lost helpers given)
               (record { adm = adm; shares-long = es; host-long = eh; spare-long = eo; losses = given; first-in = omega arith })
-              (piece-symbols f l lost shares host 0 (groups l) helpers given (size-pos l (adm .cabinet)) (omega arith) es range sound);
+              (piece-symbols f l lost shares host 0 (groups l) helpers given (size-pos l (adm .admissible .cabinet)) (omega arith) es range sound);
           done-is = omega arith;
           crossed-is = refl;
           remaining-is = ap (λ n. length lost * (l .helpers * (groups l - n))) (sym (zero-add (groups l)));
@@ -159,5 +159,5 @@ pub same-group : {A : Type 0} {f : Field A} (W : Working f) (l : Layout) (lost h
 same-group {f = f} W l lost helpers one two p d e alike sound i hi j hj k =
     let r = one .answer in
     let made = repairable f l lost helpers (one .shares) (one .host) (length (one .old)) (one .first) (one .budget) (r .accepted) in
-    ruled-same f l (usable W l (made .adm)) lost helpers (made .losses) p (omega (arith, r .done-is, made .first-in)) (one .shares) (two .shares) (one .host) (two .host) (one .new) (two .new)
+    ruled-same f l (solvable W l (made .adm)) lost helpers (made .losses) p (omega (arith, r .done-is, made .first-in)) (one .shares) (two .shares) (one .host) (two .host) (one .new) (two .new)
     (r .piece .done p (d .0) (d .1)) (two .answer .piece .done p (e .0) (e .1)) alike sound i hi j hj k

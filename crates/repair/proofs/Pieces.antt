@@ -39,6 +39,6 @@ piecing-of N l lost helpers shares host first count spare g h = record {
 pub crossing-in : {N : ℕ} {l : Layout} {lost helpers : List ℕ} {shares host spare first : ℕ} → Repairable N l lost helpers shares host spare first → (n : ℕ) → n ≤ layerLimit →
     length lost * (l .helpers * n) < 18446744073709551616
 crossing-in {l = l} r n h =
-    let b = bounds l (r .adm .cabinet) in
-    let one : l .helpers * n < 245761 = mul-below trayLimit layerLimit (omega (arith, r .adm .cabinet .helpers-high)) h tt in
+    let b = bounds l (r .adm .admissible .cabinet) in
+    let one : l .helpers * n < 245761 = mul-below trayLimit layerLimit (omega (arith, r .adm .admissible .cabinet .helpers-high)) h tt in
     mul-below 30 245760 (omega (arith, r .losses .few)) (omega arith) tt

@@ -14,8 +14,8 @@ use Rattle.lists.proofs.Bools.{both, and-true, not-both, passed}
 use Rattle.lists.proofs.Numbered.{below-all, below-true, rising-all, rising-true, absent-all, absent-true}
 use Rattle.algebra.specs.Shape.{Field}
 use Rattle.layout.specs.declared.Layout.{Layout}
-use Rattle.layout.specs.Layout.{trays, digits, layers, groups, traffic, admissible, lostCountFits, Cabinet}
-use Rattle.layout.proofs.Facts.{bounds, size-pos, admissible-facts, facts-admissible, fits, fits-so}
+use Rattle.layout.specs.Layout.{trays, digits, layers, groups, traffic, admissibleWith, lostCountFits, Cabinet}
+use Rattle.layout.proofs.Facts.{bounds, size-pos, with-facts, facts-with, fits, fits-so}
 use Rattle.layout.proofs.Numbers.{groups-are}
 use Rattle.rule.specs.Lost.{firstLost}
 use Rattle.grounds.specs.Grounds.{oneRack}
@@ -68,11 +68,11 @@ before true false m n rest r e d = e
 before true true m n rest r e d = absurd (d e)
 
 module _ {A : Type 0} (f : Field A) (l : Layout) (lost helpers shares host : List ℕ) (spare first budget : ℕ) where
-  pub ground-1 : admissible (f .order) l ≡ false → 1 ≡ repairRefusal f l lost helpers shares host spare first budget
+  pub ground-1 : admissibleWith (f .order) 0 l ≡ false → 1 ≡ repairRefusal f l lost helpers shares host spare first budget
   unfolding repairRefusal
   ground-1 h = simp h
 
-  pub ground-2 : admissible (f .order) l ≡ true → (length shares ≡ length lost * traffic l → length host ≡ l .size * layers l → spare ≡ length lost * layers l → ⊥) →
+  pub ground-2 : admissibleWith (f .order) 0 l ≡ true → (length shares ≡ length lost * traffic l → length host ≡ l .size * layers l → spare ≡ length lost * layers l → ⊥) →
       2 ≡ repairRefusal f l lost helpers shares host spare first budget
   unfolding repairRefusal
   ground-2 h k = simp (
@@ -82,7 +82,7 @@ module _ {A : Type 0} (f : Field A) (l : Layout) (lost helpers shares host : Lis
         k (eqb-true _ _ (two .0)) (eqb-true _ _ (two .1)) (eqb-true _ _ q)),
   )
 
-  module _ (h : admissible (f .order) l ≡ true) (p : length shares ≡ length lost * traffic l) (q : length host ≡ l .size * layers l) (s : spare ≡ length lost * layers l) where
+  module _ (h : admissibleWith (f .order) 0 l ≡ true) (p : length shares ≡ length lost * traffic l) (q : length host ≡ l .size * layers l) (s : spare ≡ length lost * layers l) where
     -- the numbers in the lists are right, and both lists rise
     abbrev right : Bool
     right = allBelow lost (trays l) && oneRack l lost && allBelow helpers (l .racks) && pieceSymbols f l lost shares host first budget
@@ -104,7 +104,7 @@ module _ {A : Type 0} (f : Field A) (l : Layout) (lost helpers shares host : Lis
   pub repairable : repairRefusal f l lost helpers shares host spare first budget ≡ 0 → Repairable (f .order) l lost helpers (length shares) (length host) spare first
   unfolding repairRefusal
   repairable z =
-      let g1 = passed (admissible (f .order) l) 1 _ (omega arith) z in
+      let g1 = passed (admissibleWith (f .order) 0 l) 1 _ (omega arith) z in
       let g2 = passed (eqb (length shares) (length lost * traffic l) && eqb (length host) (l .size * layers l) && eqb spare (length lost * layers l)) 2 _ (omega arith) (g1 .1) in
       let g3 = passed (allBelow lost (trays l) && oneRack l lost && allBelow helpers (l .racks) && pieceSymbols f l lost shares host first budget) 3 _ (omega arith) (g2 .1) in
       let g4 = passed (strictlyRising lost && strictlyRising helpers) 4 _ (omega arith) (g3 .1) in
@@ -121,7 +121,7 @@ module _ {A : Type 0} (f : Field A) (l : Layout) (lost helpers shares host : Lis
       let many : length helpers ≡ l .helpers = eqb-true _ _ (g5 .0) in
       let some : 1 ≤ length lost = counts .0 in
       record {
-        adm = admissible-facts (f .order) l (g1 .0);
+        adm = with-facts (f .order) 0 l (g1 .0);
         shares-long = eqb-true _ _ (two .0);
         host-long = eqb-true _ _ (two .1);
         spare-long = eqb-true _ _ (three .1);
@@ -148,7 +148,7 @@ pub accepted : {A : Type 0} (f : Field A) (l : Layout) (lost helpers shares host
 accepted f l lost helpers shares host spare first budget high r y =
     let L = r .losses in
     let H = L .help in
-    sym (ground-counts f l lost helpers shares host spare first budget (sym (facts-admissible (f .order) l (r .adm))) (r .shares-long) (r .host-long) (r .spare-long) 0 0
+    sym (ground-counts f l lost helpers shares host spare first budget (sym (facts-with (f .order) 0 l (r .adm))) (r .shares-long) (r .host-long) (r .spare-long) 0 0
     (pass-4 f l lost helpers shares host first budget (sym (below-true lost (trays l) high)) (sym (rack-true l lost (L .one-rack)))
     (sym (below-true helpers (l .racks) (λ k h. H .inside k (omega (arith, H .many))))) y
     (sym (rising-true lost (length lost) (omega arith) (λ k h. L .rising k h))) (sym (rising-true helpers (length helpers) (omega arith) (λ k h. H .rising k (omega (arith, H .many))))))

@@ -11,8 +11,8 @@ use Rattle.algebra.specs.Shape.{Field}
 use Rattle.algebra.specs.Plain.{Working}
 use Rattle.layout.specs.declared.Layout.{Layout}
 use Rattle.layout.specs.Layout.{layers, groups}
-use Rattle.codeword.specs.Codeword.{Usable}
-use Rattle.codeword.proofs.Usable.{usable}
+use Rattle.codeword.specs.Codeword.{Solvable}
+use Rattle.codeword.proofs.Usable.{solvable}
 use Rattle.codeword.proofs.Buffers.{layers-pos}
 use Rattle.rule.specs.Rule.{groupAt}
 use Rattle.rule.specs.Lost.{firstLost, Losses, Piece}
@@ -25,11 +25,11 @@ use Rattle.repair.proofs.Pieces.{kept-at}
 
 module _ {A : Type 0} (f : Field A) (l : Layout) (lost helpers shares host : List ℕ) (first : ℕ) (old new new′ : List ℕ) where
   -- two pieces of the same groups over the same spare write the same
-  same-piece : Usable f l → Losses l lost helpers → (g : ℕ) → first + g ≤ groups l → length old ≡ length lost * layers l →
+  same-piece : Solvable f l → Losses l lost helpers → (g : ℕ) → first + g ≤ groups l → length old ≡ length lost * layers l →
       Piece f l lost helpers shares host first g old new → Piece f l lost helpers shares host first g old new′ → new ≡ new′
   same-piece ok given g within long a b =
       ext-getD 0 new new′ (a .long ∙ sym (b .long))
-      (λ n hn. kept-at (length lost) (layers l) (layers-pos f l ok) n new′ new (omega (arith, hn, a .long, long)) (λ i hi j hj _. at i hi j hj (groupAt l (firstLost l lost) j) refl))
+      (λ n hn. kept-at (length lost) (layers l) (layers-pos f l (ok .usable)) n new′ new (omega (arith, hn, a .long, long)) (λ i hi j hj _. at i hi j hj (groupAt l (firstLost l lost) j) refl))
     where
       at : (i : ℕ) → i < length lost → (j : ℕ) → j < layers l → (p : ℕ) → groupAt l (firstLost l lost) j ≡ p → getD new (i * layers l + j) 0 ≡ getD new′ (i * layers l + j) 0
       at i hi j hj p e = elim (decLe first p) [
@@ -49,7 +49,7 @@ module _ {A : Type 0} {f : Field A} (W : Working f) (l : Layout) (lost helpers s
       let crossed-same : c ≡ c′ = a .crossed-is ∙ ap (λ n. length lost * (l .helpers * n)) groups-same ∙ sym (b .crossed-is) in
       let toCome-same : t ≡ t′ = a .remaining-is ∙ ap (λ n. length lost * (l .helpers * (groups l - (first + n)))) groups-same ∙ sym (b .remaining-is) in (
         (λ i. Done (groups-same i) (crossed-same i) (toCome-same i)),
-        same-piece f l lost helpers shares host first old new new′ (usable W l (made .adm)) (made .losses) g (omega (arith, a .done-is, made .first-in)) (made .spare-long) (a .piece)
+        same-piece f l lost helpers shares host first old new new′ (solvable W l (made .adm)) (made .losses) g (omega (arith, a .done-is, made .first-in)) (made .spare-long) (a .piece)
             (rw groups-same (b .piece)),
       )
 

@@ -7,7 +7,7 @@ use Prim.Native.Nat.{ℕ, _*_, _≤_}
 use lib.ListN.{length}
 use Rattle.lists.specs.Lists.{unless, allBelow, strictlyRising}
 use Rattle.layout.specs.declared.Layout.{Layout}
-use Rattle.layout.specs.Layout.{trays, layers, groups, traffic, Admissible}
+use Rattle.layout.specs.Layout.{trays, layers, groups, traffic, AdmissibleWith}
 use Rattle.algebra.specs.Shape.{Field}
 use Rattle.rule.specs.Lost.{Losses}
 use Rattle.grounds.specs.Grounds.{oneRack}
@@ -22,7 +22,7 @@ numberRefusal f l lost helpers shares host first budget =
 
 -- what an accepted call is given, as facts
 pub record Repairable (N : ℕ) (l : Layout) (lost helpers : List ℕ) (shares host spare first : ℕ) : Type 0 where
-  pub adm : Admissible N l
+  pub adm : AdmissibleWith N 0 l
   pub shares-long : shares ≡ length lost * traffic l
   pub host-long : host ≡ l .size * layers l
   pub spare-long : spare ≡ length lost * layers l

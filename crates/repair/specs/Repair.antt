@@ -9,7 +9,7 @@ use lib.ListN.{length, getD}
 use Rattle.lists.specs.Lists.{unless, allBelow, strictlyRising, absent}
 use Rattle.algebra.specs.Shape.{Field}
 use Rattle.layout.specs.declared.Layout.{Layout}
-use Rattle.layout.specs.Layout.{trays, layers, groups, traffic, admissible, lostCountFits}
+use Rattle.layout.specs.Layout.{trays, layers, groups, traffic, admissibleWith, lostCountFits}
 use Rattle.rule.specs.Lost.{firstLost, lostPlace, Piece}
 use Rattle.grounds.specs.Grounds.{oneRack}
 use Rattle.seen.specs.Seen.{pieceSymbols}
@@ -20,10 +20,10 @@ use Rattle.repair.specs.declared.Repaired.the-variants.{Done, Refused}
 abbrev pub SoundSymbols : {A : Type 0} → Field A → Layout → List ℕ → List ℕ → Type 0
 SoundSymbols f l lost host = (g j : ℕ) → g < l .size → j < layers l → ((i : ℕ) → i < length lost → ¬ (g ≡ lostPlace l lost i)) → getD host (g * layers l + j) 0 < f .coding .size
 
--- the refusal of a repair of the lost trays, given the shares, the host rack and the length of the spare; 0 for none
+-- the refusal of a repair of the lost trays, given the shares, the host rack and the length of the spare; 0 for none. Repair in pieces is for E = 0 (W12)
 unfoldable pub repairRefusal : {A : Type 0} → Field A → Layout → List ℕ → List ℕ → List ℕ → List ℕ → ℕ → ℕ → ℕ → ℕ
 repairRefusal f l lost helpers shares host spare first budget =
-    unless (admissible (f .order) l) 1
+    unless (admissibleWith (f .order) 0 l) 1
     (unless (eqb (length shares) (length lost * traffic l) && eqb (length host) (l .size * layers l) && eqb spare (length lost * layers l)) 2
     (unless (allBelow lost (trays l) && oneRack l lost && allBelow helpers (l .racks) && pieceSymbols f l lost shares host first budget) 3
     (unless (strictlyRising lost && strictlyRising helpers) 4

@@ -73,7 +73,7 @@ fn refusal(
 {
     let u = l.size as usize;
     let d = l.helpers as usize;
-    if !layout::admitted(ORDER as u32, l) {
+    if !layout::admitted_with(ORDER as u32, 0, l) {
         return 1;
     }
     let total = layout::layer_count(l) as usize;

@@ -16,7 +16,7 @@ use Rattle.algebra.proofs.Erasure.{fill-same, check-congr}
 use Rattle.algebra.proofs.Cabinet.{codeword-solution, sums-check}
 use Rattle.layout.specs.declared.Layout.{Layout}
 use Rattle.layout.specs.Layout.{trays, checks, layers, groups, parityRacks}
-use Rattle.codeword.specs.Codeword.{shapeOf, symbolAt, Usable}
+use Rattle.codeword.specs.Codeword.{shapeOf, symbolAt, Solvable}
 use Rattle.codeword.proofs.Buffers.{to-word, layers-pos}
 use Rattle.rule.specs.Rule.{groupAt}
 use Rattle.rule.specs.Lost.{firstLost, lostPlace, lostPart, Losses, mended, Ruled, Of}
@@ -35,7 +35,7 @@ pub lost-long : (l : Layout) (lost c : List ℕ) → length (lostPart l lost c) 
 unfolding lostPart
 lost-long l lost c = table-length _ (length lost * layers l)
 
-module _ {A : Type 0} (f : Field A) (l : Layout) (ok : Usable f l) (lost helpers : List ℕ) (given : Losses l lost helpers) (shares host c : List ℕ)
+module _ {A : Type 0} (f : Field A) (l : Layout) (ok : Solvable f l) (lost helpers : List ℕ) (given : Losses l lost helpers) (shares host c : List ℕ)
     (of : Of f l lost helpers shares host c) where
   abbrev h : ℕ
   h = firstLost l lost / l .size
@@ -52,12 +52,12 @@ module _ {A : Type 0} (f : Field A) (l : Layout) (ok : Usable f l) (lost helpers
   lost-ruled p inside = record {
     sums = λ m i j. rackSum (shapeOf f l) (λ y. symbolAt f l c y j) m i;
     solution = λ m hm.
-        let sol = codeword-solution (shapeOf f l) (ok .fits) h (host-in f l ok (firstLost l lost) helpers (given .help)) p (rw (ok .groups-are) at inside) m (λ k. getD helpers k 0)
+        let sol = codeword-solution (shapeOf f l) (ok .usable .fits) h (host-in f l ok (firstLost l lost) helpers (given .help)) p (rw (ok .groups-are) at inside) m (λ k. getD helpers k 0)
         (l .helpers) (parityRacks l) (checks l) (λ w hw. ok .enough w m hw (omega (arith, given .few))) (symbolAt f l c) (to-word f l c (of .codeword)) in
         record { given = λ k hk. sol .given k hk ∙ sym (of .share m k p hm hk inside ∙ share-word f l m h c (getD helpers k 0) p); checks = sol .checks };
     holds = λ j hj e m hm.
-        check-congr (f .ops) (ok .field .laws) (place (shapeOf f l)) (l .size) (lostPlace l lost) _ _ m (mended-is j hj)
-        ∙ sym (sums-check (shapeOf f l) (ok .fits) (lostPlace l lost) (length lost) (lost-places f l ok lost helpers given) (λ y. symbolAt f l c y j) m h);
+        check-congr (f .ops) (ok .usable .field .laws) (place (shapeOf f l)) (l .size) (lostPlace l lost) _ _ m (mended-is j hj)
+        ∙ sym (sums-check (shapeOf f l) (ok .usable .fits) (lostPlace l lost) (length lost) (lost-places f l ok lost helpers given) (λ y. symbolAt f l c y j) m h);
     symbols = λ i k j hj e. subst (λ n. n < f .coding .size) (sym (lost-at l lost c i j k hj))
         (of .codeword .symbols .at _ (rw (of .codeword .long) (cell-in (trays l) (layers l) (getD lost i 0) j (lost-high f l ok lost helpers given i k) hj)));
   }
@@ -73,8 +73,8 @@ module _ {A : Type 0} (f : Field A) (l : Layout) (ok : Usable f l) (lost helpers
   pub rule-whole : (spare : List ℕ) → length spare ≡ length lost * layers l → ((p : ℕ) → p < groups l → Ruled f l lost helpers shares host p spare) → spare ≡ lostPart l lost c
   rule-whole spare long ruled =
       ext-getD 0 spare (lostPart l lost c) (long ∙ sym (lost-long l lost c)) (λ n hn.
-      let k : n / layers l < length lost = div-lt-iff-lt-mul (layers-pos f l ok) .1 (rw long at hn) in
-      let m : n % layers l < layers l = mod-lt n (layers-pos f l ok) in
+      let k : n / layers l < length lost = div-lt-iff-lt-mul (layers-pos f l (ok .usable)) .1 (rw long at hn) in
+      let m : n % layers l < layers l = mod-lt n (layers-pos f l (ok .usable)) in
       let g = group-below f l ok (firstLost l lost) helpers (given .help) (n % layers l) m in
       subst (λ y. getD spare y 0 ≡ getD (lostPart l lost c) y 0) (div-add-mod' n (layers l))
       (rule-exact _ g spare (ruled _ g) (n / layers l) k (n % layers l) m refl))

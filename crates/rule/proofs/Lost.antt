@@ -24,13 +24,13 @@ use Rattle.algebra.proofs.Repair.{rising-places, host-congr}
 use Rattle.algebra.proofs.Cabinet.{lost-meets, lost-only}
 use Rattle.layout.specs.declared.Layout.{Layout}
 use Rattle.layout.specs.Layout.{trays, digits, layers, groups, parityRacks}
-use Rattle.codeword.specs.Codeword.{shapeOf, Usable}
+use Rattle.codeword.specs.Codeword.{shapeOf, Solvable}
 use Rattle.rule.specs.Rule.{groupAt, rackSymbol}
 use Rattle.rule.specs.Lost.{firstLost, lostPlace, Losses, sentSymbol, mended, Ruled, One, SoundAlike}
 use Rattle.rule.specs.Inner.{layerSum, lostSymbol}
 use Rattle.rule.proofs.Rule.{host-in, helping, solution-sums, witness-sums, witness-solves}
 
-module _ {A : Type 0} (f : Field A) (l : Layout) (ok : Usable f l) (lost helpers : List ℕ) (given : Losses l lost helpers) where
+module _ {A : Type 0} (f : Field A) (l : Layout) (ok : Solvable f l) (lost helpers : List ℕ) (given : Losses l lost helpers) where
   -- the host rack
   abbrev h : ℕ
   h = firstLost l lost / l .size
@@ -46,7 +46,7 @@ module _ {A : Type 0} (f : Field A) (l : Layout) (ok : Usable f l) (lost helpers
       (cell-in (l .racks) (l .size) h (lostPlace l lost i) (host-in f l ok (firstLost l lost) helpers (given .help)) (place-in i))
     where
       place-in : (i : ℕ) → lostPlace l lost i < l .size
-      place-in i = unfold lostPlace in mod-lt (getD lost i 0) (ok .fits .some-places)
+      place-in i = unfold lostPlace in mod-lt (getD lost i 0) (ok .usable .fits .some-places)
 
   -- the lost places are different places of the rack
   pub lost-places : Places (lostPlace l lost) (length lost) (l .size)
@@ -57,7 +57,7 @@ module _ {A : Type 0} (f : Field A) (l : Layout) (ok : Usable f l) (lost helpers
       (λ i k. subst (λ n. getD lost i 0 < getD lost n 0) (add-one i) (given .rising i (omega (arith, add-one i)))) lost-high) in
       record {
         apart = λ i j p q e. apart .apart i j p q (sym (tray-is i p) ∙ ap (λ g. h * l .size + g) e ∙ tray-is j q);
-        inside = λ i k. mod-lt (getD lost i 0) (ok .fits .some-places);
+        inside = λ i k. mod-lt (getD lost i 0) (ok .usable .fits .some-places);
       }
 
   module _ (shares host : List ℕ) where
@@ -84,9 +84,9 @@ module _ {A : Type 0} (f : Field A) (l : Layout) (ok : Usable f l) (lost helpers
           getD spare (i * layers l + j) 0 ≡ lostSymbol f l lost helpers shares host i j
       unfolding mended whole
       ruled-is spare r i k j hj e =
-          sym (ok .field .coded .val-elem _ (r .symbols i k j hj e))
+          sym (ok .usable .field .coded .val-elem _ (r .symbols i k j hj e))
           ∙ ap (f .coding .val) (sym (fill-at (lostPlace l lost) _ _ (length lost) (l .size) lost-places i k)
-          ∙ lost-only (shapeOf f l) (ok .fits) (lostPlace l lost) (length lost) lost-places (layerSum f l lost helpers shares j) (λ g. rackSymbol f l host g j) (mended f l lost spare host j)
+          ∙ lost-only (shapeOf f l) (ok .usable .fits) (lostPlace l lost) (length lost) lost-places (layerSum f l lost helpers shares j) (λ g. rackSymbol f l host g j) (mended f l lost spare host j)
           (record { at = λ g hg out. sym (fill-outside (lostPlace l lost) _ _ (length lost) g out) })
           (record { at = λ m hm. r .holds j hj e m hm ∙ sums-are m j e (r .sums m) (r .solution m hm) })
           (lostPlace l lost i) (lost-places .inside i k))
@@ -101,11 +101,11 @@ module _ {A : Type 0} (f : Field A) (l : Layout) (ok : Usable f l) (lost helpers
         sums = λ m. witness-sums f l ok (firstLost l lost) helpers (given .help) p inside m (sentSymbol f l (length lost) shares m p);
         solution = λ m hm. witness-solves f l ok (firstLost l lost) helpers (given .help) p inside m (sentSymbol f l (length lost) shares m p);
         holds = λ j hj e m hm.
-            check-congr (f .ops) (ok .field .laws) (place (shapeOf f l)) (l .size) (lostPlace l lost) _ _ m
-            (λ g hg. fill-values (lostPlace l lost) _ _ _ (length lost) g (λ i k. ap (f .coding .elem) (at i k j hj e) ∙ ok .field .coded .elem-val _))
-            ∙ lost-meets (shapeOf f l) (ok .fits) (lostPlace l lost) (length lost) lost-places (layerSum f l lost helpers shares j) (λ g. rackSymbol f l host g j) .at m hm
+            check-congr (f .ops) (ok .usable .field .laws) (place (shapeOf f l)) (l .size) (lostPlace l lost) _ _ m
+            (λ g hg. fill-values (lostPlace l lost) _ _ _ (length lost) g (λ i k. ap (f .coding .elem) (at i k j hj e) ∙ ok .usable .field .coded .elem-val _))
+            ∙ lost-meets (shapeOf f l) (ok .usable .fits) (lostPlace l lost) (length lost) lost-places (layerSum f l lost helpers shares j) (λ g. rackSymbol f l host g j) .at m hm
             ∙ sym (sums-are m j e _ (witness-solves f l ok (firstLost l lost) helpers (given .help) p inside m (sentSymbol f l (length lost) shares m p)));
-        symbols = λ i k j hj e. subst (λ n. n < f .coding .size) (sym (at i k j hj e)) (ok .field .coded .val-below _);
+        symbols = λ i k j hj e. subst (λ n. n < f .coding .size) (sym (at i k j hj e)) (ok .usable .field .coded .val-below _);
       }
 
     -- for any shares, host rack and group there is exactly one outcome
@@ -132,7 +132,7 @@ module _ {A : Type 0} (f : Field A) (l : Layout) (ok : Usable f l) (lost helpers
   unfolding lostSymbol layerSum
   lost-congr shares shares′ host host′ i j k alike sound =
       ap (f .coding .val) (erased-congr (f .ops) (place (shapeOf f l)) (l .size) (lostPlace l lost) (length lost) lost-places _ _ _ _
-      (λ m hm. host-congr (shapeOf f l) (ok .fits) h _ (λ q b. digit-below (digits l) (ok .fits .some-digits) _ q) (λ k. getD helpers k 0) (l .helpers) (parityRacks l)
+      (λ m hm. host-congr (shapeOf f l) (ok .usable .fits) h _ (λ q b. digit-below (digits l) (ok .usable .fits .some-digits) _ q) (λ k. getD helpers k 0) (l .helpers) (parityRacks l)
       (helping f l ok (firstLost l lost) helpers (given .help)) m _ _ (λ k hk. alike m k hm hk) _)
       (record { at = λ g hg out. sound g hg out }) i)
 

@@ -16,7 +16,7 @@ use Rattle.algebra.specs.Repair.{hostSum}
 use Rattle.algebra.proofs.Cabinet.{witness, solved, sums-only}
 use Rattle.layout.specs.declared.Layout.{Layout}
 use Rattle.layout.specs.Layout.{digits, layers, groups, parityRacks}
-use Rattle.codeword.specs.Codeword.{shapeOf, Usable}
+use Rattle.codeword.specs.Codeword.{shapeOf, Solvable}
 use Rattle.rule.specs.Rule.{groupAt, Helpers}
 
 -- rising racks other than the host, in the algebra's terms
@@ -32,9 +32,9 @@ helping-from f l whole under h helpers host inside rising other = record {
   few = under;
 }
 
-module _ {A : Type 0} (f : Field A) (l : Layout) (ok : Usable f l) (x : ℕ) (helpers : List ℕ) (help : Helpers l x helpers) where
+module _ {A : Type 0} (f : Field A) (l : Layout) (ok : Solvable f l) (x : ℕ) (helpers : List ℕ) (help : Helpers l x helpers) where
   pub host-in : x / l .size < l .racks
-  host-in = div-lt-iff-lt-mul (ok .fits .some-places) .1 (help .lost-in)
+  host-in = div-lt-iff-lt-mul (ok .usable .fits .some-places) .1 (help .lost-in)
 
   -- the helpers in the algebra's terms
   pub helping : Helping (shapeOf f l) (x / l .size) (λ k. getD helpers k 0) (l .helpers) (parityRacks l)
@@ -42,11 +42,11 @@ module _ {A : Type 0} (f : Field A) (l : Layout) (ok : Usable f l) (x : ℕ) (he
 
   -- each layer is in a group below L/s
   pub group-below : (j : ℕ) → j < layers l → groupAt l x j < groups l
-  group-below j h = rw (ok .groups-are) (group-in (digits l) (ok .fits .some-digits) (l .racks) (x / l .size) j host-in h)
+  group-below j h = rw (ok .groups-are) (group-in (digits l) (ok .usable .fits .some-digits) (l .racks) (x / l .size) j host-in h)
 
   -- layer j is that of its group and its digit
   back : (p j : ℕ) → groupAt l x j ≡ p → layerOf (digits l) (x / l .size) p (digit (digits l) j (x / l .size)) ≡ j
-  back p j e = ap (λ q. layerOf (digits l) (x / l .size) q (digit (digits l) j (x / l .size))) (sym e) ∙ layer-back (digits l) (ok .fits .some-digits) (x / l .size) j
+  back p j e = ap (λ q. layerOf (digits l) (x / l .size) q (digit (digits l) j (x / l .size))) (sym e) ∙ layer-back (digits l) (ok .usable .fits .some-digits) (x / l .size) j
 
   module _ (p : ℕ) (inside : p < groups l) where
     group : p < digits l ^ (l .racks - 1)
@@ -60,14 +60,14 @@ module _ {A : Type 0} (f : Field A) (l : Layout) (ok : Usable f l) (x : ℕ) (he
         (digit (digits l) j (x / l .size))
     solution-sums m share sums sol j e =
         ap (sums (x / l .size)) (sym (back p j e))
-        ∙ sums-only (shapeOf f l) (ok .fits) (x / l .size) host-in p group m (λ k. getD helpers k 0) (l .helpers) (parityRacks l) helping share sums sol
-        (digit (digits l) j (x / l .size)) (digit-below (digits l) (ok .fits .some-digits) j (x / l .size))
+        ∙ sums-only (shapeOf f l) (ok .usable .fits) (x / l .size) host-in p group m (λ k. getD helpers k 0) (l .helpers) (parityRacks l) helping share sums sol
+        (digit (digits l) j (x / l .size)) (digit-below (digits l) (ok .usable .fits .some-digits) j (x / l .size))
 
     -- and there is one
     pub witness-sums : (m : ℕ) (share : ℕ → A) → ℕ → ℕ → A
-    witness-sums m share = witness (shapeOf f l) (ok .fits) (x / l .size) host-in p group m (λ k. getD helpers k 0) (l .helpers) (parityRacks l) helping share
+    witness-sums m share = witness (shapeOf f l) (ok .usable .fits) (x / l .size) host-in p group m (λ k. getD helpers k 0) (l .helpers) (parityRacks l) helping share
 
     pub witness-solves : (m : ℕ) (share : ℕ → A) →
         Solution (shapeOf f l) m (x / l .size) p (λ k. getD helpers k 0) (l .helpers) (parityRacks l) share (witness-sums m share)
     unfolding witness-sums
-    witness-solves m share = solved (shapeOf f l) (ok .fits) (x / l .size) host-in p group m (λ k. getD helpers k 0) (l .helpers) (parityRacks l) helping share
+    witness-solves m share = solved (shapeOf f l) (ok .usable .fits) (x / l .size) host-in p group m (λ k. getD helpers k 0) (l .helpers) (parityRacks l) helping share

@@ -21,7 +21,7 @@ use Rattle.algebra.proofs.Sum.{sum-congr}
 use Rattle.algebra.proofs.Cabinet.{choose-same}
 use Rattle.layout.specs.declared.Layout.{Layout}
 use Rattle.layout.specs.Layout.{trays, layers, groups, parityRacks}
-use Rattle.codeword.specs.Codeword.{shapeOf, Usable}
+use Rattle.codeword.specs.Codeword.{shapeOf, Usable, Solvable}
 use Rattle.codeword.proofs.Buffers.{layers-pos}
 use Rattle.rule.specs.Rule.{trayPart, Helpers, groupAt, sharedSymbol, soundSum, RuledOne}
 use Rattle.rule.specs.Lost.{lostPlace, lostPart, Losses, sentSymbol, mended, Ruled, Of}
@@ -85,39 +85,39 @@ module _ {A : Type 0} (f : Field A) (l : Layout) (ok : Usable f l) (x : ℕ) whe
         (subst (λ n. getD spare n 0 < f .coding .size) (sym (front (layers l) j)) (subst (λ n. n < f .coding .size) (sym (r .holds j h e)) (ok .field .coded .val-below _)));
   }
 
-  module _ (helpers : List ℕ) (help : Helpers l x helpers) where
-    -- one lost tray is never too many
-    pub one-loss : Losses l (x ∷ []) helpers
-    one-loss = record {
-      some = omega arith;
-      few = omega (arith, mod-lt (l .dimension) (ok .fits .some-places));
-      one-rack = λ i k. ap (λ n. getD (x ∷ []) n 0 / l .size) (sym (zero-is i k));
-      rising = λ i k. absurd (omega arith);
-      help = help;
-    }
+module _ {A : Type 0} (f : Field A) (l : Layout) (ok : Solvable f l) (x : ℕ) (helpers : List ℕ) (help : Helpers l x helpers) where
+  -- one lost tray is never too many
+  pub one-loss : Losses l (x ∷ []) helpers
+  one-loss = record {
+    some = omega arith;
+    few = omega (arith, mod-lt (l .dimension) (ok .usable .fits .some-places));
+    one-rack = λ i k. ap (λ n. getD (x ∷ []) n 0 / l .size) (sym (zero-is i k));
+    rising = λ i k. absurd (omega arith);
+    help = help;
+  }
 
-    -- with e = 1 the bytes are those of document 01
-    pub one-same : (shares host : List ℕ) (p : ℕ) → p < groups l → (spare spare′ : List ℕ) →
-        Ruled f l (x ∷ []) helpers shares host p spare → RuledOne f l x helpers shares host p spare′ →
-        (j : ℕ) → j < layers l → groupAt l x j ≡ p → getD spare j 0 ≡ getD spare′ j 0
-    one-same shares host p inside spare spare′ r s j h e =
-        let one = rule-one f l ok (x ∷ []) helpers one-loss shares host in
-        subst (λ n. getD spare n 0 ≡ getD spare′ n 0) (front (layers l) j)
-        (one .only p inside spare r 0 (omega arith) j h e ∙ sym (one .only p inside spare′ (lost-one helpers shares host p spare′ s) 0 (omega arith) j h e))
+  -- with e = 1 the bytes are those of document 01
+  pub one-same : (shares host : List ℕ) (p : ℕ) → p < groups l → (spare spare′ : List ℕ) →
+      Ruled f l (x ∷ []) helpers shares host p spare → RuledOne f l x helpers shares host p spare′ →
+      (j : ℕ) → j < layers l → groupAt l x j ≡ p → getD spare j 0 ≡ getD spare′ j 0
+  one-same shares host p inside spare spare′ r s j h e =
+      let one = rule-one f l ok (x ∷ []) helpers one-loss shares host in
+      subst (λ n. getD spare n 0 ≡ getD spare′ n 0) (front (layers l) j)
+      (one .only p inside spare r 0 (omega arith) j h e ∙ sym (one .only p inside spare′ (lost-one f l (ok .usable) x helpers shares host p spare′ s) 0 (omega arith) j h e))
 
-    -- the lost part of a codeword is the lost tray
-    pub one-part : (c : List ℕ) → length c ≡ trays l * layers l → lostPart l (x ∷ []) c ≡ trayPart l c x
-    one-part c long =
-        ext-getD 0 (lostPart l (x ∷ []) c) (trayPart l c x)
-        (lost-long l (x ∷ []) c ∙ one-mul (layers l) ∙ sym (tray-long l c (trays l) x (layers-pos f l ok) long (help .lost-in)))
-        (λ j h.
-        let k : j < layers l = rw (lost-long l (x ∷ []) c ∙ one-mul (layers l)) at h in
-        ap (λ n. getD (lostPart l (x ∷ []) c) n 0) (sym (front (layers l) j)) ∙ lost-at l (x ∷ []) c 0 j (omega arith) k ∙ sym (tray-at l c x j k))
+  -- the lost part of a codeword is the lost tray
+  pub one-part : (c : List ℕ) → length c ≡ trays l * layers l → lostPart l (x ∷ []) c ≡ trayPart l c x
+  one-part c long =
+      ext-getD 0 (lostPart l (x ∷ []) c) (trayPart l c x)
+      (lost-long l (x ∷ []) c ∙ one-mul (layers l) ∙ sym (tray-long l c (trays l) x (layers-pos f l (ok .usable)) long (help .lost-in)))
+      (λ j h.
+      let k : j < layers l = rw (lost-long l (x ∷ []) c ∙ one-mul (layers l)) at h in
+      ap (λ n. getD (lostPart l (x ∷ []) c) n 0) (sym (front (layers l) j)) ∙ lost-at l (x ∷ []) c 0 j (omega arith) k ∙ sym (tray-at l c x j k))
 
-    -- on a codeword's shares and sound trays the rule gives the codeword's lost tray
-    pub one-exact : (shares host c : List ℕ) → Of f l (x ∷ []) helpers shares host c → (p : ℕ) → p < groups l → (spare : List ℕ) → RuledOne f l x helpers shares host p spare →
-        (j : ℕ) → j < layers l → groupAt l x j ≡ p → getD spare j 0 ≡ getD (trayPart l c x) j 0
-    one-exact shares host c of p inside spare r j h e =
-        subst (λ n. getD spare n 0 ≡ getD (lostPart l (x ∷ []) c) n 0) (front (layers l) j)
-        (rule-exact f l ok (x ∷ []) helpers one-loss shares host c of p inside spare (lost-one helpers shares host p spare r) 0 (omega arith) j h e)
-        ∙ ap (λ t. getD t j 0) (one-part c (of .codeword .long))
+  -- on a codeword's shares and sound trays the rule gives the codeword's lost tray
+  pub one-exact : (shares host c : List ℕ) → Of f l (x ∷ []) helpers shares host c → (p : ℕ) → p < groups l → (spare : List ℕ) → RuledOne f l x helpers shares host p spare →
+      (j : ℕ) → j < layers l → groupAt l x j ≡ p → getD spare j 0 ≡ getD (trayPart l c x) j 0
+  one-exact shares host c of p inside spare r j h e =
+      subst (λ n. getD spare n 0 ≡ getD (lostPart l (x ∷ []) c) n 0) (front (layers l) j)
+      (rule-exact f l ok (x ∷ []) helpers one-loss shares host c of p inside spare (lost-one f l (ok .usable) x helpers shares host p spare r) 0 (omega arith) j h e)
+      ∙ ap (λ t. getD t j 0) (one-part c (of .codeword .long))

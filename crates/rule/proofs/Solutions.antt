@@ -20,11 +20,11 @@ use Rattle.algebra.proofs.Repair.{solution, word-only, point-not-zero}
 use Rattle.algebra.proofs.Cabinet.{digits-are, group-sum}
 use Rattle.layout.specs.declared.Layout.{Layout}
 use Rattle.layout.specs.Layout.{digits, groups, parityRacks}
-use Rattle.codeword.specs.Codeword.{shapeOf, Usable}
+use Rattle.codeword.specs.Codeword.{shapeOf, Solvable}
 use Rattle.rule.specs.Rule.{groupAt, Helpers}
 use Rattle.rule.proofs.Rule.{host-in, helping, solution-sums}
 
-module _ {A : Type 0} (f : Field A) (l : Layout) (ok : Usable f l) (x : ℕ) (helpers : List ℕ) (help : Helpers l x helpers) (p : ℕ) (inside : p < groups l) (m : ℕ) (share : ℕ → A) where
+module _ {A : Type 0} (f : Field A) (l : Layout) (ok : Solvable f l) (x : ℕ) (helpers : List ℕ) (help : Helpers l x helpers) (p : ℕ) (inside : p < groups l) (m : ℕ) (share : ℕ → A) where
   abbrev h : ℕ
   h = x / l .size
 
@@ -33,14 +33,14 @@ module _ {A : Type 0} (f : Field A) (l : Layout) (ok : Usable f l) (x : ℕ) (he
   a = digit (digits l) (layerOf (digits l) h p 0)
 
   a-below : (i : ℕ) → i < l .racks → a i < digits l
-  a-below i k = digit-below (digits l) (ok .fits .some-digits) (layerOf (digits l) h p 0) i
+  a-below i k = digit-below (digits l) (ok .usable .fits .some-digits) (layerOf (digits l) h p 0) i
 
   -- what solves the group's checks t = u·w + m and agrees with the shares
   abbrev pub Solves : (ℕ → ℕ → A) → Type 0
   Solves = Solution (shapeOf f l) m (x / l .size) p (λ k. getD helpers k 0) (l .helpers) (parityRacks l) share
 
   over : (g : ℕ → A) → groupSum (shapeOf f l) h p g ≡ sum (f .ops) (digits l) (λ b. g (layerOf (digits l) h p b))
-  over = group-sum (shapeOf f l) (ok .fits) h (host-in f l ok x helpers help) p (rw (ok .groups-are) at inside)
+  over = group-sum (shapeOf f l) (ok .usable .fits) h (host-in f l ok x helpers help) p (rw (ok .groups-are) at inside)
 
   -- the m-th power of the point of the j-th rack other than the host
   weight : ℕ → A
@@ -54,17 +54,17 @@ module _ {A : Type 0} (f : Field A) (l : Layout) (ok : Usable f l) (x : ℕ) (he
     checks : (w : ℕ) → w < parityRacks l → sum (f .ops) (digits l) (λ b. rackCheck (shapeOf f l) (digitsAt h a b) m (at b) w) ≡ f .ops .zero
     unfolding at
     checks w k =
-        sum-congr (f .ops) (digits l) _ _ (λ b n. ap (λ e. rackCheck (shapeOf f l) e m (at b) w) (digits-are (digits l) h p b (ok .fits .some-digits) n))
+        sum-congr (f .ops) (digits l) _ _ (λ b n. ap (λ e. rackCheck (shapeOf f l) e m (at b) w) (digits-are (digits l) h p b (ok .usable .fits .some-digits) n))
         ∙ sym (over (λ j. rackCheck (shapeOf f l) (digit (digits l) j) m (λ i. sums i j) w)) ∙ sol .checks w k
 
     group-word : (j : ℕ) → j < l .racks - 1 →
         f .ops .mul (weight j) (groupSum (shapeOf f l) h p (sums (skip h j)))
-        ≡ solution (shapeOf f l) (ok .fits) h a a-below (λ k. getD helpers k 0) (l .helpers) (parityRacks l) (helping f l ok x helpers help) m share (digits l + j)
+        ≡ solution (shapeOf f l) (ok .usable .fits) h a a-below (λ k. getD helpers k 0) (l .helpers) (parityRacks l) (helping f l ok x helpers help) m share (digits l + j)
     unfolding at groupWord weight
     group-word j k =
         ap (f .ops .mul (weight j)) (over (sums (skip h j)))
         ∙ sym (join-add (digits l) _ _ j)
-        ∙ word-only (shapeOf f l) (ok .fits) h a a-below (λ k. getD helpers k 0) (l .helpers) (parityRacks l) (helping f l ok x helpers help) m at share checks
+        ∙ word-only (shapeOf f l) (ok .usable .fits) h a a-below (λ k. getD helpers k 0) (l .helpers) (parityRacks l) (helping f l ok x helpers help) m at share checks
         (λ k q. sym (sol .given k q) ∙ over (sums (getD helpers k 0))) (digits l + j) (omega arith)
 
   -- two solutions have the same host rack sums in the group's layers, and the same group sums of every other rack
@@ -78,7 +78,7 @@ module _ {A : Type 0} (f : Field A) (l : Layout) (ok : Usable f l) (x : ℕ) (he
         let j = unskip h i in
         let hj = unskip-below h i (l .racks - 1) (omega (arith, host-in f l ok x helpers help)) (omega arith) d in
         subst (λ n. groupSum (shapeOf f l) h p (one n) ≡ groupSum (shapeOf f l) h p (two n)) (skip-unskip h i d)
-        (mul-cancel (f .ops) (ok .field .laws) (weight j) _ _
-        (point-not-zero (shapeOf f l) (ok .fits) h a a-below (λ k. getD helpers k 0) (l .helpers) (parityRacks l) (helping f l ok x helpers help) (skip h j) (a (skip h j)) m)
+        (mul-cancel (f .ops) (ok .usable .field .laws) (weight j) _ _
+        (point-not-zero (shapeOf f l) (ok .usable .fits) h a a-below (λ k. getD helpers k 0) (l .helpers) (parityRacks l) (helping f l ok x helpers help) (skip h j) (a (skip h j)) m)
         (group-word one s j hj ∙ sym (group-word two t j hj))),
   )

@@ -1,7 +1,7 @@
 -- Shares built up tray by tray: in any order, each tray fed once, they are the rack's e shares; a tray fed twice counts twice, and among bytes cancels.
 -- Assumes nothing.
 use mathlib.Core.Bool.{Bool, true, false, not, cond}
-use mathlib.Core.Path.{_≡_, refl, sym, ap, ap₂, _∙_}
+use mathlib.Core.Path.{_≡_, refl, sym, ap, ap₂, _∙_, subst}
 use mathlib.Core.List.{List, [], _∷_}
 use Prim.Native.Nat.{ℕ, zero, suc, _+_, _*_, _%_, _≤_, _<_}
 use native.Mathlib.Nat.{one-mul}
@@ -30,9 +30,9 @@ use Rattle.layout.proofs.Facts.{bounds}
 use Rattle.rule.specs.Rule.{trayPart}
 use Rattle.range.specs.Range.{symbolsFrom}
 use Rattle.rule.proofs.Racks.{tray-at, tray-long}
-use Rattle.share.specs.Many.{sharesOf, manyRefusal, manyBuffer, partAt, fedMany, addManyRefusal, addManyBuffer}
+use Rattle.share.specs.Many.{sharesOf, partAt, fedMany, fedRefusal, fedBuffer, manyRefusal, manyBuffer, addManyRefusal, addManyBuffer}
 use Rattle.share.specs.Feeds.{count, odd, cleared, Feeds, none, feed, refused}
-use Rattle.share.proofs.Refusals.{symbols-in, symbols-range, rack-shareable, tray-done, tray-shareable, tray-ground-0, buffer-done, add-refused, add-done}
+use Rattle.share.proofs.Refusals.{symbols-in, symbols-range, rack-shareable, tray-done, tray-shareable, tray-ground-0, buffer-done, add-refused, add-done, many-plain, many-same, many-done, add-many-refused, add-many-left, add-many-done}
 use Rattle.share.proofs.Parts.{all-parts}
 
 -- one tray more among those counted
@@ -71,16 +71,16 @@ module _ {A : Type 0} {f : Field A} (W : Working f) (l : Layout) (e : ℕ) where
         rw (table-at (λ n. f .coding .val (add (f .coding .elem (getD held n 0)) (partAt f l host x symbols n))) (e * groups l) k (rw once-long at h)) (laws .coded .val-below _))
 
     -- feeding a tray twice adds its parts twice
-    pub fed-twice : addManyRefusal f l e host x symbols held ≡ 0 →
-        addManyBuffer f l e host x symbols (addManyBuffer f l e host x symbols held)
+    pub fed-twice : fedRefusal f l e host x symbols held ≡ 0 →
+        fedBuffer f l e host x symbols (fedBuffer f l e host x symbols held)
         ≡ table (λ n. f .coding .val (add (f .coding .elem (getD held n 0)) (add (partAt f l host x symbols n) (partAt f l host x symbols n)))) (e * groups l)
     fed-twice q =
-        ap (addManyBuffer f l e host x symbols) (sym (add-done f l e host x symbols held q))
+        ap (fedBuffer f l e host x symbols) (sym (add-done f l e host x symbols held q))
         ∙ sym (add-done f l e host x symbols (fedMany f l e host x symbols held)
         (again q))
         ∙ twice
       where
-        again : addManyRefusal f l e host x symbols held ≡ 0 → addManyRefusal f l e host x symbols (fedMany f l e host x symbols held) ≡ 0
+        again : fedRefusal f l e host x symbols held ≡ 0 → fedRefusal f l e host x symbols (fedMany f l e host x symbols held) ≡ 0
         again q =
             let p = tray-shareable W l e host x symbols held q in
             sym (tray-ground-0 W l e host x symbols (fedMany f l e host x symbols held) (length held) (symbolsFrom f held 0 (length held)) p (once-long ∙ sym (p .room-long)) once-range)
@@ -142,7 +142,7 @@ module _ {A : Type 0} {f : Field A} (W : Working f) (l : Layout) (e : ℕ) where
     after-range places = symbols-in f (after places) (λ k t.
         rw (table-at (λ n. f .coding .val (add (f .coding .elem (getD start n 0)) (total places n))) (e * groups l) k (rw (after-long places) at t)) (laws .coded .val-below _))
 
-    done : (places : List ℕ) (g : ℕ) → g < l .size → addManyRefusal f l e host (i * l .size + g) (trayPart l rack g) (after places) ≡ 0
+    done : (places : List ℕ) (g : ℕ) → g < l .size → fedRefusal f l e host (i * l .size + g) (trayPart l rack g) (after places) ≡ 0
     done places g h = tray-done W l e host i g (trayPart l rack g) (after places) (record {
       adm = a;
       long = tray-whole g h ∙ sym (one-mul (layers l));
@@ -158,7 +158,7 @@ module _ {A : Type 0} {f : Field A} (W : Working f) (l : Layout) (e : ℕ) where
     is-after : (places held : List ℕ) → Feeds f l e host i rack start places held → held ≡ after places
     is-after _ _ none = after-none
     is-after _ _ (feed {places} {held} before g h) =
-        ap (addManyBuffer f l e host (i * l .size + g) (trayPart l rack g)) (is-after places held before)
+        ap (fedBuffer f l e host (i * l .size + g) (trayPart l rack g)) (is-after places held before)
         ∙ sym (add-done f l e host (i * l .size + g) (trayPart l rack g) (after places) (done places g h))
         ∙ after-more places g h
     is-after places _ (refused {held = held} before l′ e′ host′ x symbols q) = sym (add-refused f l′ e′ host′ x symbols held q) ∙ is-after places held before
@@ -195,10 +195,22 @@ module _ {A : Type 0} {f : Field A} (W : Working f) (l : Layout) (e : ℕ) where
   -- and that is what the call for the whole rack writes, into whatever room of the right length
   pub feeds-call : (host i : ℕ) (rack out : List ℕ) → manyRefusal f l e host i rack (length out) ≡ 0 →
       (places held : List ℕ) → Feeds f l e host i rack (cleared f l e) places held → ((g : ℕ) → g < l .size → count g places ≡ 1) → held ≡ manyBuffer f l e host i rack out
-  feeds-call host i rack out h places held feeds once =
+  feeds-call host i rack out q places held feeds once =
+      let z = many-plain f l e host i rack out q in
+      let h = many-same f l e host i rack out z ∙ q in
       let p = rack-shareable W l e host i rack (length out) h in
       feeds-shares W l e (p .adm) host i (p .host-in) (p .helper-in) (p .some) (p .few) (p .differ) rack (p .long) (symbols-range f rack (p .symbols-so)) (cleared f l e) cleared-long cleared-range refl places held feeds once
       ∙ buffer-done f l e host i rack out h
+      ∙ many-done f l e host i rack out _ _ z refl refl .1
+
+  -- a call with e and E = 0 is a step of a list of feeds, and so is one that is refused, with any E
+  module _ (host i : ℕ) (rack start places held : List ℕ) (before : Feeds f l e host i rack start places held) where
+    pub many-feed : l .errors ≡ 0 → (g : ℕ) → g < l .size → Feeds f l e host i rack start (g ∷ places) (addManyBuffer f l e host (i * l .size + g) (trayPart l rack g) held)
+    many-feed z g h = subst (Feeds f l e host i rack start (g ∷ places)) (add-many-done f l e host (i * l .size + g) (trayPart l rack g) held _ _ z refl refl .1) (feed before g h)
+
+    pub many-left : (l′ : Layout) (e′ host′ x : ℕ) (symbols : List ℕ) → ¬ (addManyRefusal f l′ e′ host′ x symbols held ≡ 0) →
+        Feeds f l e host i rack start places (addManyBuffer f l′ e′ host′ x symbols held)
+    many-left l′ e′ host′ x symbols d = subst (Feeds f l e host i rack start places) (add-many-left f l′ e′ host′ x symbols held d) before
 
 both-cancel : (x y : Elem) → x ≡ ops .add x (ops .add y y)
 unfolding ops
@@ -225,16 +237,28 @@ feeds-cancel l e a host i hh hi some few differ rack long given start room range
     ∙ table-same _ _ (e * groups l) (λ n k.
     ap (λ y. gf256 .coding .val (ops .add (gf256 .coding .elem (getD start n 0)) y)) (sum-congr ops (l .size) _ _ (λ g h. often (count g places) _)))
 
--- so the same call twice leaves the buffer as it was, refused or done
-pub twice-cancels : (l : Layout) (e host x : ℕ) (symbols held : List ℕ) → InRange (gf256 .coding) held →
-    addManyBuffer gf256 l e host x symbols (addManyBuffer gf256 l e host x symbols held) ≡ held
-twice-cancels l e host x symbols held range = go (ℕ-discrete (addManyRefusal gf256 l e host x symbols held) 0)
+-- so feeding the same tray twice leaves the buffer as it was, refused or done ..
+pub twice-fed : (l : Layout) (e host x : ℕ) (symbols held : List ℕ) → InRange (gf256 .coding) held →
+    fedBuffer gf256 l e host x symbols (fedBuffer gf256 l e host x symbols held) ≡ held
+twice-fed l e host x symbols held range = go (ℕ-discrete (fedRefusal gf256 l e host x symbols held) 0)
   where
-    go : Dec (addManyRefusal gf256 l e host x symbols held ≡ 0) → addManyBuffer gf256 l e host x symbols (addManyBuffer gf256 l e host x symbols held) ≡ held
+    go : Dec (fedRefusal gf256 l e host x symbols held ≡ 0) → fedBuffer gf256 l e host x symbols (fedBuffer gf256 l e host x symbols held) ≡ held
     go (yes q) =
         let room : length held ≡ e * groups l = tray-shareable working l e host x symbols held q .room-long in
         fed-twice working l e host x symbols held q
         ∙ sym (is-table held _ (e * groups l) room (λ n k.
         sym (gf256-laws .coded .val-elem _ (range .at n (rw room k)))
         ∙ ap (λ y. y .val) (both-cancel (gf256 .coding .elem (getD held n 0)) (partAt gf256 l host x symbols n))))
-    go (no d) = ap (addManyBuffer gf256 l e host x symbols) (sym (add-refused gf256 l e host x symbols held d)) ∙ sym (add-refused gf256 l e host x symbols held d)
+    go (no d) = ap (fedBuffer gf256 l e host x symbols) (sym (add-refused gf256 l e host x symbols held d)) ∙ sym (add-refused gf256 l e host x symbols held d)
+
+-- .. and so does the same call twice
+pub twice-cancels : (l : Layout) (e host x : ℕ) (symbols held : List ℕ) → InRange (gf256 .coding) held →
+    addManyBuffer gf256 l e host x symbols (addManyBuffer gf256 l e host x symbols held) ≡ held
+twice-cancels l e host x symbols held range = go (ℕ-discrete (l .errors) 0)
+  where
+    again : l .errors ≡ 0 → (xs : List ℕ) → addManyBuffer gf256 l e host x symbols xs ≡ fedBuffer gf256 l e host x symbols xs
+    again z xs = sym (add-many-done gf256 l e host x symbols xs _ _ z refl refl .1)
+
+    go : Dec (l .errors ≡ 0) → addManyBuffer gf256 l e host x symbols (addManyBuffer gf256 l e host x symbols held) ≡ held
+    go (yes z) = again z _ ∙ ap (fedBuffer gf256 l e host x symbols) (again z held) ∙ twice-fed l e host x symbols held range
+    go (no d) = sym (add-many-refused gf256 l e host x symbols (addManyBuffer gf256 l e host x symbols held) d .1) ∙ sym (add-many-refused gf256 l e host x symbols held d .1)

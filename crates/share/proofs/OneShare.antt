@@ -17,11 +17,11 @@ use Rattle.layout.specs.declared.Layout.{Layout}
 use Rattle.layout.specs.Layout.{layers, groups, Admissible}
 use Rattle.rule.specs.Rule.{trayPart}
 use Rattle.share.specs.Share.{shareOf, partSymbol, addRefusal, addBuffer}
-use Rattle.share.specs.Many.{partAt, addManyBuffer}
+use Rattle.share.specs.Many.{partAt, fedBuffer}
 use Rattle.share.specs.Feeds.{count, cleared, Feeds, feed, refused}
 use Rattle.share.proofs.Refusals.{one-few, one-add-refusal}
 use Rattle.share.proofs.Weights.{one-row, one-shares, one-add-buffer}
-use Rattle.share.proofs.Feeds.{feeds-shares, fed-twice, twice-cancels}
+use Rattle.share.proofs.Feeds.{feeds-shares, fed-twice, twice-fed}
 
 module _ {A : Type 0} {f : Field A} (W : Working f) (l : Layout) (host i : ℕ) (rack start places held : List ℕ) where
   -- a call for one share is a step of a list of feeds
@@ -47,8 +47,8 @@ module _ {A : Type 0} {f : Field A} (W : Working f) (l : Layout) where
       ∙ one-shares f l host rack
 
   module _ (host x : ℕ) (symbols held : List ℕ) where
-    both-calls : addManyBuffer f l 1 host x symbols (addManyBuffer f l 1 host x symbols held) ≡ addBuffer f l host x symbols (addBuffer f l host x symbols held)
-    both-calls = ap (addManyBuffer f l 1 host x symbols) (one-add-buffer f l W host x symbols held) ∙ one-add-buffer f l W host x symbols (addBuffer f l host x symbols held)
+    both-calls : fedBuffer f l 1 host x symbols (fedBuffer f l 1 host x symbols held) ≡ addBuffer f l host x symbols (addBuffer f l host x symbols held)
+    both-calls = ap (fedBuffer f l 1 host x symbols) (one-add-buffer f l W host x symbols held) ∙ one-add-buffer f l W host x symbols (addBuffer f l host x symbols held)
 
     -- feeding a tray twice adds its part twice
     pub one-twice : addRefusal f l host x symbols held ≡ 0 →
@@ -63,4 +63,4 @@ module _ {A : Type 0} {f : Field A} (W : Working f) (l : Layout) where
 
 -- among bytes it cancels
 pub one-cancels : (l : Layout) (host x : ℕ) (symbols held : List ℕ) → InRange (gf256 .coding) held → addBuffer gf256 l host x symbols (addBuffer gf256 l host x symbols held) ≡ held
-one-cancels l host x symbols held range = sym (both-calls working l host x symbols held) ∙ twice-cancels l 1 host x symbols held range
+one-cancels l host x symbols held range = sym (both-calls working l host x symbols held) ∙ twice-fed l 1 host x symbols held range

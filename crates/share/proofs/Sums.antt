@@ -79,4 +79,4 @@ module _ (l : Layout) (h s run count : ℕ) (a : Cabinet l) (host : h < l .racks
           layered : sum (f .ops) s (λ b. f .coding .elem (getD symbols ((p / run * s + b) * run + p % run) 0)) ≡ sumAt f l h symbols p
           layered = unfold layerOf in
               ap₂ (λ n w. sum (f .ops) n (λ b. f .coding .elem (getD symbols ((p / w * n + b) * w + p % w) 0))) (r .digits-are) (r .run-is)
-              ∙ sym (group-sum (shapeOf f l) (usable W l adm .fits) h host p (rw (usable W l adm .groups-are) at k) (λ j. f .coding .elem (getD symbols j 0)))
+              ∙ sym (group-sum (shapeOf f l) (usable W l adm .fits) h host p (rw (groups-are l (adm .cabinet)) at k) (λ j. f .coding .elem (getD symbols j 0)))

@@ -25,7 +25,7 @@ use Rattle.layout.specs.Layout.{groups}
 use Rattle.codeword.specs.Codeword.{shapeOf}
 use Rattle.rule.specs.Rule.{shareSymbol}
 use Rattle.share.specs.Share.{shareOf, shareBuffer, partSymbol, fed, addBuffer}
-use Rattle.share.specs.Many.{sharesOf, manyBuffer, partAt, fedMany, addManyBuffer}
+use Rattle.share.specs.Many.{sharesOf, sharesBuffer, partAt, fedMany, fedBuffer}
 use Rattle.share.proofs.Refusals.{one-refusal, one-add-refusal}
 
 -- row m of e rows of n
@@ -77,10 +77,10 @@ module _ {A : Type 0} (f : Field A) (l : Layout) where
   one-fed h x symbols held = one-row _ _ (groups l) (λ p q.
       ap (λ y. f .coding .val (add (f .coding .elem (getD held p 0)) y)) (ap₂ (λ y z. partSymbol f l y h x symbols z) (div-eq-of-lt q) (mod-eq-of-lt q)))
 
-  pub one-buffer : Working f → (host helper : ℕ) (rack out : List ℕ) → manyBuffer f l 1 host helper rack out ≡ shareBuffer f l host helper rack out
-  unfolding manyBuffer shareBuffer
+  pub one-buffer : Working f → (host helper : ℕ) (rack out : List ℕ) → sharesBuffer f l 1 host helper rack out ≡ shareBuffer f l host helper rack out
+  unfolding sharesBuffer shareBuffer
   one-buffer W host helper rack out = ap₂ (λ n s. cond (eqb n 0) s out) (one-refusal W l host helper rack (length out)) (one-shares host rack)
 
-  pub one-add-buffer : Working f → (host x : ℕ) (symbols held : List ℕ) → addManyBuffer f l 1 host x symbols held ≡ addBuffer f l host x symbols held
-  unfolding addManyBuffer addBuffer
+  pub one-add-buffer : Working f → (host x : ℕ) (symbols held : List ℕ) → fedBuffer f l 1 host x symbols held ≡ addBuffer f l host x symbols held
+  unfolding fedBuffer addBuffer
   one-add-buffer W host x symbols held = ap₂ (λ n s. cond (eqb n 0) s held) (one-add-refusal W l host x symbols held) (one-fed host x symbols held)

@@ -13,14 +13,14 @@ use Rattle.algebra.specs.Coding.{Coding}
 use Rattle.algebra.specs.Shape.{Field}
 use Rattle.algebra.specs.Plain.{plus}
 use Rattle.layout.specs.declared.Layout.{Layout}
-use Rattle.layout.specs.Layout.{digits, layers, groups, Cabinet, Admissible}
+use Rattle.layout.specs.Layout.{digits, layers, groups, admissible, Cabinet, Admissible}
 use Rattle.codeword.specs.Codeword.{shapeOf}
 use Rattle.share.specs.Many.{manyGrounds, partAt}
 
 -- the grounds of all calls: e shares are asked for, so many trays of rack `helper` are lent, and what is looked at are symbols or not
 unfoldable pub grounds : ℕ → Layout → ℕ → ℕ → ℕ → ℕ → ℕ → ℕ → Bool → ℕ
 grounds N l e lent host helper given room symbols =
-    manyGrounds N l e (eqb given (lent * layers l) && eqb room (e * groups l)) (ltb host (l .racks) && ltb helper (l .racks)) symbols (not (eqb host helper))
+    manyGrounds (admissible N l) l e (eqb given (lent * layers l) && eqb room (e * groups l)) (ltb host (l .racks) && ltb helper (l .racks)) symbols (not (eqb host helper))
 
 -- the runs of a layout for host h
 pub record RunsOf (l : Layout) (h s run count : ℕ) : Type 0 where

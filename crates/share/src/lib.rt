@@ -17,7 +17,7 @@ ghost use Rattle.symbol.specs.Elem.{gf256};
 ghost use Rattle.layout.specs.Layout.{groups, Cabinet};
 ghost use Rattle.range.specs.Range.{symbolsFrom};
 ghost use Rattle.share.specs.Share.{shareRefusal, shareBuffer, addRefusal, addBuffer};
-ghost use Rattle.share.specs.Many.{sharesOf, manyRefusal, manyBuffer, addManyRefusal, addManyBuffer};
+ghost use Rattle.share.specs.Many.{sharesOf, sharesRefusal, sharesBuffer, fedRefusal, fedBuffer, manyRefusal, manyBuffer, addManyRefusal, addManyBuffer};
 ghost use Rattle.share.specs.Inner.{grounds, RunsOf, InRuns, DigitAdded, DigitsAdded, Summing, sumAt, Summed, Added, Weighing, Feeding, Gathering};
 
 // Runs shorter than this are added across.
@@ -217,7 +217,7 @@ fn refusal(
 
 // The first ground for refusing tray x, 0 for none.
 fn tray_refusal(l: Layout, count: u32, host: u32, x: u32, symbols: &[u8], shares: &[u8]) -> u8
-    ensures { λ r. ⌜ r ≡ addManyRefusal gf256 l count host x (now (symbols .entry)) (now (shares .entry)) ⌝ }
+    ensures { λ r. ⌜ r ≡ fedRefusal gf256 l count host x (now (symbols .entry)) (now (shares .entry)) ⌝ }
 {
     let u = l.size;
     if !layout::admitted(ORDER as u32, l) {
@@ -227,18 +227,11 @@ fn tray_refusal(l: Layout, count: u32, host: u32, x: u32, symbols: &[u8], shares
     refusal(l, count, 1, host, x / u, symbols.len(), shares.len(), both)
 }
 
-// Adds this tray's parts to what so many shares, in order of m, hold, or refuses and writes nothing. Answers the ground, 0 for done. Whoever calls it clears
-// the shares first and feeds each tray of the rack once, in any order.
-pub fn share_add_many(
-    l: Layout,
-    count: u32,
-    host: Rack,
-    tray: Tray,
-    symbols: &[u8],
-    shares: &mut [u8],
-) -> u8
-    ensures answer { λ r. ⌜ r ≡ addManyRefusal gf256 l count (host .0) (tray .0) (now (symbols .entry)) (now (shares .entry)) ⌝ }
-    ensures buffer { λ _. ⌜ now (shares .exit) ≡ addManyBuffer gf256 l count (host .0) (tray .0) (now (symbols .entry)) (now (shares .entry)) ⌝ }
+// Adds this tray's parts to what so many shares, in order of m, hold, or refuses and writes nothing, with either E. Answers the ground, 0 for done. Whoever calls
+// it clears the shares first and feeds each tray of the rack once, in any order.
+fn feed_tray(l: Layout, count: u32, host: Rack, tray: Tray, symbols: &[u8], shares: &mut [u8]) -> u8
+    ensures answer { λ r. ⌜ r ≡ fedRefusal gf256 l count (host .0) (tray .0) (now (symbols .entry)) (now (shares .entry)) ⌝ }
+    ensures buffer { λ _. ⌜ now (shares .exit) ≡ fedBuffer gf256 l count (host .0) (tray .0) (now (symbols .entry)) (now (shares .entry)) ⌝ }
 {
     let h = host.number();
     let x = tray.number();
@@ -255,12 +248,31 @@ pub fn share_add_many(
     0
 }
 
-// The same for document 01's share: one share, of weight 0.
+// The same with E = 0 only.
+pub fn share_add_many(
+    l: Layout,
+    count: u32,
+    host: Rack,
+    tray: Tray,
+    symbols: &[u8],
+    shares: &mut [u8],
+) -> u8
+    ensures answer { λ r. ⌜ r ≡ addManyRefusal gf256 l count (host .0) (tray .0) (now (symbols .entry)) (now (shares .entry)) ⌝ }
+    ensures buffer { λ _. ⌜ now (shares .exit) ≡ addManyBuffer gf256 l count (host .0) (tray .0) (now (symbols .entry)) (now (shares .entry)) ⌝ }
+{
+    let e = l.errors;
+    if e != 0 {
+        return 1;
+    }
+    feed_tray(l, count, host, tray, symbols, shares)
+}
+
+// For document 01's share: one share, of weight 0, with either E.
 pub fn share_add(l: Layout, host: Rack, tray: Tray, symbols: &[u8], share: &mut [u8]) -> u8
     ensures answer { λ r. ⌜ r ≡ addRefusal gf256 l (host .0) (tray .0) (now (symbols .entry)) (now (share .entry)) ⌝ }
     ensures buffer { λ _. ⌜ now (share .exit) ≡ addBuffer gf256 l (host .0) (tray .0) (now (symbols .entry)) (now (share .entry)) ⌝ }
 {
-    share_add_many(l, 1, host, tray, symbols, share)
+    feed_tray(l, 1, host, tray, symbols, share)
 }
 
 // Clears the shares and feeds the trays of the helper's rack, one after another.
@@ -283,18 +295,11 @@ fn gather(l: Layout, count: u32, h: u32, helper: u32, rack: &[u8], out: &mut [u8
     }
 }
 
-// Writes so many of the helper's shares for the host, in order of m, worked out from the helper's rack, or refuses and writes nothing. Answers the ground, 0
-// for done.
-pub fn share_many(
-    l: Layout,
-    count: u32,
-    host: Rack,
-    helper: Rack,
-    rack: &[u8],
-    out: &mut [u8],
-) -> u8
-    ensures answer { λ r. ⌜ r ≡ manyRefusal gf256 l count (host .0) (helper .0) (now (rack .entry)) (length (now (out .entry))) ⌝ }
-    ensures buffer { λ _. ⌜ now (out .exit) ≡ manyBuffer gf256 l count (host .0) (helper .0) (now (rack .entry)) (now (out .entry)) ⌝ }
+// Writes so many of the helper's shares for the host, in order of m, worked out from the helper's rack, or refuses and writes nothing, with either E. Answers the
+// ground, 0 for done.
+fn make_shares(l: Layout, count: u32, host: Rack, helper: Rack, rack: &[u8], out: &mut [u8]) -> u8
+    ensures answer { λ r. ⌜ r ≡ sharesRefusal gf256 l count (host .0) (helper .0) (now (rack .entry)) (length (now (out .entry))) ⌝ }
+    ensures buffer { λ _. ⌜ now (out .exit) ≡ sharesBuffer gf256 l count (host .0) (helper .0) (now (rack .entry)) (now (out .entry)) ⌝ }
 {
     let h = host.number();
     let i = helper.number();
@@ -307,10 +312,29 @@ pub fn share_many(
     0
 }
 
-// The same for document 01's share: one share, of weight 0.
+// The same with E = 0 only.
+pub fn share_many(
+    l: Layout,
+    count: u32,
+    host: Rack,
+    helper: Rack,
+    rack: &[u8],
+    out: &mut [u8],
+) -> u8
+    ensures answer { λ r. ⌜ r ≡ manyRefusal gf256 l count (host .0) (helper .0) (now (rack .entry)) (length (now (out .entry))) ⌝ }
+    ensures buffer { λ _. ⌜ now (out .exit) ≡ manyBuffer gf256 l count (host .0) (helper .0) (now (rack .entry)) (now (out .entry)) ⌝ }
+{
+    let e = l.errors;
+    if e != 0 {
+        return 1;
+    }
+    make_shares(l, count, host, helper, rack, out)
+}
+
+// For document 01's share: one share, of weight 0, with either E.
 pub fn share(l: Layout, host: Rack, helper: Rack, rack: &[u8], out: &mut [u8]) -> u8
     ensures answer { λ r. ⌜ r ≡ shareRefusal gf256 l (host .0) (helper .0) (now (rack .entry)) (length (now (out .entry))) ⌝ }
     ensures buffer { λ _. ⌜ now (out .exit) ≡ shareBuffer gf256 l (host .0) (helper .0) (now (rack .entry)) (now (out .entry)) ⌝ }
 {
-    share_many(l, 1, host, helper, rack, out)
+    make_shares(l, 1, host, helper, rack, out)
 }

@@ -27,7 +27,7 @@ use Rattle.algebra.specs.Plain.{Working}
 use Rattle.layout.specs.declared.Layout.{Layout}
 use Rattle.layout.specs.Layout.{digits, parityRacks, Cabinet}
 use Rattle.codeword.specs.Codeword.{shapeOf}
-use Rattle.layout.proofs.Numbers.{total}
+use Rattle.layout.proofs.Numbers.{total-plain}
 use Rattle.rule.specs.Lost.{sentSymbol}
 use Rattle.rule.proofs.Rule.{helping-from}
 use Rattle.sums.specs.Inner.{helperAt, placePoint, unknownPoint, sideTerm, rightSide, sumAt, Chosen}
@@ -51,7 +51,7 @@ module _ {A : Type 0} {f : Field A} (W : Working f) where
     Q = placePoint f l h p
 
     help : Helping (shapeOf f l) h (helperAt helpers) (l .helpers) (parityRacks l)
-    help = helping-from f l (total l adm) (adm .helpers-high) h helpers (ch .host-in) (ch .inside) (ch .rising) (ch .other)
+    help = helping-from f l (total-plain l adm (ch .plain)) (adm .helpers-high) h helpers (ch .host-in) (ch .inside) (ch .rising) (ch .other)
 
     K-rising : Rising K (l .helpers) n
     unfolding K n

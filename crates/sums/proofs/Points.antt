@@ -25,15 +25,15 @@ use Rattle.kernel.proofs.Rows.{row-before, cell-is, cell-other}
 use Rattle.layout.specs.declared.Layout.{Layout}
 use Rattle.layout.specs.Layout.{digits, parityRacks, trayLimit, Cabinet}
 use Rattle.layout.proofs.Facts.{bounds}
-use Rattle.layout.proofs.Numbers.{total}
+use Rattle.layout.proofs.Numbers.{total-plain}
 use Rattle.codeword.specs.Codeword.{shapeOf, pointAt}
 use Rattle.blocks.specs.Blocks.{Block}
 use Rattle.sums.specs.Inner.{helperAt, placePoint, unknownPoint, Chosen, Groups, Choosing, RackPowers, Cycle, Pointed, PointsTo, PointRow, Workspace}
 use Rattle.sums.proofs.Steps.{rack-point, other-in, unknowns-high}
 use Rattle.sums.proofs.Sides.{width-pos}
 
-pub unknown-below : (l : Layout) (h : ℕ) (helpers : List ℕ) (x s n i : ℕ) → Cabinet l → x ≡ free (helperPlace s h (helperAt helpers)) n i → n ≡ l .helpers → i < parityRacks l → x < digits l + (l .racks - 1)
-unknown-below l h helpers x s n i a e en k = omega (arith, e, free-below (helperPlace s h (helperAt helpers)) (parityRacks l) n i k, en, total l a)
+pub unknown-below : (l : Layout) (h : ℕ) (helpers : List ℕ) (x s n i : ℕ) → Cabinet l → l .errors ≡ 0 → x ≡ free (helperPlace s h (helperAt helpers)) n i → n ≡ l .helpers → i < parityRacks l → x < digits l + (l .racks - 1)
+unknown-below l h helpers x s n i a z e en k = omega (arith, e, free-below (helperPlace s h (helperAt helpers)) (parityRacks l) n i k, en, total-plain l a z)
 
 module _ {A : Type 0} {f : Field A} (W : Working f) where
   open Field f using (ops)
@@ -120,7 +120,7 @@ module _ {A : Type 0} {f : Field A} (W : Working f) where
     -- one column for all, where every other rack helps: then each unknown is the host's
     module _ (e : l .helpers + 1 ≡ l .racks) where
       own : (i : ℕ) → i < parityRacks l → i < digits l
-      own i k = let t = total l (g .adm) in omega arith
+      own i k = let t = total-plain l (g .adm) (g .plain) in omega arith
 
       place : (i : ℕ) → i < parityRacks l → free (helperPlace (digits l) h (helperAt helpers)) (l .helpers) i < digits l
       unfolding helperPlace
@@ -200,7 +200,7 @@ module _ (l : Layout) (h w first : ℕ) (helpers : List ℕ) (v run : ℕ) (poin
 
     module _ (x s : ℕ) (es : s ≡ digits l) (ex : x ≡ free (helperPlace s h (helperAt helpers)) (length helpers) i) where
       below : x < digits l + (l .racks - 1)
-      below = unknown-below l h helpers x s (length helpers) i pointed-layout ex (g .chosen .many) hi
+      below = unknown-below l h helpers x s (length helpers) i pointed-layout (g .chosen .plain) ex (g .chosen .many) hi
 
       pub other-high : s ≤ x → x - s ≤ 2 * trayLimit
       other-high k = let b = bounds l pointed-layout in omega (arith, below)

@@ -1,6 +1,6 @@
 -- The inverse as a power.
 -- Assumes nothing.
-use mathlib.Core.Path.{_≡_, sym, ap, _∙_}
+use mathlib.Core.Path.{_≡_, refl, sym, ap, _∙_}
 use Prim.Native.Nat.{ℕ, suc, _-_, _*_, _<_}
 use native.Mathlib.Nat.{mul-comm, eq-zero-or-pos}
 use native.Mathlib.Omega.{arith}
@@ -12,7 +12,7 @@ use Rattle.algebra.specs.Shape.{Field, FieldLaws}
 use Rattle.algebra.specs.Plain.{reduced, raised, rootPower, Working}
 use Rattle.algebra.proofs.Ring.{zero-mul, mul-comm as times-comm, mul-cancel}
 use Rattle.algebra.proofs.Pow.{pow-suc, pow-mul, one-pow}
-use Rattle.algebra.proofs.Plain.{elem-raised, elem-reduced, elem-rootPower, elem-zero, reduced-below}
+use Rattle.algebra.proofs.Plain.{elem-raised, elem-reduced, elem-rootPower, elem-zero, elem-one, reduced-below}
 
 module _ {A : Type 0} {f : Field A} (W : Working f) where
   open Field f using (ops, root, order)
@@ -49,3 +49,9 @@ module _ {A : Type 0} {f : Field A} (W : Working f) where
 
           is : elem x ≡ pow ops root (W .log (reduced f x))
           is = sym (elem-reduced W x) ∙ ap elem (sym (W .power-log (reduced f x) some (reduced-below W x))) ∙ elem-rootPower W (W .log (reduced f x))
+
+  -- one is its own inverse
+  pub inverse-one : (x : ℕ) → x ≡ 1 → elem 1 ≡ ops .inv (elem x)
+  inverse-one x e =
+      elem-one W ∙ sym (one-pow ops laws (order - 1)) ∙ ap (λ y. pow ops y (order - 1)) (sym (elem-one W)) ∙ sym (elem-raised W 1 (order - 1)) ∙ inverse-power 1 _ refl
+      ∙ ap (λ y. ops .inv (elem y)) (sym e)

@@ -24,9 +24,10 @@ use Rattle.rule.specs.Lost.{sentSymbol}
 abbrev pub helperAt : List ℕ → ℕ → ℕ
 helperAt helpers k = getD helpers k 0
 
--- a host rack and d helpers out of the others
+-- a host rack and d helpers out of the others, with none to spare (E = 0)
 pub record Chosen (l : Layout) (h : ℕ) (helpers : List ℕ) : Type 0 where
   pub adm : Cabinet l
+  pub plain : l .errors ≡ 0
   pub host-in : h < l .racks
   pub many : length helpers ≡ l .helpers
   pub inside : (k : ℕ) → k < l .helpers → getD helpers k 0 < l .racks

@@ -85,7 +85,7 @@ fn digit_point(l: Layout, i: u32, a: u32, t: u32) -> u16
 }
 
 // The points at place 0 of rack i to the power t, one for each group of a block.
-fn rack_powers(row: &mut [u16], l: Layout, h: u32, w: usize, first: usize, i: u32, t: u32)
+pub fn rack_powers(row: &mut [u16], l: Layout, h: u32, w: usize, first: usize, i: u32, t: u32)
     requires { ⌜ Block l w first × (h < l .racks) × (i < l .racks) × ¬ (i ≡ h) × (t ≤ trayLimit) × (w ≤ length (now row)) ⌝ }
     ensures { λ _. ⌜ RackPowers gf257 l h w first i t (now (row .exit)) ⌝ }
 {
@@ -201,7 +201,7 @@ fn unknown_row(
 }
 
 // The points of all unknowns.
-fn unknown_points(
+pub fn unknown_points(
     points: &mut [u16],
     l: Layout,
     h: u32,
@@ -302,10 +302,13 @@ fn solve_sides(
     );
 }
 
-// The inverse of a symbol; of zero, zero.
+// The inverse of a symbol; of zero, zero. One, which every sum of weight 0 is divided by, is its own.
 fn inverse(x: u16) -> u16
     ensures { λ r. ⌜ gf257 .coding .elem r ≡ gf257 .ops .inv (gf257 .coding .elem x) ⌝ }
 {
+    if x == 1 {
+        return 1;
+    }
     power(x, ORDER as u32 - 1)
 }
 

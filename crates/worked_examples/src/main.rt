@@ -14,6 +14,7 @@ fn cabinet(b: u32, u: u32, k: u32, d: u32) -> Layout {
         size: u,
         dimension: k,
         helpers: d,
+        errors: 0,
     }
 }
 

@@ -3,7 +3,7 @@
 use crate::filled::Filled;
 use crate::symbol::Symbol;
 use crate::version::Version;
-use gesarumbo::{Rack, Tested, Tray};
+use gesarumbo::{Layout, Rack, Tested, Tray};
 
 /// A call with one buffer: what it holds before and after, and how a version does it.
 pub struct Call<S: 'static> {
@@ -13,8 +13,27 @@ pub struct Call<S: 'static> {
     pub after: fn(&Filled<S>) -> Vec<S>,
 }
 
+/// The plain repair, and the two of a layout with E = 1: from right shares, and from one that is
+/// wrong.
+pub const REPAIR: &str = "repair";
+pub const CORRECTING: [&str; 2] = ["correct-right", "correct-wrong"];
+
 impl<S: Symbol> Call<S> {
-    pub const ALL: [Call<S>; 9] = [
+    /// The calls of a layout: which repairs there are goes by its E.
+    pub fn of(layout: Layout) -> impl Iterator<Item = Call<S>> {
+        let fits = move |call: &Call<S>| match layout.errors {
+            0 => !CORRECTING.contains(&call.name),
+            _ => call.name != REPAIR,
+        };
+        Call::ALL.into_iter().filter(fits)
+    }
+
+    /// The call of this name, if there is one.
+    pub fn named(name: &str) -> Option<Call<S>> {
+        Call::ALL.into_iter().find(|call| call.name == name)
+    }
+
+    pub const ALL: [Call<S>; 11] = [
         Call {
             name: "store",
             before: |f| cleared(f.codeword.len()),
@@ -63,12 +82,24 @@ impl<S: Symbol> Call<S> {
             |f| f.share_for(f.last_rack()),
         ),
         Call {
-            name: "repair",
+            name: REPAIR,
             before: |f| cleared(f.layers),
             run: |version, f, spare| {
                 let host = f.rack(f.host);
                 version.repair(f.layout, f.lost, &f.helpers, &f.shares, host, spare);
             },
+            after: |f| f.tray(f.lost).to_vec(),
+        },
+        Call {
+            name: CORRECTING[0],
+            before: |f| cleared(f.layers),
+            run: |version, f, spare| correct(version, f, &f.shares, None, spare),
+            after: |f| f.tray(f.lost).to_vec(),
+        },
+        Call {
+            name: CORRECTING[1],
+            before: |f| cleared(f.layers),
+            run: |version, f, spare| correct(version, f, &f.with_stale, Some(f.stale), spare),
             after: |f| f.tray(f.lost).to_vec(),
         },
     ];
@@ -97,6 +128,19 @@ fn cleared<S: Symbol>(length: usize) -> Vec<S> {
 fn share_for<S: Symbol>(version: &dyn Version<S>, filled: &Filled<S>, host: Rack, share: &mut [S]) {
     let helper = filled.helper_of(host);
     version.share(filled.layout, host, helper, filled.rack(helper), share);
+}
+
+/// The repair from shares of which one may be wrong, which names this rack.
+fn correct<S: Symbol>(
+    version: &dyn Version<S>,
+    filled: &Filled<S>,
+    shares: &[S],
+    rack: Option<Rack>,
+    spare: &mut [S],
+) {
+    let (layout, host) = (filled.layout, filled.rack(filled.host));
+    let named = version.correct(layout, filled.lost, &filled.helpers, shares, host, spare);
+    assert_eq!(named, rack);
 }
 
 /// As many trays as may be erased: the first ones.

@@ -17,6 +17,9 @@ pub struct Filled<S> {
     /// The d helpers, and their shares in this order.
     pub helpers: Vec<Rack>,
     pub shares: Vec<S>,
+    /// A helper, and the shares with its own wrong in every symbol.
+    pub stale: Rack,
+    pub with_stale: Vec<S>,
 }
 
 impl<S: Symbol> Filled<S> {
@@ -45,9 +48,22 @@ impl<S: Symbol> Filled<S> {
                 .take(helpers)
                 .collect(),
             shares: vec![S::default(); helpers * groups],
+            stale: host,
+            with_stale: vec![],
         };
         filled.collect_shares();
+        filled.spoil_a_share();
         filled
+    }
+
+    /// The helper in the middle sends a stale share.
+    fn spoil_a_share(&mut self) {
+        let place = self.helpers.len() / 2;
+        self.stale = self.helpers[place];
+        self.with_stale = self.shares.clone();
+        for symbol in &mut self.with_stale[place * self.groups..][..self.groups] {
+            *symbol = S::of((*symbol).into() + 1);
+        }
     }
 
     fn collect_shares(&mut self) {

@@ -11,7 +11,7 @@ mod table;
 mod timing;
 mod version;
 
-use calls::Call;
+use calls::{Call, CORRECTING, REPAIR};
 use filled::Filled;
 use gesarumbo::Layout;
 use options::{Options, What};
@@ -62,7 +62,7 @@ fn answer_in<S: Symbol>(asked: &Options) -> Result<(), String> {
         What::Instructions if asked.quick => return quick_count(layouts[0], &versions),
         What::Instructions => return print_instructions(layouts, &versions),
         What::Count(call, version) => {
-            let call = Call::ALL.into_iter().find(|known| known.name == call);
+            let call = Call::named(call);
             let version = versions.iter().find(|known| known.name() == version);
             let (Some(call), Some(version)) = (call, version) else {
                 return Err(options::USAGE.to_string());
@@ -87,11 +87,33 @@ fn print_times<S: Symbol>(layouts: &[Layout], versions: &[Box<dyn Version<S>>], 
     table::heading(versions, ", µs");
     for &layout in layouts {
         let filled = Filled::new(layout);
-        for call in &Call::ALL {
+        for call in Call::of(layout) {
             call.check(versions, &filled);
-            let times = timing::time(call, versions, &filled, rounds);
+            let times = timing::time(&call, versions, &filled, rounds);
             table::row(layout, call.name, &times);
         }
+    }
+    let wary = layouts.iter().filter(|layout| layout.errors > 0);
+    wary.for_each(|&layout| print_against_plain(layout, &versions[..1], rounds));
+}
+
+/// Times the library's correcting repairs against its plain repair of as many helpers and layers:
+/// that of a layout with two whole racks in k more and E = 0.
+fn print_against_plain<S: Symbol>(layout: Layout, library: &[Box<dyn Version<S>>], rounds: usize) {
+    let plain = Layout {
+        dimension: (layout.dimension / layout.size + 2) * layout.size,
+        errors: 0,
+        ..layout
+    };
+    let time = |layout, name| {
+        let call = Call::named(name).expect("there is such a call");
+        timing::time(&call, library, &Filled::new(layout), rounds).remove(0)
+    };
+    let repair = time(plain, REPAIR).least;
+    println!();
+    for name in CORRECTING {
+        let factor = time(layout, name).least / repair;
+        println!("The library's {name} of {layout} takes {factor:.2} times its repair of {plain}.");
     }
 }
 
@@ -103,8 +125,12 @@ fn print_instructions<S: Symbol>(
     println!();
     table::heading(versions, "");
     for &layout in layouts {
-        for call in &Call::ALL {
-            table::counts(layout, call.name, &instructions_of(layout, call, versions)?);
+        for call in Call::of(layout) {
+            table::counts(
+                layout,
+                call.name,
+                &instructions_of(layout, &call, versions)?,
+            );
         }
     }
     Ok(())
@@ -166,7 +192,7 @@ mod tests {
     fn all_versions_write_the_same<S: Symbol>() {
         for &layout in S::LAYOUTS {
             let filled = Filled::<S>::new(layout);
-            for call in &Call::ALL {
+            for call in Call::of(layout) {
                 call.check(&S::versions(), &filled);
             }
         }

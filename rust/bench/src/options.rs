@@ -13,8 +13,10 @@ usage: bench [--rounds N] [--quick]
        bench --count CALL VERSION [--rounds N]
            does one call N times and prints nothing
 each for one field only: --field 256 or --field 257
-and for one layout only, in the field of 256 if none is named: --layout B u k d
-calls: store, test, walk, recover-1, recover-r, share-first, share-middle, share-last, repair
+and for one layout only, in the field of 256 if none is named: --layout B u k d, and --errors 1
+where one share may be wrong
+calls: store, test, walk, recover-1, recover-r, share-first, share-middle, share-last, repair; with
+--errors 1 correct-right and correct-wrong in place of repair
 versions in the field of 256: library, log-exp, product-table
 versions in the field of 257: library, remainder, delayed";
 
@@ -23,6 +25,7 @@ pub const COUNT: &str = "--count";
 /// The word that asks for one field only.
 pub const FIELD: &str = "--field";
 const LAYOUT: &str = "--layout";
+const ERRORS: &str = "--errors";
 
 /// What is asked for.
 pub struct Options {
@@ -48,7 +51,7 @@ const COUNT_ROUNDS: usize = 10;
 
 /// Reads the words of the command line; none where they make no sense.
 pub fn read(mut words: impl Iterator<Item = String>) -> Option<Options> {
-    let (mut field, mut layout) = (None, None);
+    let (mut field, mut layout, mut errors) = (None, None, 0);
     let (mut rounds, mut quick, mut what) = (None, false, What::Times);
     while let Some(word) = words.next() {
         match word.as_str() {
@@ -58,6 +61,7 @@ pub fn read(mut words: impl Iterator<Item = String>) -> Option<Options> {
             COUNT => what = What::Count(words.next()?, words.next()?),
             FIELD => field = Some(words.next()?.parse().ok().filter(is_field)?),
             LAYOUT => layout = Some(read_layout(&mut words)?),
+            ERRORS => errors = words.next()?.parse().ok()?,
             _ => return None,
         }
     }
@@ -69,7 +73,7 @@ pub fn read(mut words: impl Iterator<Item = String>) -> Option<Options> {
     let one = layout.is_some() || matches!(what, What::Count(..));
     Some(Options {
         field: field.or(one.then_some(u8::COUNT)),
-        layout,
+        layout: layout.map(|layout| Layout { errors, ..layout }),
         rounds: rounds.unwrap_or(usual),
         quick,
         what,
@@ -81,7 +85,7 @@ fn is_field(number: &u32) -> bool {
 }
 
 /// The words that ask for one layout only.
-pub fn layout_words(layout: Layout) -> [String; 5] {
+pub fn layout_words(layout: Layout) -> [String; 7] {
     let [b, u, k, d] = [layout.racks, layout.size, layout.dimension, layout.helpers];
     [
         LAYOUT.to_string(),
@@ -89,6 +93,8 @@ pub fn layout_words(layout: Layout) -> [String; 5] {
         u.to_string(),
         k.to_string(),
         d.to_string(),
+        ERRORS.to_string(),
+        layout.errors.to_string(),
     ]
 }
 

@@ -23,7 +23,8 @@ pub trait Symbol: Copy + Default + PartialEq + Into<u64> + 'static {
     fn versions() -> [Box<dyn Version<Self>>; 3];
 }
 
-/// The layout that W9 names, the usual one, one with three digits, and one with racks of five.
+/// The layout that W9 names, the usual one, one with three digits, and one with racks of five; then
+/// two in which one share may be wrong.
 impl Symbol for u8 {
     const COUNT: u32 = 256;
     const LAYOUTS: &'static [Layout] = &[
@@ -31,6 +32,8 @@ impl Symbol for u8 {
         Layout::new(4, 3, 8, 3),
         Layout::new(5, 3, 4, 3),
         Layout::new(9, 5, 35, 8),
+        Layout::with_errors(10, 3, 18, 9, 1),
+        Layout::with_errors(6, 3, 5, 4, 1),
     ];
     const LIBRARY: &'static dyn Version<u8> = &Library;
 
@@ -57,13 +60,15 @@ impl Symbol for u8 {
     }
 }
 
-/// The layout that W10 names, and two with a thousand layers.
+/// The layout that W10 names, and two with a thousand layers; then one in which one share may be
+/// wrong.
 impl Symbol for u16 {
     const COUNT: u32 = 257;
     const LAYOUTS: &'static [Layout] = &[
         Layout::new(5, 4, 15, 4),
         Layout::new(10, 4, 32, 9),
         Layout::new(10, 2, 16, 9),
+        Layout::with_errors(10, 4, 24, 9, 1),
     ];
     const LIBRARY: &'static dyn Version<u16> = &Library;
 

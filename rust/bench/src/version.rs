@@ -22,6 +22,16 @@ pub trait Version<S> {
         host: &[S],
         spare: &mut [S],
     );
+    /// The same where one share may be wrong; gives the rack whose share is.
+    fn correct(
+        &self,
+        layout: Layout,
+        lost: Tray,
+        helpers: &[Rack],
+        shares: &[S],
+        host: &[S],
+        spare: &mut [S],
+    ) -> Option<Rack>;
 }
 
 /// The proved library.
@@ -78,6 +88,20 @@ macro_rules! library {
             ) {
                 $calls::repair(layout, lost, helpers, shares, host, spare, 0, u64::MAX)
                     .expect(RIGHT);
+            }
+
+            fn correct(
+                &self,
+                layout: Layout,
+                lost: Tray,
+                helpers: &[Rack],
+                shares: &[$symbol],
+                host: &[$symbol],
+                spare: &mut [$symbol],
+            ) -> Option<Rack> {
+                $calls::repair_correcting(layout, lost, helpers, shares, host, spare)
+                    .expect(RIGHT)
+                    .rack
             }
         }
     };

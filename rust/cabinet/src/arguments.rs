@@ -1,6 +1,7 @@
 //! The words of a command line: plain words, and settings that begin with `--`.
 
 use crate::failure::Failure;
+use crate::layout;
 use gesarumbo::Layout;
 use std::ffi::{OsStr, OsString};
 use std::ops::Range;
@@ -115,6 +116,30 @@ impl Arguments {
         })
     }
 
+    /// The numbers B, u, k, d of a layout, or B, u, k, d, E, and the plain words after them, exactly
+    /// as many as are named.
+    pub fn layout_and<const N: usize>(
+        &self,
+        names: [&str; N],
+    ) -> Result<(Layout, [&OsStr; N]), Failure> {
+        let rest = self.words.len().saturating_sub(N);
+        let (numbers, words) = self.words.split_at(rest);
+        let words: Vec<&OsStr> = words.iter().map(OsString::as_os_str).collect();
+        let named = ["B", "u", "k", "d", "E"].iter().zip(numbers);
+        let numbers: Result<Vec<u32>, _> = named.map(|(name, word)| number(name, word)).collect();
+        let layout = layout::of(&numbers?).filter(|_| rest <= 5);
+        match (layout, <[&OsStr; N]>::try_from(words)) {
+            (Some(layout), Ok(words)) => Ok((layout, words)),
+            _ => {
+                let wanted = [&["B", "u", "k", "d", "[E]"][..], &names]
+                    .concat()
+                    .join(" ");
+                let found = self.words.len();
+                Err(usage(format!("expected {wanted}, found {found} words")))
+            }
+        }
+    }
+
     /// The plain words, one or more of them.
     pub fn some_words(&self, name: &str) -> Result<&[OsString], Failure> {
         if self.words.is_empty() {
@@ -188,12 +213,6 @@ fn range(name: &str, word: &OsStr) -> Result<Range<u32>, Failure> {
         return Err(usage(format!("{name}: '{found}' is no run A..B")));
     };
     Ok(number(name, OsStr::new(start))?..number(name, OsStr::new(end))?)
-}
-
-/// A layout, by its numbers B, u, k, d.
-pub fn layout([b, u, k, d]: [&OsStr; 4]) -> Result<Layout, Failure> {
-    let [b, u] = [number("B", b)?, number("u", u)?];
-    Ok(Layout::new(b, u, number("k", k)?, number("d", d)?))
 }
 
 fn usage(words: String) -> Failure {

@@ -1,4 +1,4 @@
-//! The conditions of an admissible layout, one by one, for any four 32-bit numbers.
+//! The conditions of an admissible layout, one by one, for any five 32-bit numbers.
 
 use crate::field::Field;
 use crate::layout;
@@ -49,18 +49,20 @@ impl fmt::Display for Condition {
     }
 }
 
-/// All conditions of a layout in a field, in document 01's order.
-pub fn conditions(layout: Layout, field: Field) -> [Condition; 8] {
-    let [b, u, k, d] = layout::numbers(layout).map(u64::from);
+/// All conditions of a layout in a field, in document 01's order, with that of E before the two
+/// that go by it.
+pub fn conditions(layout: Layout, field: Field) -> [Condition; 9] {
+    let [b, u, k, d, e] = layout::numbers(layout).map(u64::from);
     [
         enough_racks(b),
         rack_size(u, field),
         few_trays(b, u),
         enough_data(u, k),
         enough_parity(b, u, k),
-        enough_helpers(u, k, d),
+        few_errors(e),
+        enough_helpers(u, k, d, e),
         other_racks(b, d),
-        few_layers(b, u, k, d),
+        few_layers(b, u, k, d, e),
     ]
 }
 
@@ -123,14 +125,32 @@ fn enough_parity(b: u64, u: u64, k: u64) -> Condition {
     }
 }
 
-fn enough_helpers(u: u64, k: u64, d: u64) -> Condition {
+fn few_errors(e: u64) -> Condition {
+    Condition {
+        rule: "E = 0 or 1",
+        meaning: "at most one wrong share",
+        here: format!("E = {e}"),
+        verdict: (e <= 1).into(),
+    }
+}
+
+/// An E above 1 has no meaning.
+fn enough_helpers(u: u64, k: u64, d: u64, e: u64) -> Condition {
+    let (rule, meaning) = match e {
+        0 => ("K <= d", "a helper for each whole rack in k"),
+        _ => ("K + 2 <= d", "two helpers more than whole racks in k"),
+    };
     let (here, verdict) = match k.checked_div(u) {
-        Some(whole) => (format!("K = {whole}, d = {d}"), (whole <= d).into()),
+        Some(whole) if e <= 1 => {
+            let enough = whole + 2 * e <= d;
+            (format!("K = {whole}, d = {d}"), enough.into())
+        }
+        Some(whole) => (format!("K = {whole}, d = {d}"), Verdict::Unknown),
         None => ("u = 0".to_string(), Verdict::Unknown),
     };
     Condition {
-        rule: "K <= d",
-        meaning: "a helper for each whole rack in k",
+        rule,
+        meaning,
         here,
         verdict,
     }
@@ -145,12 +165,12 @@ fn other_racks(b: u64, d: u64) -> Condition {
     }
 }
 
-/// L has a meaning only when K <= d.
-fn few_layers(b: u64, u: u64, k: u64, d: u64) -> Condition {
+/// L has a meaning only when E is 0 or 1 and there are helpers enough.
+fn few_layers(b: u64, u: u64, k: u64, d: u64, e: u64) -> Condition {
     let base = k
         .checked_div(u)
-        .and_then(|whole| (d + 1).checked_sub(whole));
-    let (here, verdict) = match base.filter(|base| *base > 0) {
+        .and_then(|whole| (d + 1).checked_sub(whole + 2 * e));
+    let (here, verdict) = match base.filter(|base| *base > 0 && e <= 1) {
         Some(base) => {
             let layers = power(base, b);
             let value = layers.map_or(String::new(), |layers| format!(" = {layers}"));
@@ -179,11 +199,11 @@ fn power(base: u64, exponent: u64) -> Option<u64> {
 mod tests {
     use super::{conditions, Verdict};
     use crate::field::Field;
-    use gesarumbo::Layout;
+    use crate::layout;
 
     /// Whether the conditions admit a layout, which the library must say too.
-    fn admitted([racks, size, dimension, helpers]: [u32; 4], field: Field) -> bool {
-        let layout = Layout::new(racks, size, dimension, helpers);
+    fn admitted(numbers: [u32; 5], field: Field) -> bool {
+        let layout = layout::of(&numbers).expect("it has five numbers");
         let conditions = conditions(layout, field);
         let admitted = conditions
             .iter()
@@ -193,14 +213,15 @@ mod tests {
         admitted
     }
 
-    /// How many layouts a field admits, of these rack sizes.
-    fn count(field: Field, sizes: &[u32]) -> u32 {
+    /// How many layouts a field admits, of these rack sizes and with this E.
+    fn count(field: Field, sizes: &[u32], errors: u32) -> u32 {
         let mut count = 0;
         for racks in 0..=62 {
             for &size in sizes {
                 for dimension in 0..=62 {
                     for helpers in 0..=62 {
-                        count += u32::from(admitted([racks, size, dimension, helpers], field));
+                        let numbers = [racks, size, dimension, helpers, errors];
+                        count += u32::from(admitted(numbers, field));
                     }
                 }
             }
@@ -210,10 +231,12 @@ mod tests {
 
     #[test]
     fn conditions_agree_with_the_library() {
-        let bytes = count(Field::Of256, &[0, 1, 2, 3, 5, 15, 16, 17]);
-        assert_eq!(bytes, 3344, "as many layouts are admissible");
-        let modulo_257 = count(Field::Of257, &[0, 1, 2, 3, 4, 8, 16, 17]);
-        assert_eq!(modulo_257, 3849, "as many layouts are admissible");
+        for (errors, of_256, of_257) in [(0, 3344, 3849), (1, 2703, 3146)] {
+            let bytes = count(Field::Of256, &[0, 1, 2, 3, 5, 15, 16, 17], errors);
+            assert_eq!(bytes, of_256, "as many layouts are admissible");
+            let modulo_257 = count(Field::Of257, &[0, 1, 2, 3, 4, 8, 16, 17], errors);
+            assert_eq!(modulo_257, of_257, "as many layouts are admissible");
+        }
     }
 
     /// Products and powers that wrap in 32 or 64 bits.
@@ -221,12 +244,16 @@ mod tests {
     fn wide_numbers_are_not_admitted() {
         let most = u32::MAX;
         let wide = [
-            [1_431_655_768, 3, 3, 1],
-            [32, 1, 1, 4],
-            [16, 1, 1, 4],
-            [4, 3, 8 + 256, 3],
-            [most, 1, 1, most - 1],
-            [most, most, most, most],
+            [1_431_655_768, 3, 3, 1, 0],
+            [32, 1, 1, 4, 0],
+            [32, 1, 1, 6, 1],
+            [16, 1, 1, 4, 0],
+            [4, 3, 8 + 256, 3, 0],
+            [4, 1, 1, 3, 2],
+            [4, 3, 8, 3, 256],
+            [4, 3, 8, 3, 1 << 31],
+            [most, 1, 1, most - 1, 0],
+            [most, most, most, most, most],
         ];
         for layout in wide {
             assert!(!admitted(layout, Field::Of256));
@@ -239,18 +266,23 @@ mod tests {
     #[test]
     fn conditions_fail_alone() {
         let alone = [
-            (1, [2, 2, 2, 1], Field::Of256),
-            (1, [2, 3, 3, 1], Field::Of257),
-            (2, [4, 17, 17, 1], Field::Of256),
-            (2, [4, 16, 16, 1], Field::Of257),
-            (3, [2, 1, 0, 0], Field::Of256),
-            (4, [2, 3, 4, 1], Field::Of256),
-            (4, [2, 4, 5, 1], Field::Of257),
-            (6, [2, 1, 1, 2], Field::Of257),
-            (7, [7, 1, 1, 4], Field::Of257),
+            (1, &[2, 2, 2, 1][..], Field::Of256),
+            (1, &[2, 3, 3, 1], Field::Of257),
+            (2, &[4, 17, 17, 1], Field::Of256),
+            (2, &[4, 16, 16, 1], Field::Of257),
+            (3, &[2, 1, 0, 0], Field::Of256),
+            (4, &[2, 3, 4, 1], Field::Of256),
+            (4, &[2, 4, 5, 1], Field::Of257),
+            (5, &[4, 1, 1, 3, 2], Field::Of257),
+            (6, &[4, 1, 1, 2, 1], Field::Of256),
+            (7, &[2, 1, 1, 2], Field::Of257),
+            (7, &[4, 1, 2, 4, 1], Field::Of257),
+            (8, &[7, 1, 1, 4], Field::Of257),
+            (8, &[13, 1, 9, 12, 1], Field::Of256),
         ];
-        for (place, [racks, size, dimension, helpers], field) in alone {
-            let conditions = conditions(Layout::new(racks, size, dimension, helpers), field);
+        for (place, numbers, field) in alone {
+            let layout = layout::of(numbers).expect("it has four or five numbers");
+            let conditions = conditions(layout, field);
             for (other, condition) in conditions.iter().enumerate() {
                 let fails = condition.verdict == Verdict::Fails;
                 assert_eq!(

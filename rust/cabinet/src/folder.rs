@@ -205,6 +205,28 @@ impl<S: Symbol> Folder<S> {
         tested.transpose().map_err(Failure::refused("test"))
     }
 
+    /// Whether the trays fit together with these symbols for one of them and without those of a
+    /// rack; nothing if another tray is missing too.
+    pub fn fits_without(
+        &self,
+        rack: Rack,
+        tray: Tray,
+        symbols: &[S],
+    ) -> Result<Option<bool>, Failure> {
+        let left_out: Vec<Tray> = self.numbers.trays_of(rack).collect();
+        let but = [&left_out[..], &[tray]].concat();
+        let Ok(mut codeword) = self.joined(self.numbers.all_trays(), &but) else {
+            return Ok(None);
+        };
+        let start = tray.number() as usize * self.numbers.layers;
+        codeword[start..][..symbols.len()].copy_from_slice(symbols);
+        match (S::CALLS.recover)(self.plate.layout, &mut codeword, &left_out) {
+            Ok(()) => Ok(Some(true)),
+            Err(Refusal::Survivors) => Ok(Some(false)),
+            Err(refusal) => Err(Failure::refused("test")(refusal)),
+        }
+    }
+
     /// What a helper rack sends for the repair of so many trays of a host rack, worked out from the
     /// helper's trays: as many shares, one after another.
     pub fn share(&self, count: u32, host: Rack, helper: Rack) -> Result<Vec<S>, Failure> {
@@ -213,9 +235,13 @@ impl<S: Symbol> Folder<S> {
         // Any count above a rack's trays is refused as one more than these is.
         let count = count.min(self.plate.layout.size + 1);
         let mut share = vec![S::default(); count as usize * self.numbers.groups()];
+        let layout = self.plate.layout;
         let mut call = |rack: &[S]| {
-            (S::CALLS.share_many)(self.plate.layout, count, host, helper, rack, &mut share)
-                .map_err(Failure::refused(&about))
+            let shared = match count {
+                1 => (S::CALLS.share)(layout, host, helper, rack, &mut share),
+                _ => (S::CALLS.share_many)(layout, count, host, helper, rack, &mut share),
+            };
+            shared.map_err(Failure::refused(&about))
         };
         // The library judges the numbers first, over zeros; then there is a rack to read.
         call(&vec![S::default(); self.numbers.size * self.numbers.layers])?;

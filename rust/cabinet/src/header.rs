@@ -18,9 +18,9 @@ impl Header {
 
     /// The layout, volume and field that the image claims; bytes, if its edition is of no field.
     pub fn plate(&self) -> Plate {
-        let [b, u, k, d] = [4, 5, 6, 7].map(|at| u32::from(self.0[at]));
+        let [b, u, k, d, e] = [4, 5, 6, 7, 9].map(|at| u32::from(self.0[at]));
         Plate {
-            layout: Layout::new(b, u, k, d),
+            layout: Layout::with_errors(b, u, k, d, e),
             volume: self.long(12),
             field: Field::with_edition(self.0[2]).unwrap_or_default(),
         }
@@ -30,7 +30,7 @@ impl Header {
     pub fn words(&self) -> Vec<String> {
         let Plate { layout, volume, .. } = self.plate();
         let short = u16::from_le_bytes([self.0[0], self.0[1]]);
-        let unused = &self.0[9..12];
+        let unused = &self.0[10..12];
         vec![
             format!("header    {short} bytes, edition {}", self.0[2]),
             format!("state     {}", self.state()),

@@ -1,4 +1,5 @@
-//! A layout and the row of its numbers B, u, k and d, as lists, name plates and images have it.
+//! A layout and the row of its numbers B, u, k, d and E, as lists, name plates and images have it.
+//! The fifth is left out where it is 0.
 
 use gesarumbo::Layout;
 
@@ -6,17 +7,28 @@ use gesarumbo::Layout;
 pub fn of(numbers: &[u32]) -> Option<Layout> {
     match *numbers {
         [b, u, k, d] => Some(Layout::new(b, u, k, d)),
+        [b, u, k, d, e] => Some(Layout::with_errors(b, u, k, d, e)),
         _ => None,
     }
 }
 
-/// A layout's numbers.
-pub fn numbers(layout: Layout) -> [u32; 4] {
+/// A layout's numbers, all of them.
+pub fn numbers(layout: Layout) -> [u32; 5] {
     let Layout {
         racks,
         size,
         dimension,
         helpers,
+        errors,
     } = layout;
-    [racks, size, dimension, helpers]
+    [racks, size, dimension, helpers, errors]
+}
+
+/// Its numbers as they are written.
+pub fn written(layout: Layout) -> Vec<u32> {
+    let mut numbers = numbers(layout).to_vec();
+    if layout.errors == 0 {
+        numbers.pop();
+    }
+    numbers
 }

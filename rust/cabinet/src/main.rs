@@ -8,6 +8,7 @@
 mod arguments;
 mod commands;
 mod conditions;
+mod correcting;
 mod dump;
 mod failure;
 mod field;

@@ -19,6 +19,8 @@ pub struct Numbers {
     pub dimension: usize,
     /// d, helper racks in a repair.
     pub helpers: usize,
+    /// E, helpers that may send a wrong share.
+    pub errors: usize,
     /// n, trays in all.
     pub trays: usize,
     /// K, whole racks in k.
@@ -58,8 +60,9 @@ impl Numbers {
         let size = layout.size as usize;
         let dimension = layout.dimension as usize;
         let helpers = layout.helpers as usize;
+        let errors = layout.errors as usize;
         let whole = dimension / size;
-        let base = helpers - whole + 1;
+        let base = helpers + 1 - whole - 2 * errors;
         Numbers {
             layout,
             field,
@@ -67,6 +70,7 @@ impl Numbers {
             size,
             dimension,
             helpers,
+            errors,
             trays: racks * size,
             whole,
             over: dimension % size,
@@ -91,6 +95,14 @@ impl Numbers {
     /// The layout in words.
     pub fn name(&self) -> String {
         self.field.named(self.layout)
+    }
+
+    /// Lost trays of one rack that a repair can do: u − v, or one where a share may be wrong.
+    pub fn most_lost(&self) -> usize {
+        match self.errors {
+            0 => self.size - self.over,
+            _ => 1,
+        }
     }
 
     /// L/s: groups in a repair, and symbols in a share.

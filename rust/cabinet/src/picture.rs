@@ -151,7 +151,7 @@ fn words(numbers: &Numbers) -> String {
         checks,
         ..
     } = *numbers;
-    let parts = [
+    let mut parts = vec![
         format!("{racks} racks of {}", count(size, "tray")),
         format!("{} a tray", count(layers, "symbol")),
         format!(
@@ -159,6 +159,9 @@ fn words(numbers: &Numbers) -> String {
             count(dimension, "tray")
         ),
     ];
+    if numbers.errors > 0 {
+        parts.push(format!("one of {} shares may be wrong", numbers.helpers));
+    }
     parts.join(", ")
 }
 
@@ -255,7 +258,8 @@ fn draw_traffic(numbers: &Numbers, top: usize, svg: &mut Svg) {
     for (place, (class, symbols, words)) in bars.into_iter().enumerate() {
         let y = top + 54 + place * 42;
         svg.text("small", [EDGE, y], words);
-        svg.rect(class, [EDGE, y + 6], [(full * symbols / plain).max(3), 14]);
+        let length = full * symbols / shares.max(plain);
+        svg.rect(class, [EDGE, y + 6], [length.max(3), 14]);
     }
     let figure = format!("{:.1} %", percent(shares, plain));
     svg.text("figure", [EDGE + INNER, top + 84], figure);

@@ -13,7 +13,7 @@ use std::path::Path;
 
 pub const LAYOUT: Setting = Setting::with(
     "--layout",
-    "B,u,k,d",
+    "B,u,k,d[,E]",
     "the layout expected, in place of that in cabinet.txt",
 );
 pub const VOLUME: Setting = Setting::with(
@@ -82,7 +82,8 @@ impl Plate {
 
     /// The name plate as a file of a folder.
     pub fn page(&self, folder: &Path) -> Page {
-        let numbers = layout::numbers(self.layout).map(|number| number.to_string());
+        let numbers = layout::written(self.layout);
+        let numbers: Vec<String> = numbers.iter().map(u32::to_string).collect();
         let field = match self.field {
             Field::Of256 => String::new(),
             other => format!("field {}\n", other.number()),
@@ -138,7 +139,7 @@ fn number_after(name: &str, line: &str) -> Option<u32> {
 
 /// The layout of a list in the settings.
 fn listed(list: Vec<u32>) -> Result<Layout, Failure> {
-    let words = || format!("{} needs the numbers B,u,k,d", LAYOUT.name);
+    let words = || format!("{} needs the numbers B,u,k,d or B,u,k,d,E", LAYOUT.name);
     layout::of(&list).ok_or_else(|| Failure::Usage(words()))
 }
 

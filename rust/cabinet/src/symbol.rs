@@ -2,7 +2,8 @@
 
 use crate::field::Field;
 use gesarumbo::{
-    field257, Layer, Layout, Measured, Rack, Refusal, Repaired, ScrubRecord, Scrubbed, Tested, Tray,
+    field257, Corrected, Layer, Layout, Measured, Rack, Refusal, Repaired, ScrubRecord, Scrubbed,
+    Tested, Tray,
 };
 use std::ops::Range;
 
@@ -42,9 +43,11 @@ pub struct Calls<S: 'static> {
     pub test: fn(Layout, &[S]) -> Answer<Tested>,
     pub store: fn(Layout, &[S], &mut [S]) -> Answer<()>,
     pub recover: fn(Layout, &mut [S], &[Tray]) -> Answer<()>,
+    pub share: fn(Layout, Rack, Rack, &[S], &mut [S]) -> Answer<()>,
     pub share_many: fn(Layout, u32, Rack, Rack, &[S], &mut [S]) -> Answer<()>,
     pub repair_many:
         fn(Layout, &[Tray], &[Rack], &[S], &[S], &mut [S], u64, u64) -> Answer<Repaired>,
+    pub repair_correcting: fn(Layout, Tray, &[Rack], &[S], &[S], &mut [S]) -> Answer<Corrected>,
     pub read_part:
         for<'a> fn(Layout, &'a [S], &'a [S], Tray, u64, Tray, Range<Layer>) -> Answer<&'a [S]>,
     pub write_image: fn(Layout, Tray, u32, u32, &[S], &mut [u8]) -> Answer<()>,
@@ -61,8 +64,10 @@ macro_rules! calls {
             test: $module::test,
             store: $module::store,
             recover: $module::recover,
+            share: $module::share,
             share_many: $module::share_many,
             repair_many: $module::repair_many,
+            repair_correcting: $module::repair_correcting,
             read_part: $module::read_part,
             write_image: $module::write_image,
             margin: $module::margin,

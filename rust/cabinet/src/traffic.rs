@@ -13,14 +13,23 @@ pub fn print(numbers: &Numbers, screen: &mut Screen) {
         ("plain recovery", plain, by_trays(numbers)),
     ];
     for (name, symbols, how) in bars {
-        let bar = bar(symbols as u64, plain as u64, 20);
+        let bar = bar(symbols as u64, shares.max(plain) as u64, 20);
         screen.line(format!(
             "  {name:<15} {bar} {:>7} = {how}",
             grouped(symbols)
         ));
     }
-    let saved = format!("{:.1} % saved", percent(plain - shares, plain));
-    let saved = screen.paint(Paint::Good, &saved);
+    let saved = match plain.checked_sub(shares) {
+        Some(saved) => {
+            let saved = format!("{:.1} % saved", percent(saved, plain));
+            screen.paint(Paint::Good, &saved)
+        }
+        // What it costs to be told which share is wrong.
+        None => {
+            let more = format!("{:.1} % more", percent(shares - plain, plain));
+            screen.paint(Paint::Warning, &more)
+        }
+    };
     let (crossed, part) = (count(shares, "symbol"), percent(shares, plain));
     screen.line(format!(
         "  {saved}: {crossed} in place of {}, or {part:.1} %",

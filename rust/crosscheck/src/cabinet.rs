@@ -9,20 +9,30 @@ use std::ops::Range;
 #[derive(Clone, Copy, Debug)]
 pub struct Cabinet {
     pub field: Field,
-    /// B, u, k, d.
-    pub layout: [u32; 4],
+    /// B, u, k, d, E.
+    pub layout: [u32; 5],
     pub numbers: Numbers,
 }
 
 impl Cabinet {
     /// The cabinet of a layout, none where it is not admissible in the field.
-    pub fn new(field: Field, layout: [u32; 4]) -> Option<Cabinet> {
+    pub fn new(field: Field, layout: [u32; 5]) -> Option<Cabinet> {
         let numbers = in_field!(field, Layout::<F>::from(layout).numbers()).ok()?;
         Some(Cabinet {
             field,
             layout,
             numbers,
         })
+    }
+
+    /// The cabinet of an admissible layout.
+    pub fn named(field: Field, layout: [u32; 5]) -> Cabinet {
+        Cabinet::new(field, layout).expect("an admissible layout")
+    }
+
+    /// Its number E.
+    pub fn errors(&self) -> u32 {
+        self.layout[4]
     }
 
     /// The inputs of a call over this layout: it, then the others.
@@ -59,9 +69,13 @@ impl Cabinet {
         (rack * size..(rack + 1) * size).collect()
     }
 
-    /// A number of lost trays that one repair can do.
+    /// A number of lost trays that one repair can do; with E = 1 that is one.
     pub fn lost_count(&self, random: &mut Random) -> usize {
-        1 + random.below(self.numbers.most_lost())
+        let most = match self.errors() {
+            0 => self.numbers.most_lost(),
+            _ => 1,
+        };
+        1 + random.below(most)
     }
 
     /// So many lost trays of some rack.

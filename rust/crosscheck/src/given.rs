@@ -2,11 +2,11 @@
 
 use crate::answer::Answer;
 use crate::cabinet::Cabinet;
-use crate::calls::repair::budget;
+use crate::calls::repair::{budget, SPARE};
 use crate::calls::{many_shares, Call};
 use crate::field::Symbol;
 use crate::inputs::{Inputs, Value};
-use crate::pair;
+use crate::pair::{self, for_one};
 use crate::random::Random;
 
 #[derive(Clone, Debug)]
@@ -108,6 +108,23 @@ impl Given {
     ) -> (&'static Call, Inputs) {
         let inputs = self.inputs(random, spare, first, budget);
         pair::REPAIR.either(random, inputs)
+    }
+
+    /// The inputs of the call that does all groups and allows for a wrong share; one
+    /// tray is lost.
+    pub fn all_groups(&self, random: &mut Random, spare: &[Symbol]) -> Inputs {
+        let mut inputs = for_one(&self.inputs(random, spare, 0, 0)).expect("one is lost");
+        inputs.values.truncate(SPARE + 1);
+        inputs
+    }
+
+    /// Changes the share of a helper, by its place in the list, in these groups.
+    pub fn spoil_share(&mut self, random: &mut Random, helper: usize, groups: &[u32]) {
+        let field = self.cabinet.field;
+        for &group in groups {
+            let symbol = &mut self.shares[helper * self.cabinet.numbers.groups + group as usize];
+            *symbol = field.add(*symbol, random.nonzero(field));
+        }
     }
 
     /// The inputs of some piece by the call for several lost trays.

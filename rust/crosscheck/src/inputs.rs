@@ -22,7 +22,7 @@ pub enum Kind {
 
 #[derive(Clone, Debug, PartialEq, Eq)]
 pub enum Value {
-    Layout([u32; 4]),
+    Layout([u32; 5]),
     Small(u32),
     Wide(u64),
     List(Vec<u32>),
@@ -40,10 +40,18 @@ pub struct Inputs {
 }
 
 impl Inputs {
-    pub fn layout(&self) -> [u32; 4] {
+    pub fn layout(&self) -> [u32; 5] {
         match self.values[0] {
             Value::Layout(numbers) => numbers,
             _ => panic!("the first input is not a layout"),
+        }
+    }
+
+    /// The layout's number E, 0 for a call that has no layout.
+    pub fn errors(&self) -> u32 {
+        match self.values.first() {
+            Some(Value::Layout([.., errors])) => *errors,
+            _ => 0,
         }
     }
 
@@ -137,11 +145,20 @@ fn parse_value(field: Field, kind: Kind, word: &str) -> Option<Value> {
     }
 }
 
-/// Four numbers; a fifth may be written where it is zero.
-fn parse_layout(word: &str) -> Option<[u32; 4]> {
-    let numbers = parse_numbers(word)?;
-    let (four, rest) = numbers.split_at_checked(4)?;
-    (rest.is_empty() || rest == [0]).then(|| four.try_into().ok())?
+/// Five numbers; the fifth is left out where it is zero.
+fn parse_layout(word: &str) -> Option<[u32; 5]> {
+    let mut numbers = parse_numbers(word)?;
+    if numbers.len() == 4 {
+        numbers.push(0);
+    }
+    numbers.try_into().ok()
+}
+
+fn layout_word(numbers: &[u32; 5]) -> String {
+    match numbers {
+        [four @ .., 0] => comma_list(four),
+        five => comma_list(five),
+    }
 }
 
 fn parse_list(word: &str) -> Option<Vec<u32>> {
@@ -185,7 +202,7 @@ impl Value {
     /// The value as the format writes it.
     fn word(&self, field: Field) -> String {
         match self {
-            Value::Layout(numbers) => comma_list(numbers),
+            Value::Layout(numbers) => layout_word(numbers),
             Value::Small(number) => number.to_string(),
             Value::Wide(number) => number.to_string(),
             Value::List(list) => format!("[{}]", comma_list(list)),
@@ -273,10 +290,19 @@ mod tests {
     }
 
     #[test]
-    fn a_fifth_layout_number_must_be_zero() {
+    fn a_fifth_layout_number_may_be_left_out() {
         let parse = |word| Inputs::parse(Field::Of256, &SHAPE[..1], &[word]);
-        assert_eq!(parse("4,3,8,3,0").unwrap().layout(), [4, 3, 8, 3]);
-        assert!(["4,3,8,3,1", "4,3,8", "4,3,8,3,0,0", "4,3,8,4294967296"]
+        for (word, layout) in [
+            ("4,3,8,3", [4, 3, 8, 3, 0]),
+            ("6,3,5,4,1", [6, 3, 5, 4, 1]),
+            ("6,3,5,4,4294967295", [6, 3, 5, 4, u32::MAX]),
+        ] {
+            let parsed = parse(word).unwrap();
+            assert_eq!((parsed.layout(), parsed.errors()), (layout, layout[4]));
+            assert_eq!(parsed.to_string(), word);
+        }
+        assert_eq!(parse("4,3,8,3,0").unwrap(), parse("4,3,8,3").unwrap());
+        assert!(["4,3,8", "4,3,8,3,0,0", "4,3,8,4294967296", "4,3,8,3,"]
             .iter()
             .all(|word| parse(word).is_err()));
     }

@@ -32,10 +32,10 @@ impl Pair {
     }
 
     /// The form for several, or at random the one for one tray where one is
-    /// lost.
+    /// lost; that one where E is 1 and the form for several is not to be had.
     pub fn either(&self, random: &mut Random, inputs: Inputs) -> (&'static Call, Inputs) {
         match for_one(&inputs) {
-            Some(same) if random.one_in(2) => (self.one, same),
+            Some(same) if inputs.errors() == 1 || random.one_in(2) => (self.one, same),
             _ => (self.many, inputs),
         }
     }
@@ -61,7 +61,7 @@ mod tests {
     fn one_of(second: Value) -> Option<Vec<Value>> {
         let inputs = Inputs {
             field: Field::Of256,
-            values: vec![Value::Layout([4, 3, 6, 3]), second, Value::Small(9)],
+            values: vec![Value::Layout([4, 3, 6, 3, 0]), second, Value::Small(9)],
         };
         for_one(&inputs).map(|same| same.values[1..].to_vec())
     }

@@ -4,6 +4,7 @@ use crate::answer::Answer;
 use crate::calls::{calls, groups, Call, Group, Looks};
 use crate::field::Field;
 use crate::inputs::Inputs;
+use crate::source::EITHER;
 use std::collections::BTreeMap;
 
 /// So many differences are written out, and so much of each case.
@@ -12,8 +13,9 @@ const SHOWN_LENGTH: usize = 2000;
 
 #[derive(Default)]
 pub struct Run {
-    /// Calls compared, by field, call and ground.
-    counts: BTreeMap<(Field, &'static str, u32), u64>,
+    /// Calls compared, by field, call, number E and ground; every E above 1 is
+    /// counted as 2.
+    counts: BTreeMap<(Field, &'static str, u32, u32), u64>,
     /// Numbers that are no symbols, by call and whether it looks at them.
     large: BTreeMap<(&'static str, bool), u64>,
     pub compared: u64,
@@ -49,7 +51,8 @@ impl Run {
 
     fn count(&mut self, call: &Call, inputs: &Inputs, answer: &Answer) {
         self.compared += 1;
-        let met = (inputs.field, call.name, answer.refusal);
+        let errors = inputs.errors().min(2);
+        let met = (inputs.field, call.name, errors, answer.refusal);
         *self.counts.entry(met).or_default() += 1;
     }
 
@@ -87,15 +90,18 @@ impl Run {
     }
 
     /// Requires that each call of each field and of the box was done and met each of
-    /// its grounds, and that numbers which are no symbols stood where it looks and
-    /// where it doesn't.
+    /// its grounds, with each E that it is for, and ground 1 with the other; and that
+    /// numbers which are no symbols stood where it looks and where it doesn't.
     pub fn require_grounds(&mut self) {
         for group in groups() {
             for call in &group.calls {
-                for ground in [0].into_iter().chain(call.grounds_in(group.field)) {
+                for (errors, ground) in due(&group, call) {
                     let (of, name) = (&group.name, call.name);
-                    let met = self.counts.contains_key(&(group.field, name, ground));
-                    self.require(met, || format!("{of}: {name} never answered {ground}"));
+                    let key = (group.field, name, errors, ground);
+                    let met = self.counts.contains_key(&key);
+                    self.require(met, || {
+                        format!("{of}: {name} with E = {errors} never answered {ground}")
+                    });
                 }
             }
         }
@@ -119,19 +125,35 @@ impl Run {
     }
 
     fn table_of(&self, group: &Group) -> String {
-        let field = group.field;
-        let line = |call: &&Call| {
-            let counts = self.counts.iter();
-            let own = counts.filter(|((of, name, _), _)| (*of, *name) == (field, call.name));
-            let cells = own.map(|((.., ground), count)| match ground {
-                0 => format!("done {count}"),
-                ground => format!("ground {ground} {count}"),
-            });
-            let cells: Vec<String> = cells.chain(self.large_cell(field, call)).collect();
-            format!("  {:<12} {}\n", call.name, cells.join(", "))
+        let lines = |call: &&'static Call| {
+            let of_errors = |errors| self.line(group.field, call, errors);
+            let large = self.large_cell(group.field, call);
+            let large = large.map(|cell| format!("  {:<12} {cell}\n", ""));
+            (0..=2)
+                .filter_map(of_errors)
+                .chain(large)
+                .collect::<String>()
         };
-        let lines: String = group.calls.iter().map(line).collect();
+        let lines: String = group.calls.iter().map(lines).collect();
         format!("{}\n{lines}", group.name)
+    }
+
+    /// What a call answered with this E, if it was put.
+    fn line(&self, field: Field, call: &Call, errors: u32) -> Option<String> {
+        let counts = self.counts.iter();
+        let own = counts
+            .filter(|((of, name, with, _), _)| (*of, *name, *with) == (field, call.name, errors));
+        let cells = own.map(|((.., ground), count)| match ground {
+            0 => format!("done {count}"),
+            ground => format!("ground {ground} {count}"),
+        });
+        let cells: Vec<String> = cells.collect();
+        let name = match errors {
+            0 => call.name,
+            1 => "  E = 1",
+            _ => "  E above 1",
+        };
+        (!cells.is_empty()).then(|| format!("  {name:<12} {}\n", cells.join(", ")))
     }
 
     /// How many numbers that are no symbols were put where the call looks, and
@@ -149,6 +171,21 @@ impl Run {
             self.compared, self.claims, self.differing
         )
     }
+}
+
+/// The answers that a call must have given, each with a number E.
+fn due(group: &Group, call: &Call) -> Vec<(u32, u32)> {
+    let grounds = call.grounds_in(group.field);
+    let of_errors = |&errors: &u32| {
+        let own = [0].iter().chain(&grounds);
+        own.map(|&ground| (errors, ground)).collect::<Vec<_>>()
+    };
+    let mut due: Vec<(u32, u32)> = call.errors.iter().flat_map(of_errors).collect();
+    if grounds.contains(&1) {
+        let others = EITHER.iter().filter(|errors| !call.errors.contains(errors));
+        due.extend(others.map(|&errors| (errors, 1)));
+    }
+    due
 }
 
 /// The beginning of a long text.

@@ -6,18 +6,24 @@ use crate::random::Random;
 
 /// Codewords up to this length are small.
 const SMALL: usize = 1024;
+/// With E = 1 and racks of one tray, up to this length, so that s is not always 2.
+const SMALL_OF_ONES: usize = 4400;
 /// One random case in so many is on a layout that isn't small.
 const LARGE_ONE_IN: usize = 300;
 
+/// The numbers E that layouts are drawn with.
+pub const EITHER: &[u32] = &[0, 1];
+
 pub struct Source {
     pub random: Random,
-    /// The layouts of each field.
-    pub layouts: [Layouts; 2],
+    /// The layouts of each field with each E.
+    pub layouts: Vec<Layouts>,
 }
 
-/// The admissible layouts of a field.
+/// The admissible layouts of a field with the same E.
 pub struct Layouts {
     pub field: Field,
+    pub errors: u32,
     /// Small layouts with one layer (s = 1).
     pub flat: Vec<Cabinet>,
     /// Small layouts with several layers.
@@ -28,37 +34,48 @@ pub struct Layouts {
 
 impl Source {
     pub fn new(seed: u64) -> Source {
+        let of_field = |field| {
+            EITHER
+                .iter()
+                .map(move |&errors| Layouts::new(field, errors))
+        };
         Source {
             random: Random::new(seed),
-            layouts: FIELDS.map(Layouts::new),
+            layouts: FIELDS.into_iter().flat_map(of_field).collect(),
         }
     }
 
-    /// The small layouts of both fields: all with several layers, and of those with
-    /// one layer one in so many.
-    pub fn small(&self, flat_step: usize) -> impl Iterator<Item = Cabinet> + '_ {
-        self.layouts.iter().flat_map(move |layouts| {
+    /// The small layouts of both fields with this E: all with several layers, and of
+    /// those with one layer one in so many.
+    pub fn small(&self, errors: u32, flat_step: usize) -> impl Iterator<Item = Cabinet> + '_ {
+        self.with_errors(errors).flat_map(move |layouts| {
             let flat = layouts.flat.iter().step_by(flat_step);
             flat.chain(&layouts.small).copied()
         })
     }
 
-    /// Of the large layouts of both fields, one in so many.
-    pub fn large(&self, step: usize) -> impl Iterator<Item = Cabinet> + '_ {
-        let layouts = self.layouts.iter();
+    /// Of the large layouts of both fields with this E, one in so many.
+    pub fn large(&self, errors: u32, step: usize) -> impl Iterator<Item = Cabinet> + '_ {
+        let layouts = self.with_errors(errors);
         layouts.flat_map(move |layouts| layouts.large.iter().step_by(step).copied())
     }
 
-    /// A random layout of either field.
-    pub fn cabinet(&mut self) -> Cabinet {
+    fn with_errors(&self, errors: u32) -> impl Iterator<Item = &Layouts> {
+        self.layouts.iter().filter(move |of| of.errors == errors)
+    }
+
+    /// A random layout of either field with one of these E.
+    pub fn cabinet(&mut self, errors: &[u32]) -> Cabinet {
         let field = self.random.pick(&FIELDS);
-        self.cabinet_of(field)
+        self.cabinet_of(field, errors)
     }
 
     /// A random layout: mostly small, and most of these with several layers.
-    pub fn cabinet_of(&mut self, field: Field) -> Cabinet {
-        let layouts = self.layouts.iter().find(|of| of.field == field);
-        let layouts = layouts.expect("both fields have layouts");
+    pub fn cabinet_of(&mut self, field: Field, errors: &[u32]) -> Cabinet {
+        let errors = self.random.pick(errors);
+        let mut of_field = self.layouts.iter().filter(|of| of.field == field);
+        let layouts = of_field.find(|of| of.errors == errors);
+        let layouts = layouts.expect("both fields have layouts with each E");
         let pool = if self.random.one_in(LARGE_ONE_IN) {
             &layouts.large
         } else if self.random.one_in(3) {
@@ -71,15 +88,15 @@ impl Source {
 }
 
 impl Layouts {
-    fn new(field: Field) -> Layouts {
-        let (small, large): (Vec<Cabinet>, Vec<Cabinet>) = admissible(field)
-            .into_iter()
-            .partition(|cabinet| cabinet.symbols() <= SMALL);
+    fn new(field: Field, errors: u32) -> Layouts {
+        let (small, large): (Vec<Cabinet>, Vec<Cabinet>) =
+            admissible(field, errors).into_iter().partition(is_small);
         let (flat, small) = small
             .into_iter()
             .partition(|cabinet| cabinet.numbers.layers == 1);
         Layouts {
             field,
+            errors,
             flat,
             small,
             large,
@@ -87,14 +104,23 @@ impl Layouts {
     }
 }
 
-/// Every admissible layout of a field, by the second program.
-fn admissible(field: Field) -> Vec<Cabinet> {
+fn is_small(cabinet: &Cabinet) -> bool {
+    let most = match (cabinet.errors(), cabinet.numbers.size) {
+        (1, 1) => SMALL_OF_ONES,
+        _ => SMALL,
+    };
+    cabinet.symbols() <= most
+}
+
+/// Every admissible layout of a field with this E, by the second program.
+fn admissible(field: Field, errors: u32) -> Vec<Cabinet> {
     let most = reference::layout::MOST_TRAYS as u32;
     let mut found = vec![];
     for size in field.rack_sizes() {
         for racks in 0..=most / size {
             for dimension in 0..=most {
-                let of_helpers = |helpers| Cabinet::new(field, [racks, size, dimension, helpers]);
+                let of_helpers =
+                    |helpers| Cabinet::new(field, [racks, size, dimension, helpers, errors]);
                 found.extend((0..=racks).filter_map(of_helpers));
             }
         }

@@ -5,7 +5,7 @@ use crate::cabinet::Cabinet;
 use crate::field::{Field, Symbol};
 use crate::inputs::{Inputs, Value};
 use crate::random::Random;
-use crate::source::Source;
+use crate::source::{Source, EITHER};
 
 /// Changes one input, or several where more grounds shall stand together.
 pub fn spoil(source: &mut Source, cabinet: &Cabinet, inputs: &mut Inputs, times: usize) {
@@ -25,22 +25,30 @@ pub fn spoil(source: &mut Source, cabinet: &Cabinet, inputs: &mut Inputs, times:
     }
 }
 
-fn spoil_layout(source: &mut Source, field: Field, layout: &mut [u32; 4]) {
+fn spoil_layout(source: &mut Source, field: Field, layout: &mut [u32; 5]) {
     let random = &mut source.random;
-    let at = random.below(4);
+    let at = random.below(5);
     match random.below(8) {
         0 | 1 => layout[at] = layout[at].wrapping_add(random.pick(&[1, u32::MAX])),
         2 => layout[at] = random.pick(&[0, u32::MAX]),
         3 => layout[at] = layout[at].wrapping_add(random.pick(&[1 << 8, 1 << 16, 1 << 31])),
         4 => *layout = wrapping_trays(random, field),
         5 => *layout = many_layers(random),
-        6 => *layout = [(); 4].map(|()| random.below(20) as u32),
-        _ => *layout = source.cabinet().layout,
+        6 => {
+            *layout = [(); 5].map(|()| random.below(20) as u32);
+            layout[4] = errors(random);
+        }
+        _ => *layout = source.cabinet(EITHER).layout,
     }
 }
 
+/// A number E, mostly one of the two that can be.
+fn errors(random: &mut Random) -> u32 {
+    random.pick(&[0, 0, 1, 1, 2])
+}
+
 /// A layout whose number of trays is small in 32 bits only.
-fn wrapping_trays(random: &mut Random, field: Field) -> [u32; 4] {
+fn wrapping_trays(random: &mut Random, field: Field) -> [u32; 5] {
     let size: u32 = random.pick(&field.rack_sizes()[1..]);
     let racks = match field {
         Field::Of256 => {
@@ -54,16 +62,18 @@ fn wrapping_trays(random: &mut Random, field: Field) -> [u32; 4] {
         Field::Of257 => (u32::MAX / size + 1) + 1 + random.below(3) as u32,
     };
     let dimension = size + random.below(4) as u32;
-    [racks, size, dimension, 1 + random.below(3) as u32]
+    let helpers = 1 + random.below(3) as u32;
+    [racks, size, dimension, helpers, errors(random)]
 }
 
 /// A layout whose number of layers may be small in 32 or 64 bits only.
-fn many_layers(random: &mut Random) -> [u32; 4] {
+fn many_layers(random: &mut Random) -> [u32; 5] {
     [
         random.pick(&[8, 11, 16, 22, 32, 48]),
         1,
         1,
         random.pick(&[2, 3, 4, 8, 16]),
+        errors(random),
     ]
 }
 
@@ -228,7 +238,7 @@ mod tests {
     #[test]
     fn a_spoilt_number_keeps_its_width() {
         let mut random = Random::new(10);
-        let cabinet = Cabinet::new(Field::Of256, [4, 3, 8, 3]).unwrap();
+        let cabinet = Cabinet::named(Field::Of256, [4, 3, 8, 3, 0]);
         let near = |random: &mut Random, bits| number_near(random, &cabinet, 5, bits);
         assert!((0..1000).all(|_| near(&mut random, 32) <= u64::from(u32::MAX)));
         assert!((0..1000).any(|_| near(&mut random, 64) == u64::MAX));

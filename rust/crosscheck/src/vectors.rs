@@ -9,7 +9,9 @@ use std::io;
 use std::path::{Path, PathBuf};
 
 /// The requests that have landed. Each new one is named here.
-pub const LANDED: &[&str] = &["W1", "W2", "W4", "W5", "W6", "W7", "W8", "W10", "W11"];
+pub const LANDED: &[&str] = &[
+    "W1", "W2", "W4", "W5", "W6", "W7", "W8", "W10", "W11", "W12",
+];
 
 /// Cases replayed and left out.
 #[derive(Debug, Default, PartialEq, Eq)]

@@ -35,7 +35,7 @@ fn named(field: Field, name: &str) -> &'static Call {
 #[test]
 fn a_call_goes_to_its_field() {
     let answer = |field| {
-        let values = vec![Value::Layout([2, 1, 1, 1]), Value::Symbols(vec![7, 250])];
+        let values = vec![Value::Layout([2, 1, 1, 1, 0]), Value::Symbols(vec![7, 250])];
         let inputs = Inputs { field, values };
         (named(field, "test").library)(&inputs).to_string()
     };
@@ -55,7 +55,7 @@ fn grounds_left_untried_are_seen() {
     let all = missing(&mut run);
     let inputs = Inputs {
         field: Field::Of257,
-        values: vec![Value::Layout([2, 1, 1, 1])],
+        values: vec![Value::Layout([2, 1, 1, 1, 0])],
     };
     run.compare(named(Field::Of257, "layout"), &inputs);
     assert_eq!(missing(&mut run), all - 1);
@@ -69,7 +69,7 @@ fn grounds_left_untried_are_seen() {
 fn each_call_is_of_one_group() {
     let names = groups().map(|group| group.calls.iter().map(|call| call.name).collect());
     let [of_256, of_257, of_box]: [Vec<&str>; 3] = names;
-    assert_eq!([of_256.len(), of_257.len(), of_box.len()], [16, 16, 5]);
+    assert_eq!([of_256.len(), of_257.len(), of_box.len()], [17, 17, 5]);
     let shared = |name: &&str| of_256.contains(name) || of_257.contains(name);
     assert!(!of_box.iter().any(shared));
 }
@@ -86,7 +86,7 @@ fn a_wrong_answer_is_seen() {
         };
         let inputs = Inputs {
             field,
-            values: vec![Value::Layout([2, 1, 1, 1]), Value::Bytes(vec![1, 1])],
+            values: vec![Value::Layout([2, 1, 1, 1, 0]), Value::Bytes(vec![1, 1])],
         };
         let mut run = Run::default();
         run.compare(margin, &inputs);

@@ -34,6 +34,15 @@ pub struct Repaired {
     pub remaining: u64,
 }
 
+/// The answer to a repair with a share that may be wrong; `rack` is the layout's number of racks
+/// where none was.
+#[repr(C)]
+pub struct Corrected {
+    pub refusal: u32,
+    pub rack: Rack,
+    pub crossed: u64,
+}
+
 /// The answer to a read while repairing: where the part lies, `source` being 1 for the codeword and
 /// 2 for the spare.
 #[repr(C)]
@@ -176,6 +185,19 @@ macro_rules! calls {
                     first: u64,
                     budget: u64,
                 ) -> Repaired;
+                #[link_name = concat!($prefix, "_repair_correcting")]
+                pub fn repair_correcting(
+                    layout: Layout,
+                    lost: Tray,
+                    helpers: *const Rack,
+                    count: usize,
+                    shares: *const $symbol,
+                    shares_length: usize,
+                    host: *const $symbol,
+                    host_length: usize,
+                    spare: *mut $symbol,
+                    spare_length: usize,
+                ) -> Corrected;
                 #[link_name = concat!($prefix, "_read_part")]
                 pub fn read_part(
                     layout: Layout,
@@ -397,6 +419,31 @@ macro_rules! calls {
                     spare.len(),
                     first,
                     budget,
+                )
+            }
+        }
+
+        pub fn repair_correcting(
+            layout: Layout,
+            lost: Tray,
+            helpers: &[Rack],
+            shares: &[$symbol],
+            host: &[$symbol],
+            spare: &mut [$symbol],
+        ) -> Corrected {
+            // SAFETY: all slices are lent for the call, the written one alone; a rack is a 32-bit number.
+            unsafe {
+                c::repair_correcting(
+                    layout,
+                    lost,
+                    helpers.as_ptr(),
+                    helpers.len(),
+                    shares.as_ptr(),
+                    shares.len(),
+                    host.as_ptr(),
+                    host.len(),
+                    spare.as_mut_ptr(),
+                    spare.len(),
                 )
             }
         }

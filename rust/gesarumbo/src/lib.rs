@@ -4,11 +4,13 @@
 //! k trays give back the rest. When one tray is lost, d other racks each work out a share of L/s
 //! symbols from their own trays, and the tray comes back from these shares and the sound trays of
 //! its own rack. So d·L/s symbols cross between the racks, the published least. Up to u − v lost
-//! trays of one rack, v = k mod u, are repaired together, and as many symbols cross for each.
+//! trays of one rack, v = k mod u, are repaired together, and as many symbols cross for each. In a
+//! layout with E = 1 one helper's share may be wrong: the tray comes back exactly all the same, and
+//! the rack is named.
 //!
-//! Here K = k/u (whole), s = d − K + 1, and L = s to the power B. A tray has L symbols of one byte,
-//! in layers 0 to L − 1, and a layer has r = n − k parity checks. A codeword lies tray after tray,
-//! symbol j of tray x at x·L + j, so that a rack's trays lie side by side.
+//! Here K = k/u (whole), s = d − K + 1 − 2·E, and L = s to the power B. A tray has L symbols of one
+//! byte, in layers 0 to L − 1, and a layer has r = n − k parity checks. A codeword lies tray after
+//! tray, symbol j of tray x at x·L + j, so that a rack's trays lie side by side.
 //!
 //! ```
 //! use gesarumbo::{repair, share, store, Layout, Rack, Tray};
@@ -50,6 +52,7 @@
 #[allow(unsafe_code)]
 mod ffi;
 
+mod correcting;
 pub mod field257;
 mod image;
 mod kinds;
@@ -67,6 +70,7 @@ mod state;
 mod store;
 mod test;
 
+pub use correcting::{repair_correcting, Corrected};
 pub use image::{read_image, write_image, Image};
 pub use kinds::{Layer, Rack, Tray};
 pub use layout::Layout;

@@ -7,19 +7,20 @@ use crate::{Layer, Layout, Refusal, Tray};
 
 /// Reads a run of layers of a tray while the tray `lost` is being repaired in `spare`.
 ///
-/// `codeword` has n·L bytes, of which those of the lost tray are not looked at; `spare` has L bytes,
-/// and so many `groups` of the lost tray's rack are done in it, from group 0 on. The run is
+/// `codeword` has n·L bytes, of which those of the lost tray are not looked at; `spare` has L
+/// bytes, and so many `groups` of the lost tray's rack are done in it, from group 0 on. The run is
 /// `layers.start` up to `layers.end`, itself left out.
 ///
 /// Done: the part, where it lies: in the codeword for a tray that is not lost, in the spare for the
 /// lost one. An empty run is an empty part. If the spare was written by pieces of a repair of this
-/// tray alone, from group 0 on and at least as far as `groups` says, from shares and sound trays of a codeword to
-/// which the other trays of `codeword` belong, the part is that codeword's. Nothing is written.
+/// tray alone, from group 0 on and at least as far as `groups` says, from shares and sound trays of
+/// a codeword to which the other trays of `codeword` belong, the part is that codeword's. Nothing
+/// is written.
 ///
-/// Refused, in this order: [`Refusal::Layout`]; [`Refusal::Length`] where `codeword` has not n·L
-/// bytes or `spare` not L; [`Refusal::Number`] where a tray is not below n, `groups` is above L/s, or
-/// the run ends above L or before it begins; [`Refusal::NotRepaired`] where a layer asked for of the
-/// lost tray is not in a group that is done.
+/// Refused, in this order: [`Refusal::Layout`], also where E is 1; [`Refusal::Length`] where
+/// `codeword` has not n·L bytes or `spare` not L; [`Refusal::Number`] where a tray is not below n,
+/// `groups` is above L/s, or the run ends above L or before it begins; [`Refusal::NotRepaired`]
+/// where a layer asked for of the lost tray is not in a group that is done.
 ///
 /// ```
 /// use gesarumbo::{read_part, repair, Layer, Layout, Rack, Refusal, Tray};

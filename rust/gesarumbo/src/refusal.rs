@@ -19,7 +19,7 @@ use std::{error, fmt};
 #[repr(u32)]
 #[derive(Clone, Copy, Debug, PartialEq, Eq, PartialOrd, Ord, Hash)]
 pub enum Refusal {
-    /// The layout is not admissible.
+    /// The layout is not admissible, or its number E is not the one that the call is for.
     Layout = 1,
     /// A lent buffer is not exactly the length its rule gives: symbols, shares, spare, states or an
     /// image being written.
@@ -50,11 +50,16 @@ pub enum Refusal {
     LostCount = 12,
     /// A layer asked for of the lost tray is not in a group that is done.
     NotRepaired = 13,
+    /// The shares do not meet the checks, and no change of one helper's share makes them.
+    Shares = 14,
 }
 
 /// Every ground with its words, in the order of their numbers.
-const GROUNDS: [(Refusal, &str); 13] = [
-    (Refusal::Layout, "the layout is not admissible"),
+const GROUNDS: [(Refusal, &str); 14] = [
+    (
+        Refusal::Layout,
+        "the layout is not admissible, or not one that the call is for",
+    ),
     (
         Refusal::Length,
         "a buffer is not exactly the length its rule gives",
@@ -85,6 +90,10 @@ const GROUNDS: [(Refusal, &str); 13] = [
     (
         Refusal::NotRepaired,
         "a layer asked for is not yet repaired in the spare",
+    ),
+    (
+        Refusal::Shares,
+        "more than one helper's share is wrong: no change of one makes them agree",
     ),
 ];
 
@@ -143,7 +152,7 @@ mod tests {
 
     #[test]
     fn no_other_number_is_a_ground() {
-        for number in [0, 14, 255, 256 + 1, u32::MAX] {
+        for number in [0, 15, 255, 256 + 1, u32::MAX] {
             assert_eq!(Refusal::from_number(number), None);
         }
     }

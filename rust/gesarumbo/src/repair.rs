@@ -30,11 +30,11 @@ pub struct Repaired {
 /// last done one ended, and refused calls may come between: the layers of all groups done are then
 /// as one uncut repair writes them, and the rest of the spare is as it was.
 ///
-/// Refused, in this order: [`Refusal::Layout`]; [`Refusal::Length`] where `shares` has not d·L/s
-/// bytes, `host` not u·L or `spare` not L; [`Refusal::Number`] where the tray is not below n or a
-/// helper not below B; [`Refusal::Order`] where the helpers do not rise; [`Refusal::Count`] where
-/// they are not d; [`Refusal::Host`] where the lost tray's rack is one of them;
-/// [`Refusal::FirstGroup`] where the first group is above L/s.
+/// Refused, in this order: [`Refusal::Layout`], also where E is 1; [`Refusal::Length`] where
+/// `shares` has not d·L/s bytes, `host` not u·L or `spare` not L; [`Refusal::Number`] where the
+/// tray is not below n or a helper not below B; [`Refusal::Order`] where the helpers do not rise;
+/// [`Refusal::Count`] where they are not d; [`Refusal::Host`] where the lost tray's rack is one of
+/// them; [`Refusal::FirstGroup`] where the first group is above L/s.
 ///
 /// ```
 /// use gesarumbo::{repair, Layout, Rack, Refusal, Repaired, Tray};
@@ -82,12 +82,12 @@ pub fn repair(
 /// by the checks summed over each group. A budget of 0, or a first group of L/s, does nothing.
 /// Refused: `spare` is as it was. It may be cut into pieces as the repair of one tray may.
 ///
-/// Refused, in this order: [`Refusal::Layout`]; [`Refusal::Length`] where `shares` has not e·d·L/s
-/// bytes, `host` not u·L or `spare` not e·L; [`Refusal::Number`] where a tray is not below n or
-/// outside the first one's rack, or a helper not below B; [`Refusal::Order`] where either list does
-/// not rise; [`Refusal::Count`] where the helpers are not d; [`Refusal::LostCount`] where e is not
-/// 1 to u − v, with v = k mod u; [`Refusal::Host`] where the lost trays' rack is a helper;
-/// [`Refusal::FirstGroup`] where the first group is above L/s.
+/// Refused, in this order: [`Refusal::Layout`], also where E is 1; [`Refusal::Length`] where
+/// `shares` has not e·d·L/s bytes, `host` not u·L or `spare` not e·L; [`Refusal::Number`] where a
+/// tray is not below n or outside the first one's rack, or a helper not below B; [`Refusal::Order`]
+/// where either list does not rise; [`Refusal::Count`] where the helpers are not d;
+/// [`Refusal::LostCount`] where e is not 1 to u − v, with v = k mod u; [`Refusal::Host`] where the
+/// lost trays' rack is a helper; [`Refusal::FirstGroup`] where the first group is above L/s.
 ///
 /// ```
 /// use gesarumbo::{repair_many, share_many, store, Layout, Rack, Refusal, Repaired, Tray};

@@ -40,13 +40,13 @@ pub fn share(
 /// Adds one tray's part to the share of its rack for the repair of a tray of the host rack.
 ///
 /// `symbols` is the L bytes of the tray. Done: the L/s bytes of `share` hold what they held, plus
-/// this tray's part: symbol p of the part is the exclusive or of the tray's symbols over the s layers
-/// of group p (see [`share()`]). Clear the share first and feed each of the rack's u trays once, in any
-/// order: it then holds what [`share()`] gives for the rack. A tray fed twice cancels. Refused: `share`
-/// is as it was.
+/// this tray's part: symbol p of the part is the exclusive or of the tray's symbols over the s
+/// layers of group p (see [`share()`]). Clear the share first and feed each of the rack's u trays
+/// once, in any order: it then holds what [`share()`] gives for the rack. A tray fed twice cancels.
+/// Refused: `share` is as it was.
 ///
-/// Refused, in this order: [`Refusal::Layout`]; [`Refusal::Length`] where `symbols` has not L bytes or
-/// `share` not L/s; [`Refusal::Number`] where the rack is not below B or the tray not below n;
+/// Refused, in this order: [`Refusal::Layout`]; [`Refusal::Length`] where `symbols` has not L bytes
+/// or `share` not L/s; [`Refusal::Number`] where the rack is not below B or the tray not below n;
 /// [`Refusal::Host`] where the tray stands in the host rack.
 ///
 /// ```
@@ -81,9 +81,10 @@ pub fn share_add(
 /// by the root to the power g·m·(255/u); so with e = 1 the bytes are those of [`share()`]. Refused:
 /// `share` is as it was.
 ///
-/// Refused, in this order: [`Refusal::Layout`]; [`Refusal::Length`] where `rack` has not u·L bytes
-/// or `share` not e·L/s; [`Refusal::Number`] where a rack is not below B; [`Refusal::LostCount`]
-/// where e is not 1 to u − v, with v = k mod u; [`Refusal::Host`] where the two racks are the same.
+/// Refused, in this order: [`Refusal::Layout`], also where E is 1; [`Refusal::Length`] where `rack`
+/// has not u·L bytes or `share` not e·L/s; [`Refusal::Number`] where a rack is not below B;
+/// [`Refusal::LostCount`] where e is not 1 to u − v, with v = k mod u; [`Refusal::Host`] where the
+/// two racks are the same.
 ///
 /// ```
 /// use gesarumbo::{share_many, Layout, Rack, Refusal};
@@ -122,10 +123,10 @@ pub fn share_many(
 /// u trays once, in any order: they then hold what [`share_many`] gives for the rack. A tray fed
 /// twice cancels. Refused: `share` is as it was.
 ///
-/// Refused, in this order: [`Refusal::Layout`]; [`Refusal::Length`] where `symbols` has not L bytes
-/// or `share` not e·L/s; [`Refusal::Number`] where the rack is not below B or the tray not below n;
-/// [`Refusal::LostCount`] where e is not 1 to u − v, with v = k mod u; [`Refusal::Host`] where the
-/// tray stands in the host rack.
+/// Refused, in this order: [`Refusal::Layout`], also where E is 1; [`Refusal::Length`] where
+/// `symbols` has not L bytes or `share` not e·L/s; [`Refusal::Number`] where the rack is not below
+/// B or the tray not below n; [`Refusal::LostCount`] where e is not 1 to u − v, with v = k mod u;
+/// [`Refusal::Host`] where the tray stands in the host rack.
 ///
 /// ```
 /// use gesarumbo::{share_add_many, share_many, Layout, Rack, Refusal, Tray};

@@ -53,6 +53,7 @@ mod field256 {
     const BAD: Layout = Layout::new(4, 4, 8, 3);
     const GOOD: Layout = Layout::new(4, U, K, 3); // 12 trays, 16 layers, 4 checks, 8 groups
     const LESS: Layout = Layout::new(4, 3, 7, 3); // the same, but 5 checks: two of a rack may be lost
+    const WARY: Layout = Layout::with_errors(5, U, 4, 4, 1); // 15 trays, 32 layers, 16 groups
 
     fn read_tray(layout: Layout, volume: u32, image: &[u8]) -> Result<(Tray, Vec<u8>), Refusal> {
         let read = read_image(layout, volume, image);
@@ -64,9 +65,11 @@ mod field256 {
 
 mod field257 {
     use super::*;
-    use gesarumbo::field257::{margin, read_image, read_part, recover, repair, repair_many, scrub};
-    use gesarumbo::field257::{scrub_reset, share, share_add, share_add_many, share_many, store};
-    use gesarumbo::field257::{test, write_image};
+    use gesarumbo::field257::{margin, measure, read_image, read_part, recover, repair};
+    use gesarumbo::field257::{
+        repair_correcting, repair_many, scrub, scrub_reset, share, share_add,
+    };
+    use gesarumbo::field257::{share_add_many, share_many, store, test, write_image};
 
     type Symbol = u16;
     const BYTES: usize = 2;
@@ -76,6 +79,7 @@ mod field257 {
     const BAD: Layout = Layout::new(4, 3, 8, 3);
     const GOOD: Layout = Layout::new(4, U, K, 3); // 16 trays, 16 layers, 5 checks, 8 groups
     const LESS: Layout = Layout::new(4, 4, 10, 3); // the same, but 6 checks: two of a rack may be lost
+    const WARY: Layout = Layout::with_errors(5, U, 4, 4, 1); // 20 trays, 32 layers, 16 groups
 
     fn read_tray(layout: Layout, volume: u32, image: &[u8]) -> Result<(Tray, Vec<u16>), Refusal> {
         let mut symbols = vec![9999; 16];

@@ -22,6 +22,7 @@ const SIZE: Entry = Entry { at: 5, bytes: 1 };
 const DIMENSION: Entry = Entry { at: 6, bytes: 1 };
 const HELPERS: Entry = Entry { at: 7, bytes: 1 };
 const TRAY: Entry = Entry { at: 8, bytes: 1 };
+const ERRORS: Entry = Entry { at: 9, bytes: 1 };
 const VOLUME: Entry = Entry { at: 12, bytes: 4 };
 const COUNT: Entry = Entry { at: 20, bytes: 4 };
 
@@ -31,7 +32,7 @@ fn fixed<F: Field>() -> [(Entry, u32); 4] {
     [
         (Entry { at: 0, bytes: 2 }, HEADER as u32),
         (Entry { at: 2, bytes: 1 }, F::EDITION),
-        (Entry { at: 9, bytes: 3 }, 0),
+        (Entry { at: 10, bytes: 2 }, 0),
         (Entry { at: 16, bytes: 4 }, HEADER as u32),
     ]
 }
@@ -84,6 +85,7 @@ pub fn write_image<F: Field>(
     DIMENSION.write(&mut written, layout.dimension);
     HELPERS.write(&mut written, layout.helpers);
     TRAY.write(&mut written, tray.0);
+    ERRORS.write(&mut written, layout.errors);
     VOLUME.write(&mut written, volume);
     COUNT.write(&mut written, numbers.layers as u32);
     for &symbol in symbols {
@@ -155,7 +157,7 @@ fn is_volume(volume: u32) -> bool {
 
 /// The layout an image names.
 fn own_layout<F>(image: &[u8]) -> Layout<F> {
-    Layout::from([RACKS, SIZE, DIMENSION, HELPERS].map(|entry| entry.read(image)))
+    Layout::from([RACKS, SIZE, DIMENSION, HELPERS, ERRORS].map(|entry| entry.read(image)))
 }
 
 /// The numbers after the header, low byte first, none where one is no symbol.

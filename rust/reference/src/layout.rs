@@ -16,13 +16,14 @@ pub struct Tray(pub u32);
 #[derive(Clone, Copy, Debug, PartialEq, Eq, PartialOrd, Ord)]
 pub struct Layer(pub u32);
 
-/// Document 01's B, u, k, d, any values, of a cabinet of a field.
+/// Document 01's B, u, k, d and W12's E, any values, of a cabinet of a field.
 #[derive(Clone, Copy, Debug, PartialEq, Eq)]
 pub struct Layout<F> {
     pub racks: u32,
     pub size: u32,
     pub dimension: u32,
     pub helpers: u32,
+    pub errors: u32,
     field: PhantomData<F>,
 }
 
@@ -59,15 +60,23 @@ pub struct Measured {
     pub traffic: u32,
 }
 
-impl<F> From<[u32; 4]> for Layout<F> {
-    fn from([racks, size, dimension, helpers]: [u32; 4]) -> Layout<F> {
+impl<F> From<[u32; 5]> for Layout<F> {
+    fn from([racks, size, dimension, helpers, errors]: [u32; 5]) -> Layout<F> {
         Layout {
             racks,
             size,
             dimension,
             helpers,
+            errors,
             field: PhantomData,
         }
+    }
+}
+
+/// Document 01's layouts, which have E = 0.
+impl<F> From<[u32; 4]> for Layout<F> {
+    fn from([racks, size, dimension, helpers]: [u32; 4]) -> Layout<F> {
+        Layout::from([racks, size, dimension, helpers, 0])
     }
 }
 
@@ -77,19 +86,33 @@ impl<F: Field> Layout<F> {
         self.admitted().ok_or(Refusal::Layout)
     }
 
-    /// Document 01's conditions, and W10's. Products and powers are taken in a
-    /// width in which they cannot wrap, each only where the conditions before it
-    /// hold. That n·s is at most the order never decides.
+    /// The same for a call that is for layouts with this E only.
+    pub fn numbers_with(self, errors: u32) -> Result<Numbers, Refusal> {
+        let admitted = self.admitted().filter(|_| self.errors == errors);
+        admitted.ok_or(Refusal::Layout)
+    }
+
+    /// Document 01's conditions, W10's and W12's. Products and powers are taken
+    /// in a width in which they cannot wrap, each only where the conditions
+    /// before it hold. That n·s is at most the order never decides.
     fn admitted(self) -> Option<Numbers> {
-        let [racks, size, dimension, helpers] =
-            [self.racks, self.size, self.dimension, self.helpers].map(u64::from);
+        let [racks, size, dimension, helpers, errors] = [
+            self.racks,
+            self.size,
+            self.dimension,
+            self.helpers,
+            self.errors,
+        ]
+        .map(u64::from);
         let must = |condition: bool| condition.then_some(());
         must(racks >= 2 && F::RACK_SIZES.contains(&self.size))?;
         let trays = racks * size;
         must(trays <= MOST_TRAYS && size <= dimension && size + dimension <= trays)?;
         let whole = dimension / size;
-        must(whole <= helpers && helpers < racks)?;
-        let base = helpers - whole + 1;
+        // With E = 0, K ≤ d and s = d − K + 1; with E = 1, K + 2 ≤ d and
+        // s = d − 2 − K + 1.
+        must(errors <= 1 && whole + 2 * errors <= helpers && helpers < racks)?;
+        let base = helpers - 2 * errors - whole + 1;
         let layers = base
             .checked_pow(self.racks)
             .filter(|&layers| layers <= MOST_LAYERS)?;

@@ -12,6 +12,7 @@
 #![forbid(unsafe_code)]
 
 pub mod checks;
+pub mod correcting;
 pub mod elimination;
 pub mod field;
 pub mod field256;
@@ -29,6 +30,7 @@ pub mod sixteen;
 pub mod store;
 pub mod test;
 
+pub use correcting::{repair_correcting, Corrected};
 pub use field::Field;
 pub use field256::Field256;
 pub use field257::Field257;

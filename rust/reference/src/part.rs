@@ -29,7 +29,7 @@ pub struct Asked {
 }
 
 /// The part asked for, while groups 0 .. `groups` of the lost tray's repair
-/// stand in the spare. No symbol is looked at.
+/// stand in the spare. No symbol is looked at. E is 0.
 pub fn read_part<F: Field>(
     layout: Layout<F>,
     codeword: &[F::Symbol],
@@ -38,7 +38,7 @@ pub fn read_part<F: Field>(
     groups: u64,
     asked: Asked,
 ) -> Result<Part<F::Symbol>, Refusal> {
-    let numbers = layout.numbers()?;
+    let numbers = layout.numbers_with(0)?;
     let wrong_length =
         codeword.len() != numbers.trays * numbers.layers || spare.len() != numbers.layers;
     let outside = !numbers.has_tray(lost)

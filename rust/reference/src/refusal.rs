@@ -17,6 +17,7 @@ pub enum Refusal {
     /// Tried right after `Count`.
     LostCount = 12,
     NotRepaired = 13,
+    Shares = 14,
 }
 
 impl Refusal {

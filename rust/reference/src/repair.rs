@@ -1,4 +1,5 @@
-//! Repairing lost trays of one rack from shares, group by group.
+//! Repairing lost trays of one rack from shares, group by group: the calls for
+//! layouts with E = 0, and what they have in common with the one for E = 1.
 
 use crate::checks::Checks;
 use crate::elimination::{solve, Equation};
@@ -37,6 +38,18 @@ pub struct GivenMany<'a, S> {
     pub host: &'a [S],
 }
 
+impl<'a, S> Given<'a, S> {
+    /// The same with the lost tray in a list.
+    pub fn as_many(self, lost: &'a [Tray; 1]) -> GivenMany<'a, S> {
+        GivenMany {
+            lost,
+            helpers: self.helpers,
+            shares: self.shares,
+            host: self.host,
+        }
+    }
+}
+
 pub fn repair<F: Field>(
     layout: Layout<F>,
     given: Given<F::Symbol>,
@@ -44,13 +57,8 @@ pub fn repair<F: Field>(
     first: u64,
     budget: u64,
 ) -> Result<Repaired<F::Symbol>, Refusal> {
-    let many = GivenMany {
-        lost: &[given.lost],
-        helpers: given.helpers,
-        shares: given.shares,
-        host: given.host,
-    };
-    repair_many(layout, many, spare, first, budget)
+    let lost = [given.lost];
+    repair_many(layout, given.as_many(&lost), spare, first, budget)
 }
 
 pub fn repair_many<F: Field>(
@@ -60,15 +68,35 @@ pub fn repair_many<F: Field>(
     first: u64,
     budget: u64,
 ) -> Result<Repaired<F::Symbol>, Refusal> {
-    let numbers = layout.numbers()?;
-    refuse(&[(Refusal::Length, wrong_length(&numbers, given, spare))])?;
+    let numbers = layout.numbers_with(0)?;
     let groups = numbers.groups as u64;
     let done = budget.min(groups.saturating_sub(first));
     let piece = first.min(groups) as usize..(first.min(groups) + done) as usize;
+    refuse_given::<F>(&numbers, given, spare, piece.clone())?;
+    refuse(&[(Refusal::FirstGroup, first > groups)])?;
+    let symbols = (given.lost.len() * numbers.helpers) as u64;
+    let written = Repair::<F>::new(numbers, given, None).write(spare, piece);
+    Ok(Repaired {
+        groups: done,
+        crossed: symbols * done,
+        remaining: symbols * (groups - (first + done)),
+        spare: written.expect("R checks in R unknowns have a solution"),
+    })
+}
+
+/// The grounds past the layout's that repairs have in common, for one that does
+/// these groups.
+pub fn refuse_given<F: Field>(
+    numbers: &Numbers,
+    given: GivenMany<F::Symbol>,
+    spare: &[F::Symbol],
+    piece: Range<usize>,
+) -> Result<(), Refusal> {
+    refuse(&[(Refusal::Length, wrong_length(numbers, given, spare))])?;
     refuse(&[
         (
             Refusal::Number,
-            outside(&numbers, given) || !in_range::<F>(&numbers, given, piece.clone()),
+            outside(numbers, given) || !in_range::<F>(numbers, given, piece),
         ),
         (
             Refusal::Order,
@@ -76,16 +104,8 @@ pub fn repair_many<F: Field>(
         ),
         (Refusal::Count, given.helpers.len() != numbers.helpers),
         (Refusal::LostCount, !numbers.can_lose(given.lost.len())),
-        (Refusal::Host, host_helps(&numbers, given)),
-        (Refusal::FirstGroup, first > groups),
-    ])?;
-    let symbols = (given.lost.len() * numbers.helpers) as u64;
-    Ok(Repaired {
-        groups: done,
-        crossed: symbols * done,
-        remaining: symbols * (groups - (first + done)),
-        spare: Repair::<F>::new(numbers, given).write(spare, piece),
-    })
+        (Refusal::Host, host_helps(numbers, given)),
+    ])
 }
 
 /// The shares must have e·d·L/s symbols, the host rack u·L and the spare e·L,
@@ -137,8 +157,8 @@ fn host_helps<S>(numbers: &Numbers, given: GivenMany<S>) -> bool {
     host.is_some_and(|host| given.helpers.contains(&host))
 }
 
-/// A repair that isn't refused.
-struct Repair<'a, F: Field> {
+/// A repair that isn't refused on these grounds.
+pub struct Repair<'a, F: Field> {
     numbers: Numbers,
     checks: Checks<F>,
     given: GivenMany<'a, F::Symbol>,
@@ -147,13 +167,17 @@ struct Repair<'a, F: Field> {
     lost: Vec<usize>,
     /// By m and place, worked out once.
     weights: Vec<Vec<F::Symbol>>,
-    helpers: Vec<usize>,
-    /// The racks that are neither host nor helper.
+    /// The helpers whose shares are gone by: their places in the list, and
+    /// their racks.
+    helpers: Vec<(usize, usize)>,
+    /// The racks that are neither host nor such helpers.
     silent: Vec<usize>,
 }
 
 impl<F: Field> Repair<'_, F> {
-    fn new(numbers: Numbers, given: GivenMany<F::Symbol>) -> Repair<F> {
+    /// The repair that takes the shares as they are, or one of them as unknown:
+    /// that of the helper at this place of the list.
+    pub fn new(numbers: Numbers, given: GivenMany<F::Symbol>, open: Option<usize>) -> Repair<F> {
         let host = given.lost[0].0 as usize / numbers.size;
         let place = |tray: &Tray| tray.0 as usize % numbers.size;
         let weights = |m| {
@@ -161,9 +185,14 @@ impl<F: Field> Repair<'_, F> {
                 .map(|place| weight::<F>(&numbers, place, m))
                 .collect()
         };
-        let helpers: Vec<usize> = given.helpers.iter().map(|rack| rack.0 as usize).collect();
+        let racks = given.helpers.iter().map(|rack| rack.0 as usize);
+        let helpers: Vec<(usize, usize)> = racks
+            .enumerate()
+            .filter(|(at, _)| Some(*at) != open)
+            .collect();
+        let helps = |rack: usize| helpers.iter().any(|&(_, helper)| helper == rack);
         let silent = (0..numbers.racks)
-            .filter(|rack| *rack != host && !helpers.contains(rack))
+            .filter(|&rack| rack != host && !helps(rack))
             .collect();
         Repair {
             numbers,
@@ -177,8 +206,9 @@ impl<F: Field> Repair<'_, F> {
         }
     }
 
-    /// The spare with the layers of these groups written, in every lost tray.
-    fn write(&self, spare: &[F::Symbol], groups: Range<usize>) -> Vec<F::Symbol> {
+    /// The spare with the layers of these groups written, in every lost tray;
+    /// none where the checks contradict each other in one of the groups.
+    pub fn write(&self, spare: &[F::Symbol], groups: Range<usize>) -> Option<Vec<F::Symbol>> {
         let mut written = spare.to_vec();
         let mut layers_of = vec![vec![]; self.numbers.groups];
         for layer in 0..self.numbers.layers {
@@ -188,7 +218,7 @@ impl<F: Field> Repair<'_, F> {
             let layers = &layers_of[group];
             let sums: Vec<Vec<F::Symbol>> = (0..self.lost.len())
                 .map(|m| self.host_sums(group, layers, m))
-                .collect();
+                .collect::<Option<_>>()?;
             for (digit, &layer) in layers.iter().enumerate() {
                 let of_layer: Vec<F::Symbol> = sums.iter().map(|of_m| of_m[digit]).collect();
                 for (at, symbol) in self.lost_symbols(layer, &of_layer).iter().enumerate() {
@@ -196,13 +226,13 @@ impl<F: Field> Repair<'_, F> {
                 }
             }
         }
-        written
+        Some(written)
     }
 
     /// The host rack's sums of weight m in the layers of a group: the first
     /// unknowns of the R checks t = u·w + m summed over the group. The other
     /// unknowns are the group sums, so weighted, of the silent racks.
-    fn host_sums(&self, group: usize, layers: &[usize], m: usize) -> Vec<F::Symbol> {
+    fn host_sums(&self, group: usize, layers: &[usize], m: usize) -> Option<Vec<F::Symbol>> {
         let equation = |w: usize| -> Equation<F> {
             // In these checks a tray's coefficient is that of place 0 times
             // its weight; and that of a rack that isn't the host is the same
@@ -211,7 +241,7 @@ impl<F: Field> Repair<'_, F> {
             let of_rack = |rack, layer| self.checks.coefficient(rack * self.numbers.size, layer, t);
             let of_host = layers.iter().map(|&layer| of_rack(self.host, layer));
             let of_silent = self.silent.iter().map(|&rack| of_rack(rack, layers[0]));
-            let of_helpers = self.helpers.iter().enumerate().map(|(at, &rack)| {
+            let of_helpers = self.helpers.iter().map(|&(at, rack)| {
                 F::multiply(of_rack(rack, layers[0]), self.share_symbol(at, m, group))
             });
             // The unknown part and the helpers' add up to zero.
@@ -220,7 +250,6 @@ impl<F: Field> Repair<'_, F> {
         };
         let equations = (0..self.numbers.rack_checks).map(equation).collect();
         solve::<F>(equations, self.numbers.base + self.silent.len())
-            .expect("R checks in R unknowns have a solution")
     }
 
     /// The symbol for a group in share m of the helper at this place of the

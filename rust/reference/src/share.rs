@@ -19,7 +19,7 @@ pub fn share<F: Field>(
     rack: &[F::Symbol],
     share: &[F::Symbol],
 ) -> Result<Vec<F::Symbol>, Refusal> {
-    share_many(layout, 1, host, helper, rack, share)
+    shared::<F>(layout.numbers()?, 1, host, helper, rack, share)
 }
 
 /// What the L/s symbols lent hold afterwards: what they held, plus this tray's
@@ -31,10 +31,11 @@ pub fn share_add<F: Field>(
     symbols: &[F::Symbol],
     share: &[F::Symbol],
 ) -> Result<Vec<F::Symbol>, Refusal> {
-    share_add_many(layout, 1, host, tray, symbols, share)
+    added::<F>(layout.numbers()?, 1, host, tray, symbols, share)
 }
 
-/// What the e·L/s symbols lent for the shares hold afterwards, m = 0 first.
+/// What the e·L/s symbols lent for the shares hold afterwards, m = 0 first. E is
+/// 0, here and in the next call.
 pub fn share_many<F: Field>(
     layout: Layout<F>,
     lost_count: u32,
@@ -43,7 +44,33 @@ pub fn share_many<F: Field>(
     rack: &[F::Symbol],
     share: &[F::Symbol],
 ) -> Result<Vec<F::Symbol>, Refusal> {
-    let numbers = layout.numbers()?;
+    let numbers = layout.numbers_with(0)?;
+    shared::<F>(numbers, lost_count, host, helper, rack, share)
+}
+
+/// What the e·L/s symbols lent hold afterwards: what they held, plus this tray's
+/// part of its rack's shares. What they held is looked at too.
+pub fn share_add_many<F: Field>(
+    layout: Layout<F>,
+    lost_count: u32,
+    host: Rack,
+    tray: Tray,
+    symbols: &[F::Symbol],
+    share: &[F::Symbol],
+) -> Result<Vec<F::Symbol>, Refusal> {
+    let numbers = layout.numbers_with(0)?;
+    added::<F>(numbers, lost_count, host, tray, symbols, share)
+}
+
+/// The shares of a whole rack, past the layout's ground.
+fn shared<F: Field>(
+    numbers: Numbers,
+    lost_count: u32,
+    host: Rack,
+    helper: Rack,
+    rack: &[F::Symbol],
+    share: &[F::Symbol],
+) -> Result<Vec<F::Symbol>, Refusal> {
     let asked = Asked {
         lost_count: lost_count as usize,
         host,
@@ -60,22 +87,20 @@ pub fn share_many<F: Field>(
     Ok(shares)
 }
 
-/// What the e·L/s symbols lent hold afterwards: what they held, plus this tray's
-/// part of its rack's shares. What they held is looked at too.
-pub fn share_add_many<F: Field>(
-    layout: Layout<F>,
+/// The shares with a tray's part added, past the layout's ground.
+fn added<F: Field>(
+    numbers: Numbers,
     lost_count: u32,
     host: Rack,
     tray: Tray,
     symbols: &[F::Symbol],
     share: &[F::Symbol],
 ) -> Result<Vec<F::Symbol>, Refusal> {
-    let numbers = layout.numbers()?;
     let asked = Asked {
         lost_count: lost_count as usize,
         host,
         // A tray is outside the layout exactly when its rack is.
-        helper: Rack(tray.0 / layout.size),
+        helper: Rack(tray.0 / numbers.size as u32),
         wrong_length: symbols.len() != numbers.layers,
         share_length: share.len(),
         in_range: F::are_symbols(symbols) && F::are_symbols(share),

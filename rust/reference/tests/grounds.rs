@@ -24,6 +24,7 @@ over_both_fields! {
     of_adding_to_a_share,
     of_the_shares,
     of_the_repairs,
+    of_the_correcting_repair,
     of_the_walk,
     of_reading_a_part,
     of_images,
@@ -54,6 +55,10 @@ fn of_the_repairs<F: Tried>() {
     each_ground_in_order::<RepairMany<F>>();
 }
 
+fn of_the_correcting_repair<F: Tried>() {
+    each_ground_in_order::<Correct<F>>();
+}
+
 fn of_the_walk<F: Tried>() {
     each_ground_in_order::<Scrub<F>>();
     let inadmissible = Layout::<F>::from(F::INADMISSIBLE);
@@ -78,6 +83,7 @@ fn of_the_margin<F: Tried>() {
 fn the_new_grounds_have_their_numbers() {
     assert_eq!(Refusal::LostCount.number(), 12);
     assert_eq!(Refusal::NotRepaired.number(), 13);
+    assert_eq!(Refusal::Shares.number(), 14);
 }
 
 /// A lost list is measured by the rack of the first tray listed, and only then

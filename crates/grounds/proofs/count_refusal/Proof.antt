@@ -1,4 +1,3 @@
--- Made by tools/twin.py from crates/repair/proofs/count_refusal/Proof.antt.
 use mathlib.Core.Path.{_≡_}
 use mathlib.Core.Bool.{true}
 use Prim.Native.Nat.{_<_}

@@ -1,4 +1,3 @@
--- Made by tools/twin.py from crates/repair/proofs/is_times/Proof.antt.
 use borrow.Author.Needs.{needs}
 use Rattle.grounds.proofs.Grounds.{times-false, times-test}
 use Rattle.grounds.proofs.is_times.Statement.{statement}

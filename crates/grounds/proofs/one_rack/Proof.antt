@@ -1,4 +1,3 @@
--- Made by tools/twin.py from crates/repair/proofs/one_rack/Proof.antt.
 use mathlib.Core.Path.{_≡_}
 use Prim.Native.Nat.{ℕ, _-_, _/_, _<_, _≤_}
 use native.Mathlib.Omega.{arith}

@@ -1,5 +1,6 @@
 use borrow.Author.Needs.{needs}
 use mathlib.Core.Path.{_≡_, sym, _∙_}
+use native.Mathlib.Nat.{div-le-self}
 use native.Mathlib.Omega.{arith}
 use borrow.Author.Tests.{not-true, not-false}
 use mathlib.Core.Bool.{true}
@@ -30,14 +31,22 @@ admitted-spec =
     (λ c. inadmissible _ _ (λ a. omega arith))
     (λ c. inadmissible _ _ (λ a. omega (arith, bounds _ (a .cabinet))))
     (λ c. inadmissible _ _ (λ a. omega arith))
-    (λ c. sized (c .before .before .before .before .before .before))
+    (λ c. inadmissible _ _ (λ a. omega arith))
+    (λ c. sized (c .before .before .before .before .before .before .before))
+    (λ c. search needs)
+    (λ c.
+    let a = c .before .before .before .before .before .before .before .before .before .before .args in
+    record { fits = omega (arith, div-le-self (a .l .dimension) (a .l .size)) })
     (λ c. inadmissible _ _ (λ a. omega arith))
     (λ c. inadmissible _ _ (λ a. omega arith))
+    (λ c. search needs)
+    (λ c. search needs)
+    (λ c. search needs)
     (λ c. search needs)
     (λ c κs. search needs)
     (λ c. inadmissible _ _ (λ a. omega arith))
     (λ c.
-    let k = c .before .before .before .before .before .before .before .before .before .before in
+    let k = c .before .before .before .before .before .before .before .before .before .before .before in
     facts-admissible _ _ (record {
       cabinet = record {
         racks-low = omega arith;
@@ -50,4 +59,5 @@ admitted-spec =
         layers-high = omega arith;
       };
       size-ok = size-facts _ _ (allowed k) .1;
+      errors-high = omega arith;
     })))

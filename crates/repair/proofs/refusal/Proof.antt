@@ -9,17 +9,17 @@ use borrow.Author.Tests.{eqb-true, eqb-false}
 use Rattle.lists.proofs.Bools.{told-false, told-true}
 use Rattle.lists.proofs.Numbers.{mul-below}
 use Rattle.symbol.specs.Elem.{gf256}
-use Rattle.layout.specs.Layout.{trayLimit, layerLimit, layers, traffic, admissible, Cabinet}
-use Rattle.layout.proofs.Facts.{bounds, admissible-facts}
+use Rattle.layout.specs.Layout.{trayLimit, layerLimit, layers, traffic, admissibleWith, Cabinet}
+use Rattle.layout.proofs.Facts.{bounds, with-facts}
 use Rattle.repair.proofs.Refusals.{traffic-pos, ground-1, ground-2, ground-numbers, ground-counts}
 use Rattle.repair.proofs.refusal.Statement.{statement}
 use Rattle.repair.proofs.refusal.Tie as tie
 
-adm : (c : tie.Else1) → admissible (gf256 .order) (c .before .before .before .before .before .before .before .before .args .l) ≡ true
-adm c = told-true (c .before .admitted .ensures) (c .if1 .left)
+adm : (c : tie.Else1) → admissibleWith (gf256 .order) 0 (c .before .before .before .before .before .before .before .before .args .l) ≡ true
+adm c = told-true (c .before .admitted-with .ensures) (c .if1 .left)
 
 facts : (c : tie.Else1) → Cabinet (c .before .before .before .before .before .before .before .before .args .l)
-facts c = admissible-facts (gf256 .order) _ (adm c) .cabinet
+facts c = with-facts (gf256 .order) 0 _ (adm c) .admissible .cabinet
 
 -- the lengths, as worked out
 unit-is : (c : tie.After-group-count) → c .before .before .before .before .before .before .before .before .before .before .args .l .helpers * c .group-count .result ≡ traffic (c .before .before .before .before .before .before .before .before .before .before .args .l)
@@ -40,8 +40,8 @@ refusal-spec =
     (λ c. search needs)
     (λ c. search needs)
     (λ c. search needs)
-    (λ c κs. omega arith)
-    (λ c. let a = c .before .before .before .before .before .before .before .before .args in ground-1 gf256 (a .l) (a .lost .now) (a .helpers .now) (a .shares .now) (a .host .now) (a .spare) (a .first) (a .budget) (told-false (c .before .admitted .ensures) (c .if1 .taken)))
+    (λ c κs. search needs)
+    (λ c. let a = c .before .before .before .before .before .before .before .before .args in ground-1 gf256 (a .l) (a .lost .now) (a .helpers .now) (a .shares .now) (a .host .now) (a .spare) (a .first) (a .budget) (told-false (c .before .admitted-with .ensures) (c .if1 .taken)))
     (λ c κs. facts c)
     (λ c. search needs)
     (λ c κs. facts (c .before))

@@ -13,5 +13,5 @@ share-add-spec =
     (λ c κs. search needs)
     (λ c. search needs)
     (λ c.
-    let e = c .before .before .share-add-many .ensures in
+    let e = c .before .before .feed-tray .ensures in
     (e .0 ∙ one-add-refusal working _ _ _ _ _, e .1 ∙ one-add-buffer gf256 _ working _ _ _ _)))

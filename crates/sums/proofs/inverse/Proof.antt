@@ -1,11 +1,12 @@
 use borrow.Author.Needs.{needs}
 use Rattle.symbol.proofs.Working.{working}
-use Rattle.sums.proofs.Reciprocal.{inverse-power}
+use Rattle.sums.proofs.Reciprocal.{inverse-power, inverse-one}
 use Rattle.sums.proofs.inverse.Statement.{statement}
 use Rattle.sums.proofs.inverse.Tie as tie
 
 pub inverse-spec : {M : Type 1} → statement M
 inverse-spec = tie.close (tie.spec
+    (λ c. inverse-one working _ (c .if1 .taken))
     (λ c. search needs)
     (λ c. search needs)
     (λ c κs. search needs)

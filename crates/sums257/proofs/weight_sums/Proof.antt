@@ -18,7 +18,7 @@ weigh-sums-requires : tie.Need-weigh-sums-requires
 weigh-sums-requires c κs =
     let s = c .before .before .before .before .before .before .before .before .before .before .before .before .before .before .before .before .before .before .before .before .before .before .before .before .before .before .before .before .before .before .before .before .before .before .before .before in
     let a = s .args in
-    weighing-of (a .l) (a .h) (a .w) (a .first) (a .helpers .now) (a .shares .now) (a .e) (a .sums .now) (a .sides .now) (a .found .now) (a .points .now) (a .coefs .now) (a .row .now) (a .cur .now) (s .pre .0) (a .m) _ (s .pre .1) (search needs)
+    weighing-of (a .l) (a .h) (a .w) (a .first) (a .helpers .now) (a .shares .now) (a .e) (a .sums .now) (a .sides .now) (a .found .now) (a .points .now) (a .coefs .now) (a .row .now) (a .cur .now) (s .pre .0) (a .m) _ (s .pre .1) (c .before .before .before .before .before .before .before .before .before .before .solve-sides .kept .0)
 
 same-length : tie.Need-same-length
 same-length c = search needs

@@ -86,6 +86,29 @@ impl<'a, M: Multiply> Checks<'a, M> {
         patterns
     }
 
+    /// An item's digit in a column.
+    pub fn digit(&self, item: &Item<M::Symbol>, column: usize) -> usize {
+        self.rows[item.row][column] as usize
+    }
+
+    /// An item's point in a column.
+    pub fn point(&self, item: &Item<M::Symbol>, column: usize) -> M::Symbol {
+        item.powers(1)[self.digit(item, column)]
+    }
+
+    /// For each column the number of the pattern that the items' digits have there, and for each
+    /// pattern a column that has it.
+    pub fn patterns_of(&self, items: &[Item<M::Symbol>]) -> (Vec<usize>, Vec<usize>) {
+        let mut rows: Vec<usize> = items.iter().map(|item| item.row).collect();
+        rows.dedup();
+        let patterns = self.patterns(&rows);
+        let mut columns = vec![0; self.base.pow(rows.len() as u32)];
+        for (column, &pattern) in patterns.iter().enumerate() {
+            columns[pattern] = column;
+        }
+        (patterns, columns)
+    }
+
     /// Less the inverse of the system of some items in a column.
     fn minus_inverse(&self, items: &[&Item<M::Symbol>], column: usize) -> Vec<M::Symbol> {
         minus_inverse(self.multiply, items.len(), |t, c| {

@@ -54,11 +54,23 @@ pub fn repair<M: Multiply>(
     spare: &mut [M::Symbol],
 ) {
     let numbers = Numbers::of(layout);
-    let host = lost / numbers.size;
+    let summed = Summed::new(multiply, &numbers, lost / numbers.size);
+    let sums = summed.sums(helpers, shares);
+    let host_sums = summed.host_sums(helpers, &sums);
+    write(&numbers, lost, &host_sums, host_rack, spare);
+}
+
+/// Writes the lost tray: the host rack's sums, digit after digit, less its other trays.
+pub fn write<S: Field>(
+    numbers: &Numbers,
+    lost: usize,
+    host_sums: &[S],
+    host_rack: &[S],
+    spare: &mut [S],
+) {
     let groups = numbers.layers / numbers.base;
-    let sums = host_sums(multiply, &numbers, host, helpers, shares);
-    for run in runs(&numbers, host) {
-        let sums = &sums[run.digit * groups + run.group..][..run.length];
+    for run in runs(numbers, lost / numbers.size) {
+        let sums = &host_sums[run.digit * groups + run.group..][..run.length];
         spare[run.layer..][..run.length].copy_from_slice(sums);
     }
     for (place, tray) in host_rack.chunks(numbers.layers).enumerate() {
@@ -68,38 +80,70 @@ pub fn repair<M: Multiply>(
             }
         }
     }
-    M::Symbol::reduce(spare);
+    S::reduce(spare);
 }
 
-/// The host rack's sums in every group, digit after digit.
-fn host_sums<M: Multiply>(
-    multiply: &M,
-    numbers: &Numbers,
+/// The checks summed over each group of a host rack.
+pub struct Summed<'a, M> {
+    numbers: &'a Numbers,
     host: usize,
-    helpers: &[usize],
-    shares: &[M::Symbol],
-) -> Vec<M::Symbol> {
-    let Numbers {
-        racks,
-        size,
-        base,
-        group_checks,
-        layers,
-        ..
-    } = *numbers;
-    let checks = Checks::new(multiply, base, group_checks, racks - 1);
-    let groups = layers / base;
-    let rack = |i: usize| {
-        let row = if i < host { i } else { i - 1 };
-        checks.item(row, |digit| (i * base + digit) * size)
-    };
-    let mut sums = vec![M::Symbol::default(); group_checks * groups];
-    for (&helper, share) in helpers.iter().zip(shares.chunks(groups)) {
-        checks.add(&rack(helper), share, 0..group_checks, &mut sums);
+    pub checks: Checks<'a, M>,
+}
+
+impl<'a, M: Multiply> Summed<'a, M> {
+    pub fn new(multiply: &'a M, numbers: &'a Numbers, host: usize) -> Summed<'a, M> {
+        let (count, rows) = (numbers.group_checks, numbers.racks - 1);
+        Summed {
+            numbers,
+            host,
+            checks: Checks::new(multiply, numbers.base, count, rows),
+        }
     }
-    let own = (0..base).map(|digit| checks.item(0, move |_| (host * base + digit) * size));
-    let silent = (0..racks).filter(|i| *i != host && !helpers.contains(i));
-    let unknown: Vec<Item<_>> = own.chain(silent.map(rack)).collect();
-    M::Symbol::reduce(&mut sums);
-    checks.solve(&Vec::from_iter(&unknown), base, &sums)
+
+    /// A rack that is not the host.
+    pub fn rack(&self, i: usize) -> Item<M::Symbol> {
+        let Numbers { base, size, .. } = *self.numbers;
+        let row = if i < self.host { i } else { i - 1 };
+        self.checks.item(row, |digit| (i * base + digit) * size)
+    }
+
+    /// The helpers' part of every check in every group.
+    pub fn sums(&self, helpers: &[usize], shares: &[M::Symbol]) -> Vec<M::Symbol> {
+        let Numbers {
+            group_checks,
+            layers,
+            base,
+            ..
+        } = *self.numbers;
+        let groups = layers / base;
+        let mut sums = vec![M::Symbol::default(); group_checks * groups];
+        for (&helper, share) in helpers.iter().zip(shares.chunks(groups)) {
+            let rack = self.rack(helper);
+            self.checks.add(&rack, share, 0..group_checks, &mut sums);
+        }
+        M::Symbol::reduce(&mut sums);
+        sums
+    }
+
+    /// What is unknown in every group: the host's sums, digit after digit, and those of the racks
+    /// that do not help.
+    pub fn unknown(&self, helpers: &[usize]) -> Vec<Item<M::Symbol>> {
+        let Numbers {
+            racks, size, base, ..
+        } = *self.numbers;
+        let own = |digit| {
+            let exponent = (self.host * base + digit) * size;
+            self.checks.item(0, move |_| exponent)
+        };
+        let silent = (0..racks).filter(|i| *i != self.host && !helpers.contains(i));
+        let silent = silent.map(|i| self.rack(i));
+        (0..base).map(own).chain(silent).collect()
+    }
+
+    /// The host rack's sums in every group, digit after digit.
+    pub fn host_sums(&self, helpers: &[usize], sums: &[M::Symbol]) -> Vec<M::Symbol> {
+        let unknown = self.unknown(helpers);
+        let unknown = Vec::from_iter(&unknown);
+        self.checks.solve(&unknown, self.numbers.base, sums)
+    }
 }

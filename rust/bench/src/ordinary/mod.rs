@@ -7,6 +7,7 @@
 
 pub mod bytes;
 mod checks;
+mod correcting;
 mod field;
 mod groups;
 mod layers;
@@ -69,5 +70,20 @@ impl<M: Multiply> Version<M::Symbol> for Ordinary<M> {
         let lost = lost.number() as usize;
         let helpers: Vec<usize> = helpers.iter().map(|rack| rack.number() as usize).collect();
         groups::repair(&self.multiply, layout, lost, &helpers, shares, host, spare);
+    }
+
+    fn correct(
+        &self,
+        layout: Layout,
+        lost: Tray,
+        helpers: &[Rack],
+        shares: &[M::Symbol],
+        host: &[M::Symbol],
+        spare: &mut [M::Symbol],
+    ) -> Option<Rack> {
+        let lost = lost.number() as usize;
+        let helpers: Vec<usize> = helpers.iter().map(|rack| rack.number() as usize).collect();
+        correcting::correct(&self.multiply, layout, lost, &helpers, shares, host, spare)
+            .map(|rack| Rack::new(rack as u32))
     }
 }

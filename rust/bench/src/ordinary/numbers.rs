@@ -17,9 +17,15 @@ pub struct Numbers {
 
 impl Numbers {
     pub fn of(layout: Layout) -> Numbers {
-        let [racks, size, dimension, helpers] =
-            [layout.racks, layout.size, layout.dimension, layout.helpers].map(|n| n as usize);
-        let base = helpers - dimension / size + 1;
+        let [racks, size, dimension, helpers, errors] = [
+            layout.racks,
+            layout.size,
+            layout.dimension,
+            layout.helpers,
+            layout.errors,
+        ]
+        .map(|n| n as usize);
+        let base = helpers + 1 - dimension / size - 2 * errors;
         Numbers {
             racks,
             size,

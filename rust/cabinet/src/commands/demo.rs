@@ -1,6 +1,7 @@
-//! `cabinet demo`: a cabinet's life in six steps, and in a seventh one with racks of four.
+//! `cabinet demo`: a cabinet's life in six steps, then one with racks of four and one with a stale
+//! share.
 
-use super::{racks_of_four, store, Command};
+use super::{racks_of_four, stale_rack, store, Command};
 use crate::arguments::{Arguments, Setting};
 use crate::failure::Failure;
 use crate::field::Field;
@@ -37,8 +38,9 @@ cabinet demo [--keep DIR]
 
 Shows a small cabinet at work, on real tray images in a temporary folder: stores
 eight records, loses a tray, meets a factory-reset one and refuses it, repairs
-the lost tray in pieces, compares, and shows the traffic saved. Then it repairs
-a tray of a cabinet with racks of four, in the field of 257 and in memory.
+the lost tray in pieces, compares, and shows the traffic saved. Then, in memory,
+it repairs a tray of a cabinet with racks of four, in the field of 257, and one
+although a rack sends a stale share, and names that rack.
 ";
 
 const PLATE: Plate = Plate {
@@ -79,7 +81,7 @@ fn run(arguments: &Arguments, screen: &mut Screen) -> Result<(), Failure> {
     told.and(cleared)
 }
 
-/// The seven steps.
+/// The eight steps.
 fn tell(path: &Path, screen: &mut Screen) -> Result<(), Failure> {
     let numbers = Numbers::of(PLATE.layout, PLATE.field)?;
     introduce(&numbers, screen);
@@ -92,7 +94,9 @@ fn tell(path: &Path, screen: &mut Screen) -> Result<(), Failure> {
     screen.heading("6. Traffic of the repair");
     traffic::print(&numbers, screen);
     screen.gap();
-    racks_of_four::tell(screen)
+    racks_of_four::tell(screen)?;
+    screen.gap();
+    stale_rack::tell(screen)
 }
 
 fn introduce(numbers: &Numbers, screen: &mut Screen) {

@@ -17,6 +17,7 @@ mod repair;
 mod scrub;
 mod share;
 mod sixteen;
+mod stale_rack;
 mod store;
 mod test;
 

@@ -1,7 +1,7 @@
 //! `cabinet plan`: a layout's numbers, what it survives and what a repair costs.
 
 use super::Command;
-use crate::arguments::{self, Arguments, Setting};
+use crate::arguments::{Arguments, Setting};
 use crate::conditions::{conditions, Verdict};
 use crate::failure::Failure;
 use crate::field::{Field, FIELD};
@@ -25,17 +25,17 @@ pub const COMMAND: Command = Command {
 };
 
 const HELP: &str = "\
-cabinet plan B u k d [--field N] [--svg FILE]
+cabinet plan B u k d [E] [--field N] [--svg FILE]
 
 Shows the numbers of the layout of B racks of u trays, with k trays' worth of
-data and d helper racks in a repair; which losses it survives; and how many
-symbols cross in the repair of one tray, against a plain recovery from k trays.
-For a layout that is not admissible (1) it says which conditions fail.
+data and d helper racks in a repair, of which E, 0 or 1, may send a wrong share;
+which losses it survives; and how many symbols cross in the repair of one tray,
+against a plain recovery from k trays. For a layout that is not admissible (1)
+it says which conditions fail.
 ";
 
 fn run(arguments: &Arguments, screen: &mut Screen) -> Result<(), Failure> {
-    let [b, u, k, d] = arguments.words(["B", "u", "k", "d"])?;
-    let layout = arguments::layout([b, u, k, d])?;
+    let (layout, []) = arguments.layout_and([])?;
     let field = Field::asked(arguments)?.unwrap_or_default();
     let numbers = Numbers::of(layout, field);
     let numbers = numbers.inspect_err(|_| print_conditions(layout, field, screen))?;
@@ -68,6 +68,10 @@ fn print_conditions(layout: Layout, field: Field, screen: &mut Screen) {
 }
 
 fn print_numbers(numbers: &Numbers, screen: &mut Screen) {
+    let (base, most_lost) = match numbers.errors {
+        0 => ("d - K + 1", "u - v"),
+        _ => ("d - K - 1", ""),
+    };
     let rows = [
         ("B", "racks", "", numbers.racks),
         ("u", "trays in a rack", "", numbers.size),
@@ -83,15 +87,21 @@ fn print_numbers(numbers: &Numbers, screen: &mut Screen) {
         ("v", "trays of k beyond them", "k mod u", numbers.over),
         ("R", "checks on rack sums", "B - K", numbers.rack_checks),
         ("d", "helper racks in a repair", "", numbers.helpers),
-        ("s", "layers in a group", "d - K + 1", numbers.base),
+        (
+            "E",
+            "helpers that may send a wrong share",
+            "",
+            numbers.errors,
+        ),
+        ("s", "layers in a group", base, numbers.base),
         ("L", "symbols in a tray, layers", "s^B", numbers.layers),
         ("", "groups in a repair", "L/s", numbers.groups()),
         ("", "symbols in a share", "L/s", numbers.groups()),
         (
             "",
             "lost trays of one rack at a time",
-            "u - v",
-            numbers.size - numbers.over,
+            most_lost,
+            numbers.most_lost(),
         ),
     ];
     screen.heading(format!("Layout {}", numbers.name()));

@@ -1,4 +1,4 @@
-//! The demonstration's last step: a cabinet with racks of four, in the field of 257.
+//! The demonstration's seventh step: a cabinet with racks of four, in the field of 257.
 
 use super::demo::RECORDS;
 use crate::failure::Failure;

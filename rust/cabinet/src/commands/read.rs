@@ -61,7 +61,8 @@ refused (13). Any other tray is read from the store and must be live.
 Nothing is handed out (65) of a work file of another cabinet, of another tray or
 of several, nor where the trays of DIR are not those that the spare was made
 from, nor of layers that do not fit to the other trays. Where trays are missing
-for this, it says so.
+for this, it says so. Cabinets with E = 1 are not read so (1): their repairs
+have no pieces.
 ";
 
 /// What the command line asks for.

@@ -1,7 +1,9 @@
-//! `cabinet repair`: lost trays of one rack from shares, in pieces.
+//! `cabinet repair`: lost trays of one rack from shares, in pieces; one tray at once where a share may
+//! be wrong.
 
 use super::Command;
 use crate::arguments::{needed, Arguments, Setting};
+use crate::correcting;
 use crate::failure::Failure;
 use crate::field::in_field;
 use crate::files;
@@ -38,7 +40,7 @@ const BUDGET: Setting = Setting::with("--budget", "N", "do at most N groups now"
 
 pub const COMMAND: Command = Command {
     name: "repair",
-    summary: "bring back lost trays of one rack from shares, in pieces",
+    summary: "bring back lost trays of one rack from shares, name a stale rack",
     help: HELP,
     settings: &[
         LOST,
@@ -65,6 +67,11 @@ done, so a repair that is broken off goes on where it ended. When all groups are
 done, the trays are tested with the others, if all are there, their live images
 are written and the work file removed. If they do not fit together no image is
 written (65).
+
+In a cabinet with E = 1 one of the d shares may be wrong. One tray is brought
+back, all groups at once and without a work file: the tray is right all the
+same, and the rack whose share is wrong is named. If no single share can be the
+wrong one, the repair is refused (14).
 ";
 
 /// What the command line asks for.
@@ -102,23 +109,56 @@ fn repair<S: Symbol>(
     screen: &mut Screen,
 ) -> Result<(), Failure> {
     let folder = Folder::<S>::open(place)?;
-    let lost = asked.lost;
-    judge::<S>(
-        &folder.numbers,
-        &lost,
-        &asked.helpers,
-        asked.first.unwrap_or(0),
-    )?;
+    match asked.lost[..] {
+        [lost] if folder.numbers.errors > 0 => at_once(&folder, lost, &asked, arguments, screen),
+        _ => in_pieces(&folder, asked, arguments, screen),
+    }
+}
+
+/// One tray, though a share may be wrong.
+fn at_once<S: Symbol>(
+    folder: &Folder<S>,
+    lost: Tray,
+    asked: &Asked,
+    arguments: &Arguments,
+    screen: &mut Screen,
+) -> Result<(), Failure> {
+    if let Some(setting) = [FIRST, BUDGET, SPARE].iter().find(|of| arguments.has(**of)) {
+        let words = format!("{}: with E = 1 all groups are done at once", setting.name);
+        return Err(Failure::Usage(words));
+    }
+    correcting::judge::<S>(&folder.numbers, lost, &asked.helpers)?;
+    let shares = shares(folder, asked, arguments)?;
+    folder.introduce(screen);
+    correcting::repair(folder, lost, &asked.helpers, &shares, screen)
+}
+
+/// The helpers' shares: those of the files that are named, else from the folder's own trays.
+fn shares<S: Symbol>(
+    folder: &Folder<S>,
+    asked: &Asked,
+    arguments: &Arguments,
+) -> Result<Vec<S>, Failure> {
     let files = arguments.values(SHARE);
-    let shares = match files.is_empty() {
-        true => mending::shares(&folder, &lost, &asked.helpers)?,
-        false => {
-            let wanted = lost.len() * folder.numbers.groups();
-            read_shares(wanted, &files, asked.helpers.len())?
-        }
-    };
-    let task = Task::new(&folder, lost.clone(), asked.helpers, shares)?;
-    let path = mending::work_file(arguments, &folder, &lost);
+    if files.is_empty() {
+        return mending::shares(folder, &asked.lost, &asked.helpers);
+    }
+    let wanted = asked.lost.len() * folder.numbers.groups();
+    read_shares(wanted, &files, asked.helpers.len())
+}
+
+fn in_pieces<S: Symbol>(
+    folder: &Folder<S>,
+    asked: Asked,
+    arguments: &Arguments,
+    screen: &mut Screen,
+) -> Result<(), Failure> {
+    let first = asked.first.unwrap_or(0);
+    judge::<S>(&folder.numbers, &asked.lost, &asked.helpers, first)?;
+    let shares = shares(folder, &asked, arguments)?;
+    let lost = asked.lost;
+    let task = Task::new(folder, lost.clone(), asked.helpers, shares)?;
+    let path = mending::work_file(arguments, folder, &lost);
     let mut spare = Spare::open(&path, &task)?;
     let first = start(asked.first, &spare)?;
     folder.introduce(screen);
@@ -130,7 +170,7 @@ fn repair<S: Symbol>(
         ));
         return Ok(());
     }
-    mending::finish(&folder, &lost, spare, screen)
+    mending::finish(folder, &lost, spare, screen)
 }
 
 /// All helpers' shares, from files, each of the wanted length.

@@ -14,7 +14,7 @@ use std::path::Path;
 
 const HOST: Setting = Setting::with("--host", "H", "the rack with the lost trays");
 const HELPER: Setting = Setting::with("--helper", "I", "the rack that sends");
-const COUNT: Setting = Setting::with("--count", "E", "how many trays are lost, 1 if not given");
+const COUNT: Setting = Setting::with("--count", "N", "how many trays are lost, 1 if not given");
 
 pub const COMMAND: Command = Command {
     name: "share",
@@ -32,12 +32,12 @@ pub const COMMAND: Command = Command {
 };
 
 const HELP: &str = "\
-cabinet share DIR --host H --helper I [--count E] OUT
+cabinet share DIR --host H --helper I [--count N] OUT
 
 Works out the share of rack I for a repair in rack H, from the trays of rack I
 alone, and writes its L/s symbols to OUT, one byte each and nothing else; in the
-field of 257 two bytes each, low byte first. For a repair of E trays at once it
-is E shares, one after another. The file does not say whose share it is: let its
+field of 257 two bytes each, low byte first. For a repair of N trays at once it
+is N shares, one after another. The file does not say whose share it is: let its
 name say so.
 ";
 

@@ -1,7 +1,7 @@
 //! `cabinet store`: a file into a new cabinet.
 
 use super::Command;
-use crate::arguments::{self, needed, Arguments, Setting};
+use crate::arguments::{needed, Arguments, Setting};
 use crate::failure::Failure;
 use crate::field::{in_field, Field, FIELD};
 use crate::files::{self, Page};
@@ -32,12 +32,12 @@ pub const COMMAND: Command = Command {
 };
 
 const HELP: &str = "\
-cabinet store B u k d --volume N [--field N] [--exact] [--replace] INPUT DIR
+cabinet store B u k d [E] --volume N [--field N] [--exact] [--replace] INPUT DIR
 
 Stores the file INPUT in a cabinet of B racks of u trays, k of them data, with d
-helper racks in a repair. Writes the folder DIR: an image of every tray, and the
-name plate cabinet.txt with layout, volume and field, which the other commands
-go by.
+helper racks in a repair, of which E, 0 or 1, may send a wrong share. Writes the
+folder DIR: an image of every tray, and the name plate cabinet.txt with layout,
+volume and field, which the other commands go by.
 
 A cabinet takes k*L bytes, each as one symbol: in the field of 257 these are the
 symbols 0 to 255, and images have two bytes a symbol. A shorter file is filled
@@ -46,9 +46,9 @@ refused (2) too.
 ";
 
 fn run(arguments: &Arguments, screen: &mut Screen) -> Result<(), Failure> {
-    let [b, u, k, d, input, folder] = arguments.words(["B", "u", "k", "d", "INPUT", "DIR"])?;
+    let (layout, [input, folder]) = arguments.layout_and(["INPUT", "DIR"])?;
     let plate = Plate {
-        layout: arguments::layout([b, u, k, d])?,
+        layout,
         volume: needed(VOLUME, arguments.number(VOLUME)?)?,
         field: Field::asked(arguments)?.unwrap_or_default(),
     };

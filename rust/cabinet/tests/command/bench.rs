@@ -44,6 +44,15 @@ impl Bench {
         bench
     }
 
+    /// A cabinet (6, 3, 5, 4, 1), in which one share may be wrong, volume 7, in the folder `c`, with
+    /// data that fill it.
+    pub fn with_a_stale_rack() -> Bench {
+        let bench = Bench::new();
+        bench.write("data", &data(320));
+        bench.done("store 6 3 5 4 1 --volume 7 data c");
+        bench
+    }
+
     /// A file in the folder.
     pub fn path(&self, name: &str) -> PathBuf {
         self.place.join(name)

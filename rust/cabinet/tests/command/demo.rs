@@ -40,6 +40,10 @@ fn the_demonstration_tells_its_story() {
         "(5, 4, 15, 4) modulo 257",
         "64 symbols in all in place of 480",
         "The tray is the same",
+        "8. A rack that answers wrongly",
+        "In (5, 3, 4, 4, 1) one of 4 shares may be wrong. Rack 3 sends a stale one.",
+        "64 symbols cross; the repair says: rack 3 is stale.",
+        "Tray 4 is the same",
     ];
     let mut rest = told.as_str();
     for part in story {

@@ -21,7 +21,8 @@ fn general_help_lists_commands_and_statuses() {
         );
     }
     for status in [
-        "   0  ", "   1  ", "  11  ", "  12  ", "  13  ", "  64  ", "  65  ", "  70  ", "  74  ",
+        "   0  ", "   1  ", "  11  ", "  12  ", "  13  ", "  14  ", "  64  ", "  65  ", "  70  ",
+        "  74  ",
     ] {
         assert!(
             help.contains(&format!("\n{status}")),
@@ -59,7 +60,8 @@ fn senseless_lines_are_usage_errors() {
         "help wash",
         "plan",
         "plan 4 3 8",
-        "plan 4 3 8 3 9",
+        "plan 4 3 8 3 0 9",
+        "plan 4 3 8 3 one",
         "plan 4 3 8 x",
         "plan 4 3 8 -3",
         "plan 4 3 8 4294967296",
@@ -72,10 +74,12 @@ fn senseless_lines_are_usage_errors() {
         "demo --keep a --keep b",
         "store 4 3 8 3 data d",
         "store 4 3 8 3 --volume many data d",
+        "store 4 3 8 3 0 0 --volume 7 data d",
         "store 4 3 8 3 --volume 7 --exact=yes data d",
         "store 4 3 8 3 --volume 7 --field 0 data d",
         "test",
         "test c --layout 4,3,8",
+        "test c --layout 4,3,8,3,0,0",
         "test c --field 255",
         "scrub",
         "scrub c --budget some",

@@ -12,4 +12,5 @@ mod repair;
 mod scrub;
 mod several;
 mod sixteen;
+mod stale;
 mod xml;

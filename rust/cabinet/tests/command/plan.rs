@@ -119,13 +119,48 @@ fn failing_conditions_of_the_field_of_257_are_named() {
 }
 
 #[test]
-fn any_four_numbers_get_an_answer() {
+fn a_layout_with_a_share_that_may_be_wrong() {
+    let bench = Bench::new();
+    let text = bench.done("plan 5 3 4 4 1");
+    assert_readable(&text);
+    for (name, value) in [("E", "1"), ("d", "4"), ("s", "2"), ("L", "32")] {
+        let row = row(&text, name);
+        assert_eq!(row.last().map(String::as_str), Some(value), "{name}");
+    }
+    for words in [
+        "Layout (5, 3, 4, 4, 1)",
+        "d - K - 1",
+        "64 = 4 shares of 16 symbols",
+        "50.0 % saved: 64 symbols in place of 128, or 50.0 %",
+    ] {
+        assert!(text.contains(words), "{words} is missing in\n{text}");
+    }
+    assert_eq!(bench.done("plan 4 3 8 3 0"), bench.done("plan 4 3 8 3"));
+    let more = bench.done("plan 4 1 1 3 1");
+    let words = "200.0 % more: 3 symbols in place of 1, or 300.0 %";
+    assert!(more.contains(words), "{more}");
+    for (layout, rule) in [
+        ("5 3 4 2 1", "K + 2 <= d"),
+        ("5 3 4 4 2", "E = 0 or 1"),
+        ("5 3 4 4 4294967295", "E = 0 or 1"),
+        ("13 1 9 12 1", "L <= 4,096"),
+        ("5 3 4 4 1 --field 257", "u = 1, 2, 4, 8 or 16"),
+    ] {
+        let message = bench.refused(1, &format!("plan {layout}"));
+        assert!(message.contains(&format!("needed is {rule}")), "{message}");
+    }
+}
+
+#[test]
+fn any_five_numbers_get_an_answer() {
     let bench = Bench::new();
     for layout in [
         "0 0 0 0",
         "1 1 1 1",
         "2 0 0 1",
+        "2 0 0 1 1",
         "4294967295 4294967295 4294967295 4294967295",
+        "4294967295 4294967295 4294967295 4294967295 4294967295",
     ] {
         bench.refused(1, &format!("plan {layout}"));
         bench.refused(1, &format!("plan {layout} --field 257"));
@@ -144,6 +179,9 @@ fn pictures_are_well_formed_and_whole() {
         ("5 3 4 3", 15, 3),
         ("5 4 15 4 --field 257", 20, 4),
         ("3 16 20 2 --field 257", 48, 2),
+        ("5 3 4 4 1", 15, 4),
+        ("4 1 1 3 1", 4, 3),
+        ("6 4 7 4 1 --field 257", 24, 4),
     ] {
         bench.done(&format!("plan {layout} --svg picture.svg"));
         let picture = String::from_utf8(bench.read("picture.svg")).expect("a picture is text");

@@ -6,12 +6,13 @@ use crate::answer::Answer;
 use crate::cabinet::Cabinet;
 use crate::inputs::{Inputs, Kind, Value};
 use crate::lent::Lent;
-use crate::source::Source;
+use crate::source::{Source, EITHER};
 use reference::image::HEADER;
 
 pub const CALL: Call = Call {
     name: "read_image2",
     shape: &[Kind::Layout, Kind::Small, Kind::Bytes, Kind::Symbols],
+    errors: EITHER,
     grounds: &[1, 2, 9, 10, 11],
     looks: Looks::AtNone,
     example,

@@ -6,11 +6,12 @@ use crate::cabinet::Cabinet;
 use crate::field::in_field;
 use crate::inputs::{Inputs, Kind, Value};
 use crate::lent::Lent;
-use crate::source::Source;
+use crate::source::{Source, EITHER};
 
 pub const CALL: Call = Call {
     name: "margin",
     shape: &[Kind::Layout, Kind::Bytes],
+    errors: EITHER,
     grounds: &[1, 2, 3],
     looks: Looks::AtNone,
     example,

@@ -4,10 +4,12 @@ use super::{library_layout, reference_layout, Call, Looks};
 use crate::answer::Answer;
 use crate::field::in_field;
 use crate::inputs::{Inputs, Kind};
+use crate::source::EITHER;
 
 pub const CALL: Call = Call {
     name: "layout",
     shape: &[Kind::Layout],
+    errors: EITHER,
     grounds: &[1],
     looks: Looks::AtNone,
     example: |_, cabinet| cabinet.inputs([]),

@@ -8,6 +8,7 @@ pub mod read_image;
 pub mod read_part;
 pub mod recover;
 pub mod repair;
+pub mod repair_correcting;
 pub mod repair_many;
 pub mod share;
 pub mod share_add;
@@ -32,6 +33,9 @@ pub struct Call {
     pub name: &'static str,
     /// The kinds of its inputs.
     pub shape: &'static [Kind],
+    /// The numbers E of the layouts that it is for: any other gets 1. A call that
+    /// has no layout is counted with 0.
+    pub errors: &'static [u32],
     /// The grounds that can apply to it, in the order they are tried, but for
     /// that of a number above 256.
     pub grounds: &'static [u32],
@@ -67,7 +71,7 @@ impl Looks {
 }
 
 /// The calls that both fields have alike.
-const COMMON: [&Call; 15] = [
+const COMMON: [&Call; 16] = [
     &measure::CALL,
     &test::CALL,
     &store::CALL,
@@ -78,6 +82,7 @@ const COMMON: [&Call; 15] = [
     &share_many::CALL,
     &share_add_many::CALL,
     &repair_many::CALL,
+    &repair_correcting::CALL,
     &read_part::CALL,
     &write_image::CALL,
     &margin::CALL,
@@ -183,8 +188,8 @@ fn any_lost_count(random: &mut Random, cabinet: &Cabinet) -> usize {
 }
 
 fn library_layout(inputs: &Inputs) -> gesarumbo::Layout {
-    let [racks, size, dimension, helpers] = inputs.layout();
-    gesarumbo::Layout::new(racks, size, dimension, helpers)
+    let [racks, size, dimension, helpers, errors] = inputs.layout();
+    gesarumbo::Layout::with_errors(racks, size, dimension, helpers, errors)
 }
 
 fn reference_layout<F>(inputs: &Inputs) -> reference::Layout<F> {

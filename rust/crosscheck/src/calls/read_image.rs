@@ -6,11 +6,12 @@ use crate::cabinet::Cabinet;
 use crate::field::Field;
 use crate::inputs::{Inputs, Kind, Value};
 use crate::lent::Lent;
-use crate::source::Source;
+use crate::source::{Source, EITHER};
 
 pub const CALL: Call = Call {
     name: "read_image",
     shape: &[Kind::Layout, Kind::Small, Kind::Bytes],
+    errors: EITHER,
     grounds: &[1, 9, 10, 11],
     looks: Looks::AtNone,
     example: |source, cabinet| {
@@ -25,14 +26,22 @@ pub const CALL: Call = Call {
 /// another, of that volume or another, and at times of the other field.
 pub fn expected_and_image(source: &mut Source, cabinet: &Cabinet) -> (u32, Vec<u8>) {
     let own = match source.random.below(16) {
-        0 => source.cabinet(),
-        1..4 => source.cabinet_of(cabinet.field),
+        0 => source.cabinet(EITHER),
+        1..4 => source.cabinet_of(cabinet.field, EITHER),
+        4 => with_other_errors(cabinet),
         _ => *cabinet,
     };
     let written = write_image::example(source, &own);
     let volume = written.small(3) ^ u32::from(source.random.one_in(4));
     let image = (write_image::CALL.reference)(&written).bytes().to_vec();
     (volume, image)
+}
+
+/// The layout that differs from this one in E alone, where that is admissible.
+fn with_other_errors(cabinet: &Cabinet) -> Cabinet {
+    let [racks, size, dimension, helpers, errors] = cabinet.layout;
+    let other = [racks, size, dimension, helpers, 1 - errors];
+    Cabinet::new(cabinet.field, other).unwrap_or(*cabinet)
 }
 
 /// The tray, and the part's place and symbols in the image.

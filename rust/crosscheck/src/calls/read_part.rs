@@ -20,6 +20,7 @@ pub const CALL: Call = Call {
         Kind::Small,
         Kind::Small,
     ],
+    errors: &[0],
     grounds: &[1, 2, 3, 13],
     looks: Looks::AtNone,
     example,

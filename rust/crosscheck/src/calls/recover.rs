@@ -8,11 +8,12 @@ use crate::field::in_field;
 use crate::inputs::{Inputs, Kind, Value};
 use crate::lent::Lent;
 use crate::random::Random;
-use crate::source::Source;
+use crate::source::{Source, EITHER};
 
 pub const CALL: Call = Call {
     name: "recover",
     shape: &[Kind::Layout, Kind::Symbols, Kind::List],
+    errors: EITHER,
     grounds: &[1, 2, 3, 4, 5, 8],
     looks: Looks::AtSome(looks),
     example,

@@ -23,6 +23,7 @@ pub const CALL: Call = Call {
         Kind::Wide,
         Kind::Wide,
     ],
+    errors: &[0],
     grounds: &[1, 2, 3, 4, 5, 6, 7],
     looks: Looks::AtSome(|inputs, at, place| looks(inputs, &[inputs.small(1)], at, place)),
     example,
@@ -49,7 +50,7 @@ pub fn budget(random: &mut Random, left: u64) -> u64 {
 /// In its own groups, at the share symbols and at the sound trays of the host
 /// rack; with no lost tray at nothing. The lost trays must be of one rack.
 pub fn looks(inputs: &Inputs, lost: &[u32], at: usize, place: usize) -> bool {
-    let cabinet = Cabinet::new(inputs.field, inputs.layout()).expect("an admissible layout");
+    let cabinet = Cabinet::named(inputs.field, inputs.layout());
     let (groups, layers) = (cabinet.numbers.groups, cabinet.numbers.layers);
     let Some(&one) = lost.first() else {
         return false;

@@ -22,6 +22,7 @@ pub const CALL: Call = Call {
         Kind::Wide,
         Kind::Wide,
     ],
+    errors: &[0],
     grounds: &[1, 2, 3, 4, 5, 12, 6, 7],
     looks: Looks::AtSome(|inputs, at, place| looks(inputs, inputs.list(1), at, place)),
     example,

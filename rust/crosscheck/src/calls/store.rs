@@ -5,11 +5,12 @@ use crate::answer::Answer;
 use crate::cabinet::Cabinet;
 use crate::field::in_field;
 use crate::inputs::{Inputs, Kind, Value};
-use crate::source::Source;
+use crate::source::{Source, EITHER};
 
 pub const CALL: Call = Call {
     name: "store",
     shape: &[Kind::Layout, Kind::Symbols, Kind::Symbols],
+    errors: EITHER,
     grounds: &[1, 2],
     looks: Looks::AtSome(|_, at, _| at == DATA),
     example,

@@ -6,11 +6,12 @@ use crate::cabinet::Cabinet;
 use crate::damage;
 use crate::field::{in_field, Symbol};
 use crate::inputs::{Inputs, Kind, Value};
-use crate::source::Source;
+use crate::source::{Source, EITHER};
 
 pub const CALL: Call = Call {
     name: "test",
     shape: &[Kind::Layout, Kind::Symbols],
+    errors: EITHER,
     grounds: &[1, 2],
     looks: Looks::AtAll,
     example,

@@ -9,11 +9,12 @@ use crate::damage;
 use crate::field::{in_field, Symbol};
 use crate::inputs::{Inputs, Kind, Value};
 use crate::random::Random;
-use crate::source::Source;
+use crate::source::{Source, EITHER};
 
 pub const CALL: Call = Call {
     name: "walk",
     shape: &[Kind::Layout, Kind::Symbols, Kind::Record, Kind::Wide],
+    errors: EITHER,
     grounds: &[1, 2, 3],
     looks: Looks::AtSome(looks),
     example,

@@ -5,11 +5,12 @@ use crate::answer::Answer;
 use crate::cabinet::Cabinet;
 use crate::field::in_field;
 use crate::inputs::{Inputs, Kind, Value};
-use crate::source::Source;
+use crate::source::{Source, EITHER};
 
 pub const CALL: Call = Call {
     name: "walk_reset",
     shape: &[Kind::Layout, Kind::Record],
+    errors: EITHER,
     grounds: &[1],
     looks: Looks::AtNone,
     example,

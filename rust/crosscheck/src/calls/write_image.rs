@@ -7,7 +7,7 @@ use crate::field::in_field;
 use crate::inputs::{Inputs, Kind, Value};
 use crate::lent::Lent;
 use crate::random::Random;
-use crate::source::Source;
+use crate::source::{Source, EITHER};
 use reference::image::HEADER;
 
 pub const CALL: Call = Call {
@@ -20,6 +20,7 @@ pub const CALL: Call = Call {
         Kind::Symbols,
         Kind::Bytes,
     ],
+    errors: EITHER,
     grounds: &[1, 2, 3],
     looks: Looks::AtAll,
     example,

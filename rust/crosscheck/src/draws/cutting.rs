@@ -10,7 +10,7 @@ use crate::field::Symbol;
 use crate::given::Given;
 use crate::inputs::{Inputs, Value};
 use crate::pair;
-use crate::source::Source;
+use crate::source::{Source, EITHER};
 use crate::spoil::spoil;
 
 pub const DRAW: Draw = Draw {
@@ -37,7 +37,7 @@ struct List {
 }
 
 fn case(all: &mut Crosscheck) {
-    let cabinet = all.source.cabinet();
+    let cabinet = all.source.cabinet(&[0]);
     let mut list = List::start(all, &cabinet);
     list.check(all);
     for _ in 0..all.source.random.below(MOST_CALLS + 1) {
@@ -127,7 +127,7 @@ fn refused(source: &mut Source, own: &Cabinet, spare: &[Symbol]) -> (&'static Ca
     loop {
         let other = source.random.one_in(4);
         let cabinet = if other {
-            source.cabinet_of(own.field)
+            source.cabinet_of(own.field, EITHER)
         } else {
             *own
         };

@@ -9,6 +9,7 @@ use crate::crosscheck::Crosscheck;
 use crate::field::Symbol;
 use crate::inputs::Value;
 use crate::pair;
+use crate::source::EITHER;
 use crate::spoil::spoil;
 
 pub const DRAW: Draw = Draw {
@@ -19,7 +20,7 @@ pub const DRAW: Draw = Draw {
 };
 
 fn case(all: &mut Crosscheck) {
-    let cabinet = all.source.cabinet();
+    let cabinet = all.source.cabinet(EITHER);
     let random = &mut all.source.random;
     let count = cabinet.lost_count(random);
     let length = count * cabinet.numbers.groups;

@@ -8,6 +8,7 @@ mod one_lost;
 mod reading;
 mod same_group;
 mod walks;
+mod wrong_share;
 
 use crate::crosscheck::Crosscheck;
 
@@ -20,7 +21,7 @@ pub struct Draw {
     pub case: fn(&mut Crosscheck),
 }
 
-pub const DRAWS: [&Draw; 8] = [
+pub const DRAWS: [&Draw; 9] = [
     &any_call::DRAW,
     &cutting::DRAW,
     &feeds::DRAW,
@@ -28,5 +29,6 @@ pub const DRAWS: [&Draw; 8] = [
     &reading::DRAW,
     &same_group::DRAW,
     &walks::DRAW,
+    &wrong_share::DRAW,
     &box_calls::DRAW,
 ];

@@ -1,5 +1,5 @@
 //! With one lost tray a call for several is the call for one: both answer the
-//! same and write the same, refused or not.
+//! same and write the same, refused or not. With E = 1 there is no call for several.
 
 use super::Draw;
 use crate::crosscheck::Crosscheck;
@@ -14,7 +14,7 @@ pub const DRAW: Draw = Draw {
 };
 
 fn case(all: &mut Crosscheck) {
-    let cabinet = all.source.cabinet();
+    let cabinet = all.source.cabinet(&[0]);
     let pair = all.source.random.pick(&PAIRS);
     let (inputs, same) = loop {
         let mut inputs = (pair.many.example)(&mut all.source, &cabinet);
@@ -26,7 +26,11 @@ fn case(all: &mut Crosscheck) {
     };
     let several = all.run.compare(pair.many, &inputs);
     let single = all.run.compare(pair.one, &same);
-    all.run.claim(several == single, || {
+    let holds = match inputs.errors() {
+        1 => several.refusal == 1,
+        _ => several == single,
+    };
+    all.run.claim(holds, || {
         format!("{} with one lost tray: {inputs}", pair.many.name)
     });
 }

@@ -16,7 +16,7 @@ pub const DRAW: Draw = Draw {
 /// A repair of a codeword's tray up to some group, and reads that are told as
 /// much of it or less.
 fn case(all: &mut Crosscheck) {
-    let cabinet = all.source.cabinet();
+    let cabinet = all.source.cabinet(&[0]);
     let random = &mut all.source.random;
     let codeword = cabinet.codeword(random);
     let lost = random.below(cabinet.numbers.trays) as u32;

@@ -14,7 +14,7 @@ pub const DRAW: Draw = Draw {
 };
 
 fn case(all: &mut Crosscheck) {
-    let cabinet = all.source.cabinet();
+    let cabinet = all.source.cabinet(&[0]);
     let random = &mut all.source.random;
     let count = cabinet.lost_count(random);
     let lost = cabinet.lost(random, count);

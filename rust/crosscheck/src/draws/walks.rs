@@ -10,7 +10,7 @@ use crate::calls::{walk_reset, Call};
 use crate::crosscheck::Crosscheck;
 use crate::field::{in_field, symbols, Symbol};
 use crate::inputs::{Inputs, Value};
-use crate::source::Source;
+use crate::source::{Source, EITHER};
 use crate::spoil::spoil;
 use reference::scrub::bad_layers;
 
@@ -34,7 +34,7 @@ struct Walk {
 }
 
 fn case(all: &mut Crosscheck) {
-    let cabinet = all.source.cabinet();
+    let cabinet = all.source.cabinet(EITHER);
     let mut walk = Walk::start(all, cabinet);
     for _ in 0..all.source.random.below(MOST_CALLS + 1) {
         if all.source.random.one_in(3) {
@@ -125,7 +125,7 @@ fn record_of(answer: &Answer) -> [u32; 3] {
 fn refused(source: &mut Source, own: &Cabinet, record: [u32; 3]) -> (&'static Call, Inputs) {
     loop {
         let cabinet = if source.random.one_in(4) {
-            source.cabinet_of(own.field)
+            source.cabinet_of(own.field, EITHER)
         } else {
             *own
         };

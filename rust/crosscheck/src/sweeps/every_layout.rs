@@ -1,5 +1,6 @@
 //! The layout call of both fields on every layout in a box that holds all
-//! admissible ones.
+//! admissible ones, with E = 0 and with E = 1; and on each of these with an E that
+//! no layout has.
 
 use super::Sweep;
 use crate::calls::measure;
@@ -31,9 +32,23 @@ fn item(all: &mut Crosscheck, racks: usize) {
     }
 }
 
-fn compare(run: &mut Run, layout: [u32; 4]) {
+/// Numbers E that no layout has, some of them 0 or 1 in their low bits.
+const OTHERS: [u32; 5] = [2, 3, 256, 257, 1 << 31];
+
+fn compare(run: &mut Run, [racks, size, dimension, helpers]: [u32; 4]) {
     for field in FIELDS {
-        let values = vec![Value::Layout(layout)];
-        run.compare(&measure::CALL, &Inputs { field, values });
+        let mut admitted = |errors| {
+            let values = vec![Value::Layout([racks, size, dimension, helpers, errors])];
+            run.compare(&measure::CALL, &Inputs { field, values })
+                .refusal
+                == 0
+        };
+        let [plain, wary] = [0, 1].map(&mut admitted);
+        if plain || wary {
+            let any = OTHERS.map(admitted).contains(&true);
+            run.claim(!any, || {
+                format!("{racks},{size},{dimension},{helpers} with a large E")
+            });
+        }
     }
 }

@@ -17,25 +17,29 @@ pub const SWEEP: Sweep = Sweep {
     item,
 };
 
-const LAYOUTS: [(Field, [u32; 4]); 12] = [
-    (Field::Of256, [2, 1, 1, 1]),
-    (Field::Of256, [3, 1, 1, 2]),
-    (Field::Of256, [4, 3, 8, 3]),
-    (Field::Of256, [4, 3, 5, 2]),
-    (Field::Of256, [2, 17, 17, 1]),
-    (Field::Of256, [5, 5, 9, 4]),
-    (Field::Of257, [2, 1, 1, 1]),
-    (Field::Of257, [3, 1, 1, 2]),
-    (Field::Of257, [5, 4, 15, 4]),
-    (Field::Of257, [4, 4, 7, 2]),
-    (Field::Of257, [2, 16, 16, 1]),
-    (Field::Of257, [5, 8, 17, 4]),
+const LAYOUTS: [(Field, [u32; 5]); 16] = [
+    (Field::Of256, [2, 1, 1, 1, 0]),
+    (Field::Of256, [3, 1, 1, 2, 0]),
+    (Field::Of256, [4, 3, 8, 3, 0]),
+    (Field::Of256, [4, 3, 5, 2, 0]),
+    (Field::Of256, [2, 17, 17, 1, 0]),
+    (Field::Of256, [5, 5, 9, 4, 0]),
+    (Field::Of256, [4, 3, 3, 3, 1]),
+    (Field::Of256, [5, 3, 4, 4, 1]),
+    (Field::Of257, [2, 1, 1, 1, 0]),
+    (Field::Of257, [3, 1, 1, 2, 0]),
+    (Field::Of257, [5, 4, 15, 4, 0]),
+    (Field::Of257, [4, 4, 7, 2, 0]),
+    (Field::Of257, [2, 16, 16, 1, 0]),
+    (Field::Of257, [5, 8, 17, 4, 0]),
+    (Field::Of257, [4, 4, 4, 3, 1]),
+    (Field::Of257, [5, 4, 6, 4, 1]),
 ];
 const VOLUME: u32 = 0x0102_0304;
 
 fn item(all: &mut Crosscheck, at: usize) {
     let (field, layout) = LAYOUTS[at / 2];
-    let cabinet = Cabinet::new(field, layout).expect("the layouts are admissible");
+    let cabinet = Cabinet::named(field, layout);
     let image = image(all, &cabinet, 1 + at as u32 % 2);
     for byte in 0..image.len().min(HEADER + 4) {
         for value in 0..=255 {

@@ -18,17 +18,20 @@ pub const SWEEP: Sweep = Sweep {
     item,
 };
 
-/// Of the layouts with one layer, one in so many.
+/// Of the layouts with one layer, one in so many: with E = 0, with E = 1.
 const FLAT_STEP: usize = 3;
+const WARY_STEP: usize = 20;
 
 fn cabinets(source: &Source) -> impl Iterator<Item = Cabinet> + '_ {
-    let both = source.small(FLAT_STEP);
+    let both = source.small(0, FLAT_STEP).chain(source.small(1, WARY_STEP));
     both.filter(|cabinet| cabinet.field == Field::Of257)
 }
 
 fn item(all: &mut Crosscheck, at: usize) {
     let cabinet = cabinets(&all.source).nth(at).expect("an item is a layout");
-    for call in calls(cabinet.field) {
+    let mut calls = calls(cabinet.field);
+    calls.retain(|call| call.errors.contains(&cabinet.errors()));
+    for call in calls {
         let inputs = (call.example)(&mut all.source, &cabinet);
         for input in 0..inputs.values.len() {
             put(all, call, &inputs, input);

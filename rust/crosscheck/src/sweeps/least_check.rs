@@ -10,6 +10,7 @@ use crate::source::Source;
 
 /// Of the others, one in so many.
 const FLAT_STEP: usize = 2;
+const WARY_STEP: usize = 16;
 const LARGE_STEP: usize = 120;
 
 pub const SWEEP: Sweep = Sweep {
@@ -20,7 +21,13 @@ pub const SWEEP: Sweep = Sweep {
 };
 
 fn cabinets(source: &Source) -> impl Iterator<Item = Cabinet> + '_ {
-    source.small(FLAT_STEP).chain(source.large(LARGE_STEP))
+    let plain = source
+        .small(0, FLAT_STEP)
+        .chain(source.large(0, LARGE_STEP));
+    let wary = source
+        .small(1, WARY_STEP)
+        .chain(source.large(1, LARGE_STEP));
+    plain.chain(wary)
 }
 
 fn item(all: &mut Crosscheck, at: usize) {

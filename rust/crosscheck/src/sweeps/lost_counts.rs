@@ -21,7 +21,7 @@ pub const SWEEP: Sweep = Sweep {
 const FLAT_STEP: usize = 2;
 
 fn cabinets(source: &Source) -> impl Iterator<Item = Cabinet> + '_ {
-    source.small(FLAT_STEP)
+    source.small(0, FLAT_STEP)
 }
 
 /// A count that is 1 in its lowest byte.
@@ -41,7 +41,7 @@ fn item(all: &mut Crosscheck, at: usize) {
 }
 
 fn outside(cabinet: &Cabinet, count: usize) -> bool {
-    let [_, size, dimension, _] = cabinet.layout.map(|number| number as usize);
+    let [_, size, dimension, ..] = cabinet.layout.map(|number| number as usize);
     count == 0 || count > size - dimension % size
 }
 

@@ -10,6 +10,7 @@ mod least_check;
 mod lost_counts;
 mod small_layouts;
 mod whole_repairs;
+mod wrong_shares;
 
 use crate::crosscheck::Crosscheck;
 use crate::source::Source;
@@ -23,7 +24,7 @@ pub struct Sweep {
     pub item: fn(&mut Crosscheck, usize),
 }
 
-pub const SWEEPS: [&Sweep; 9] = [
+pub const SWEEPS: [&Sweep; 10] = [
     &every_layout::SWEEP,
     &small_layouts::SWEEP,
     &least_check::SWEEP,
@@ -31,6 +32,7 @@ pub const SWEEPS: [&Sweep; 9] = [
     &lost_counts::SWEEP,
     &large_numbers::SWEEP,
     &whole_repairs::SWEEP,
+    &wrong_shares::SWEEP,
     &box_losses::SWEEP,
     &box_trays::SWEEP,
 ];

@@ -66,11 +66,15 @@ pub const SWEEP: Sweep = Sweep {
 
 /// The layouts, with a number of lost trays or any.
 fn cases(source: &Source) -> Vec<(Cabinet, Option<usize>)> {
-    let named = |field, layout| Cabinet::new(field, layout).expect("they are admissible");
+    let named = |field, [racks, size, dimension, helpers]: [u32; 4]| {
+        Cabinet::named(field, [racks, size, dimension, helpers, 0])
+    };
     let counted = COUNTED.map(|(field, layout, count)| (named(field, layout), Some(count)));
     let of_256 = NAMED_256.map(|layout| named(Field::Of256, layout));
     let of_257 = NAMED_257.map(|layout| named(Field::Of257, layout));
-    let others = source.small(FLAT_STEP).chain(source.large(LARGE_STEP));
+    let others = source
+        .small(0, FLAT_STEP)
+        .chain(source.large(0, LARGE_STEP));
     let of_any_count = of_256.into_iter().chain(of_257).chain(others);
     counted
         .into_iter()

@@ -12,8 +12,8 @@
 //!   it. [`test()`] looks at every symbol before it answers, [`store`] at the data, [`recover`] at
 //!   the trays that are not listed, the share calls at the rack or tray and, where they add, at the
 //!   shares too, a repair at the share symbols and sound host symbols of its own groups,
-//!   [`write_image`] at the symbols, [`scrub`] at the layers it tests. This holds where the call
-//!   would be refused on a later ground too. No call looks at what it only writes, at lost and
+//!   [`repair_correcting`] at those of all groups, [`write_image`] at the symbols, [`scrub`] at the
+//!   layers it tests. This holds where the call would be refused on a later ground too. No call looks at what it only writes, at lost and
 //!   erased trays, or at other groups and layers; [`read_part`] and a call for no lost tray look at
 //!   no symbol at all.
 //! - **Signs.** Nothing cancels: a tray fed twice to a share counts twice.
@@ -49,6 +49,7 @@
 //! # Ok::<(), gesarumbo::Refusal>(())
 //! ```
 
+mod correcting;
 mod image;
 mod margin;
 mod measure;
@@ -60,6 +61,7 @@ mod share;
 mod store;
 mod test;
 
+pub use correcting::repair_correcting;
 pub use image::{read_image, write_image};
 pub use margin::margin;
 pub use measure::measure;

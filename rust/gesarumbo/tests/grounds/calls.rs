@@ -1,5 +1,5 @@
-// The tests of one field, included for each: the module says what BAD, GOOD and LESS are, U, K and N
-// of GOOD, what a symbol is and how many bytes it has in an image.
+// The tests of one field, included for each: the module says what BAD, GOOD, LESS and WARY are, U, K
+// and N of GOOD, what a symbol is and how many bytes it has in an image.
 
 /// R of GOOD, and the lengths of its buffers.
 const R: u32 = N - K;
@@ -187,6 +187,101 @@ fn repairing_several() {
 }
 
 #[test]
+fn repairing_with_a_wrong_share() {
+    let (outside, n) = (&[1, 0, 5, 3][..], 5 * U);
+    let [falling, five, own] = [&[1, 0, 2, 3][..], &[0, 1, 2, 3, 4], &[0, 1, 2, 4]];
+    for (ground, layout, lost, helpers, longer) in [
+        (Refusal::Layout, BAD, n, outside, [1, 1, 1]),
+        (Refusal::Layout, GOOD, n, outside, [1, 1, 1]),
+        (Refusal::Length, WARY, n, outside, [1, 0, 0]),
+        (Refusal::Length, WARY, n, outside, [0, 1, 0]),
+        (Refusal::Length, WARY, n, outside, [0, 0, 1]),
+        (Refusal::Number, WARY, n, falling, [0; 3]),
+        (Refusal::Number, WARY, n - 1, outside, [0; 3]),
+        (Refusal::Order, WARY, n - 1, falling, [0; 3]),
+        (Refusal::Count, WARY, n - 1, five, [0; 3]),
+        (Refusal::Host, WARY, n - 1, own, [0; 3]),
+        (Refusal::Shares, WARY, n - 1, &[0, 1, 2, 3], [0; 3]),
+    ] {
+        let (lost, helpers) = (Tray::new(lost), racks(helpers));
+        let mut shares = zeros(64 + longer[0]);
+        shares[..2].copy_from_slice(&[0, 9]);
+        shares[16..18].copy_from_slice(&[7, 0]);
+        let host = zeros(2 * RACK + longer[1]);
+        refused(ground, 32 + longer[2], |spare| {
+            repair_correcting(layout, lost, &helpers, &shares, &host, spare)
+        });
+    }
+}
+
+/// One share that is wrong in one symbol, in several or in none.
+#[test]
+fn a_wrong_share_is_named() {
+    let data: Vec<Symbol> = (0..4 * 32).map(|at| (at * 7 % 251) as Symbol).collect();
+    let mut codeword = zeros(5 * 2 * RACK);
+    store(WARY, &data, &mut codeword).expect("data are stored");
+    let lost = Tray::new(U); // the first of rack 1
+    let helpers = racks(&[0, 2, 3, 4]);
+    let mut shares = zeros(64);
+    for (helper, sent) in helpers.iter().zip(shares.chunks_mut(16)) {
+        let rack = &codeword[helper.number() as usize * 2 * RACK..][..2 * RACK];
+        share(WARY, Rack::new(1), *helper, rack, sent).expect("a share is worked out");
+    }
+    let repaired = |shares: &[Symbol]| {
+        let mut spare = vec![99; 32];
+        let host = &codeword[2 * RACK..4 * RACK];
+        repair_correcting(WARY, lost, &helpers, shares, host, &mut spare).map(|done| {
+            assert_eq!(spare, codeword[2 * RACK..][..32]);
+            assert_eq!(done.crossed, 64);
+            done.rack.map(Rack::number)
+        })
+    };
+    let change = |symbol: &mut Symbol| *symbol = Symbol::from(*symbol == 0);
+    assert_eq!(repaired(&shares), Ok(None));
+    for (at, rack) in [0, 2, 3, 4].into_iter().enumerate() {
+        for wrong in [0..1, 15..16, 4..9, 0..16] {
+            let mut stale = shares.clone();
+            stale[16 * at..][wrong].iter_mut().for_each(change);
+            assert_eq!(repaired(&stale), Ok(Some(rack)));
+        }
+    }
+    for at in 1..4 {
+        // Two helpers, each wrong in a group of its own: either group alone could be made right.
+        let mut stale = shares.clone();
+        change(&mut stale[16 * at - 16]);
+        change(&mut stale[16 * at + 15]);
+        assert_eq!(repaired(&stale), Err(Refusal::Shares));
+    }
+}
+
+/// Calls that are for E = 0 only, given what is right for E = 1 but for that.
+#[test]
+fn not_for_wrong_shares() {
+    let (tray, rack, groups) = (Tray::new(0), Rack::new(0), 16);
+    let (helpers, shares, host) = (racks(&[1, 2, 3, 4]), zeros(64), zeros(2 * RACK));
+    assert_eq!(measure(WARY).map(|measured| measured.layers), Ok(32));
+    refused(Refusal::Layout, 32, |spare| {
+        repair(WARY, tray, &helpers, &shares, &host, spare, 0, 1)
+    });
+    refused(Refusal::Layout, 32, |spare| {
+        repair_many(WARY, &[tray], &helpers, &shares, &host, spare, 0, 1)
+    });
+    refused(Refusal::Layout, groups, |share| {
+        share_many(WARY, 1, Rack::new(1), rack, &host, share)
+    });
+    refused(Refusal::Layout, groups, |share| {
+        share_add_many(WARY, 1, Rack::new(1), tray, &zeros(32), share)
+    });
+    let (codeword, spare) = (zeros(10 * RACK), zeros(32));
+    let none = Layer::new(0)..Layer::new(0);
+    let read = read_part(WARY, &codeword, &spare, tray, 0, tray, none);
+    assert_eq!(read, Err(Refusal::Layout));
+    for errors in [2, 257, u32::MAX] {
+        assert_eq!(measure(Layout { errors, ..WARY }), Err(Refusal::Layout));
+    }
+}
+
+#[test]
 fn reading_while_repairing() {
     let codeword: Vec<Symbol> = (0..CODEWORD).map(|at| (at % 251) as Symbol).collect();
     let spare: Vec<Symbol> = (0..16).rev().collect();
@@ -257,7 +352,10 @@ fn reading_an_image() {
     let live = image_of(GOOD, LIVE, 7);
     let demonstration = image_of(GOOD, DEMONSTRATION, 8);
     let other = image_of(LESS, LIVE, 7);
+    let mut with_errors = live.clone();
+    with_errors[9] = 1; // the layout with E = 1 is not admissible
     for (ground, layout, volume, image) in [
+        (Refusal::Malformed, GOOD, 7, &with_errors[..]),
         (Refusal::Layout, BAD, 8, &live[1..]),
         (Refusal::Malformed, GOOD, 8, &live[..IMAGE - 1]),
         (Refusal::Malformed, GOOD, 7, &demonstration[1..]),
@@ -326,6 +424,9 @@ fn nothing_lent_is_a_wrong_length() {
     });
     refused(length, 0, |s| {
         repair_many(GOOD, &[], &[], nothing, nothing, s, 0, 0)
+    });
+    refused(length, 0, |s| {
+        repair_correcting(WARY, tray, &[], nothing, nothing, s)
     });
     let none = Layer::new(0)..Layer::new(0);
     let read = read_part(GOOD, nothing, nothing, tray, 0, tray, none);

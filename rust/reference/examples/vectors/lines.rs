@@ -249,6 +249,61 @@ fn of_repaired<F: Field>(
     }
 }
 
+impl<F: Tried> Line<F> for Correct<F> {
+    const CALL: &'static str = "repair_wrong";
+
+    fn inputs(&self) -> Vec<String> {
+        vec![
+            of_layout(self.layout),
+            self.lost.0.to_string(),
+            of_list(self.helpers.iter().map(|rack| rack.0)),
+            of_symbols::<F>(&self.shares),
+            of_symbols::<F>(&self.host),
+            of_symbols::<F>(&self.spare),
+        ]
+    }
+
+    fn answer(&self) -> String {
+        match self.run() {
+            Ok(done) => {
+                let spare = of_buffer(&done.spare, &self.spare, of_symbols::<F>);
+                format!("0 {} {} {spare}", done.rack.0, done.crossed)
+            }
+            Err(refusal) => format!("{} 0 0 ~", refusal.number()),
+        }
+    }
+}
+
+/// The reading of an image of edition 1, whose symbols are a part of it.
+pub struct ReadImage {
+    pub layout: Layout<Field256>,
+    pub volume: u32,
+    pub image: Vec<u8>,
+}
+
+impl Line<Field256> for ReadImage {
+    const CALL: &'static str = "read_image";
+
+    fn inputs(&self) -> Vec<String> {
+        vec![
+            of_layout(self.layout),
+            self.volume.to_string(),
+            of_bytes(&self.image),
+        ]
+    }
+
+    fn answer(&self) -> String {
+        match read_image(self.layout, self.volume, &self.image) {
+            Ok(read) => {
+                let (tray, length) = (read.tray.0, read.symbols.len());
+                let offset = self.image.len() - length;
+                format!("0 {tray} {offset} {length} {}", of_bytes(read.symbols))
+            }
+            Err(refusal) => format!("{} 0 0 0 x", refusal.number()),
+        }
+    }
+}
+
 /// The reset of a record, which may hold anything.
 pub struct Reset<F> {
     pub layout: Layout<F>,

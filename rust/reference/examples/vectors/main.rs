@@ -1,4 +1,4 @@
-//! Writes the vectors of W1, W6, W7, W8, W10 and W11, in the format of
+//! Writes the vectors of W1, W6, W7, W8, W10, W11 and W12, in the format of
 //! `tests/vectors/FORMAT.md`, into the folder named:
 //!
 //!     cargo run --offline --release -p reference --example vectors -- FOLDER
@@ -12,6 +12,7 @@ mod sheet;
 mod w1;
 mod w10;
 mod w11;
+mod w12;
 mod w6;
 mod w7;
 mod w8;
@@ -22,5 +23,7 @@ fn main() -> std::io::Result<()> {
     of_256
         .into_iter()
         .try_for_each(|sheet| sheet().write(&folder))?;
-    w10::sheet().write(&folder)
+    w10::sheet().write(&folder)?;
+    w12::of_256().write(&folder)?;
+    w12::of_257().write(&folder)
 }

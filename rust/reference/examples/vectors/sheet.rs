@@ -7,6 +7,8 @@ use std::marker::PhantomData;
 /// The lines of one file, all of one field.
 pub struct Sheet<F> {
     name: &'static str,
+    /// Whether layouts have their fifth number (W12).
+    with_errors: bool,
     lines: Vec<String>,
     field: PhantomData<F>,
 }
@@ -22,8 +24,17 @@ impl<F: Field> Sheet<F> {
     pub fn new(name: &'static str) -> Sheet<F> {
         Sheet {
             name,
+            with_errors: false,
             lines: vec![],
             field: PhantomData,
+        }
+    }
+
+    /// A file of layouts with any E.
+    pub fn with_errors(name: &'static str) -> Sheet<F> {
+        Sheet {
+            with_errors: true,
+            ..Sheet::new(name)
         }
     }
 
@@ -59,13 +70,14 @@ impl<F: Field> Sheet<F> {
 
     /// Writes the file: the rules that the reference goes by, then the cases.
     pub fn write(self, folder: &str) -> std::io::Result<()> {
-        let symbols = F::ORDER + 1;
-        let rules = format!("# rules: field={symbols} w2=1 w4=1 w5=1 w12=0");
+        let (symbols, w12) = (F::ORDER + 1, u8::from(self.with_errors));
+        let rules = format!("# rules: field={symbols} w2=1 w4=1 w5=1 w12={w12}");
         let text = [vec![rules], self.lines].concat().join("\n");
         std::fs::write(format!("{folder}/request-{}.txt", self.name), text + "\n")
     }
 }
 
+/// Its numbers, E left out where it is 0.
 pub fn of_layout<F>(layout: Layout<F>) -> String {
     let Layout {
         racks,
@@ -74,7 +86,11 @@ pub fn of_layout<F>(layout: Layout<F>) -> String {
         helpers,
         ..
     } = layout;
-    format!("{racks},{size},{dimension},{helpers}")
+    let four = format!("{racks},{size},{dimension},{helpers}");
+    match layout.errors {
+        0 => four,
+        errors => format!("{four},{errors}"),
+    }
 }
 
 pub fn of_bytes(bytes: &[u8]) -> String {

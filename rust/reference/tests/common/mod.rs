@@ -83,7 +83,13 @@ pub fn shares<F: Field>(
     host: Rack,
     helpers: &[Rack],
 ) -> Vec<F::Symbol> {
-    shares_of_many(layout, codeword, 1, host, helpers)
+    let numbers = layout.numbers().unwrap();
+    let out = vec![F::ZERO; numbers.groups];
+    let of_helper = |&helper: &Rack| {
+        let rack = rack_of(&numbers, codeword, helper.0 as usize);
+        share(layout, host, helper, &rack, &out).unwrap()
+    };
+    helpers.iter().flat_map(of_helper).collect()
 }
 
 /// The shares of the helpers for e lost trays, one after another.

@@ -24,6 +24,11 @@ pub trait Tried: Field {
     /// The same but for e at most 1, and with d = B, which no call takes.
     const ONE_LOST: [u32; 4];
     const INADMISSIBLE: [u32; 4];
+    /// Layouts with E = 1: one layer and several, s = 2 and 3, k no multiple of u,
+    /// racks that neither host nor help.
+    const WARY_SHAPES: [[u32; 5]; 6];
+    /// B 6, d 4, L 64, E 1, one rack that neither hosts nor helps.
+    const WARY: [u32; 5];
     /// Other layouts that no call takes.
     const BAD_LAYOUTS: &'static [[u32; 4]];
     /// Numbers that can be lent and are no symbols.
@@ -59,6 +64,15 @@ impl Tried for Field256 {
     const SMALL_SHAPE: [u32; 4] = [4, 3, 7, 3];
     const ONE_LOST: [u32; 4] = [4, 3, 8, 3];
     const INADMISSIBLE: [u32; 4] = [4, 3, 7, 4];
+    const WARY_SHAPES: [[u32; 5]; 6] = [
+        [4, 1, 1, 3, 1],
+        [5, 3, 7, 4, 1],
+        [5, 1, 1, 4, 1],
+        [5, 3, 4, 4, 1],
+        [6, 3, 5, 4, 1],
+        [6, 1, 1, 5, 1],
+    ];
+    const WARY: [u32; 5] = [6, 3, 5, 4, 1];
     const BAD_LAYOUTS: &'static [[u32; 4]] = &[
         [0; 4],
         [4, 0, 7, 3],
@@ -96,6 +110,15 @@ impl Tried for Field257 {
     const SMALL_SHAPE: [u32; 4] = [4, 4, 9, 3];
     const ONE_LOST: [u32; 4] = [4, 4, 11, 3];
     const INADMISSIBLE: [u32; 4] = [4, 4, 9, 4];
+    const WARY_SHAPES: [[u32; 5]; 6] = [
+        [4, 1, 1, 3, 1],
+        [5, 4, 9, 4, 1],
+        [5, 2, 3, 4, 1],
+        [5, 4, 6, 4, 1],
+        [6, 4, 7, 4, 1],
+        [6, 1, 1, 5, 1],
+    ];
+    const WARY: [u32; 5] = [6, 4, 7, 4, 1];
     const BAD_LAYOUTS: &'static [[u32; 4]] = &[
         [0; 4],
         [4, 0, 9, 3],

@@ -10,4 +10,5 @@ same-layout-spec =
     (λ c. differ _ _ (λ e. c .if1 .taken (ap (λ (x : Layout). x .racks) e)))
     (λ c. differ _ _ (λ e. c .if2 .taken (ap (λ (x : Layout). x .size) e)))
     (λ c. differ _ _ (λ e. c .if3 .taken (ap (λ (x : Layout). x .dimension) e)))
+    (λ c. differ _ _ (λ e. c .if4 .taken (ap (λ (x : Layout). x .helpers) e)))
     (λ c. search same-last))

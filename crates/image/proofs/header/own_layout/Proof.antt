@@ -11,10 +11,12 @@ own-layout-spec =
     (λ c κs. search needs)
     (λ c κs. search needs)
     (λ c κs. search needs)
+    (λ c κs. search needs)
     (λ c i.
     record {
-      racks = c .before .before .before .byte-at .ensures .0 i;
-      size = c .before .before .byte-at2 .ensures .0 i;
-      dimension = c .before .byte-at3 .ensures .0 i;
-      helpers = c .byte-at4 .ensures .0 i;
+      racks = c .before .before .before .before .byte-at .ensures .0 i;
+      size = c .before .before .before .byte-at2 .ensures .0 i;
+      dimension = c .before .before .byte-at3 .ensures .0 i;
+      helpers = c .before .byte-at4 .ensures .0 i;
+      errors = c .byte-at5 .ensures .0 i;
     }))

@@ -10,6 +10,7 @@ use reference::sixteen::DIMENSION;
 pub const CALL: Call = Call {
     name: "box_data",
     shape: &[Kind::Bytes, Kind::List, Kind::Bytes],
+    errors: &[0],
     grounds: &[2, 3, 4, 5, 8],
     looks: Looks::AtNone,
     example: |source, _| {

@@ -30,7 +30,13 @@ pub const FIELD: Field = Field::Of256;
 /// The box's numbers in place of a layout's: what a spoilt input is near to.
 pub const NUMBERS: Cabinet = Cabinet {
     field: FIELD,
-    layout: [RACKS as u32, SIZE as u32, DIMENSION as u32, HELPERS as u32],
+    layout: [
+        RACKS as u32,
+        SIZE as u32,
+        DIMENSION as u32,
+        HELPERS as u32,
+        0,
+    ],
     numbers: Numbers {
         racks: RACKS,
         size: SIZE,

@@ -8,6 +8,7 @@ use crate::lent::Lent;
 pub const CALL: Call = Call {
     name: "box_recover",
     shape: ERASED,
+    errors: &[0],
     grounds: &[2, 3, 4, 5, 8],
     looks: Looks::AtNone,
     example: |source, _| survivors(&mut source.random),

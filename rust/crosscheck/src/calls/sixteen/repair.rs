@@ -16,6 +16,7 @@ pub const CALL: Call = Call {
         Kind::Bytes,
         Kind::Bytes,
     ],
+    errors: &[0],
     grounds: &[2, 3, 4, 5, 6, 8],
     looks: Looks::AtNone,
     example: |source, _| example(&mut source.random),

@@ -10,6 +10,7 @@ use reference::sixteen::{RACKS, SIZE};
 pub const CALL: Call = Call {
     name: "box_share",
     shape: &[Kind::Small, Kind::Small, Kind::Bytes, Kind::Bytes],
+    errors: &[0],
     grounds: &[2, 3, 6],
     looks: Looks::AtNone,
     example: |source, _| example(&mut source.random),

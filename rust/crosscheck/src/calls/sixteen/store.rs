@@ -10,6 +10,7 @@ use reference::sixteen::{DIMENSION, TRAYS};
 pub const CALL: Call = Call {
     name: "box_store",
     shape: &[Kind::Bytes, Kind::Bytes],
+    errors: &[0],
     grounds: &[2, 3],
     looks: Looks::AtNone,
     example: |source, _| example(&mut source.random),

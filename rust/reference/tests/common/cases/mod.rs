@@ -2,6 +2,7 @@
 //! which they are refused.
 
 mod codewords;
+mod corrections;
 mod images;
 mod margins;
 mod parts;
@@ -10,6 +11,7 @@ mod shares;
 mod walks;
 
 pub use codewords::{Recover, Store, Test};
+pub use corrections::Correct;
 pub use images::{CopyImage, WriteImage};
 pub use margins::Margin;
 pub use parts::ReadPart;
@@ -21,7 +23,7 @@ use super::Tried;
 use reference::*;
 
 /// The order in which the grounds are tried.
-pub const ORDER: [Refusal; 13] = [
+pub const ORDER: [Refusal; 14] = [
     Refusal::Layout,
     Refusal::Length,
     Refusal::Number,
@@ -35,6 +37,7 @@ pub const ORDER: [Refusal; 13] = [
     Refusal::Demonstration,
     Refusal::Other,
     Refusal::NotRepaired,
+    Refusal::Shares,
 ];
 
 /// A fault and the ground it brings about.

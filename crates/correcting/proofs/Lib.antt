@@ -1,0 +1,11 @@
+pub mod Choices
+pub mod Settled
+pub mod Symbols
+pub mod Refusals
+pub mod Exact
+pub mod Lists
+pub mod Layouts
+pub mod Mends
+pub mod Answers
+pub mod Unique
+pub mod Calls

@@ -1,0 +1,16 @@
+-- Made by tools/twin.py from crates/correcting/proofs/short_layout/Proof.antt.
+use mathlib.Core.Path.{refl}
+use Rattle.layout.proofs.Facts.{size-pos}
+use Rattle.correcting.specs.Inner.{shorter}
+use Rattle.correcting.proofs.Layouts.{short-fits}
+use borrow.Author.Needs.{needs}
+use Rattle.correcting257.proofs.short_layout.Statement.{statement}
+use Rattle.correcting257.proofs.short_layout.Tie as tie
+
+pub short-layout-spec : {M : Type 1} → statement M
+short-layout-spec =
+    tie.close (tie.spec
+    (λ c. search size-pos)
+    (λ c. search needs)
+    (λ c. search short-fits)
+    (λ c. unfold shorter in refl))

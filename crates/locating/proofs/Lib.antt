@@ -1,0 +1,4 @@
+pub mod Rows
+pub mod Parts
+pub mod Blocks
+pub mod Located
