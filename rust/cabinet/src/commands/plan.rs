@@ -145,6 +145,12 @@ fn print_survival(numbers: &Numbers, screen: &mut Screen) {
 fn print_traffic(numbers: &Numbers, screen: &mut Screen) {
     screen.heading("Traffic when one tray is lost");
     traffic::print(numbers, screen);
+    if numbers.errors == 0 {
+        screen.line(
+            "  no method in which each helper sends a fixed number of symbols needs fewer"
+                .to_string(),
+        );
+    }
     let crossing = numbers.plain_crossing();
     if crossing < numbers.data() {
         let part = percent(numbers.traffic(), crossing);
