@@ -1,6 +1,6 @@
 /*
  * A cabinet's life in one program: data are stored, a reset tray is refused, a lost tray is
- * repaired in pieces and read meanwhile, the codeword is tested some layers at a time, two erased
+ * repaired in pieces and by a card and read meanwhile, the codeword is tested some layers at a time, two erased
  * trays are recovered. In a cabinet with less data, two lost trays of one rack are repaired. In one
  * that allows for a wrong share, a lost tray is repaired although one rack's share is stale. Racks
  * of four trays are had in the second field, where a tray is stored, repaired and imaged.
@@ -16,7 +16,7 @@
 /* The cabinet: four racks of three trays, eight trays' worth of data, three helpers. */
 enum { RACKS = 4, SIZE = 3, TRAYS = RACKS * SIZE, DATA = 8, HELPERS = 3 };
 /* What follows from it. */
-enum { LAYERS = 16, GROUPS = 8, IMAGE = 24 + LAYERS };
+enum { LAYERS = 16, GROUPS = 8, IMAGE = 24 + LAYERS, CARD = HELPERS * (LAYERS / GROUPS) };
 /* The lengths of its buffers. */
 enum { DATA_LENGTH = DATA * LAYERS, CODEWORD_LENGTH = TRAYS * LAYERS };
 enum { RACK_LENGTH = SIZE * LAYERS, SHARES_LENGTH = HELPERS * GROUPS };
@@ -84,6 +84,7 @@ static int guards_untouched(void)
 
 /* What the cabinet works with, all of it lent from the pool. */
 static uint8_t *data, *codeword, *images, *shares, *spare, *states, *shares_of_two, *two_spares;
+static uint8_t *card;
 static uint8_t *wary_codeword, *wary_shares, *wary_spare;
 static uint32_t *helpers, *erased, *lost, *wary_helpers;
 /* The same for the second field. */
@@ -105,6 +106,7 @@ static void lend_all(void)
     lost = lend(LOST * sizeof *lost);
     shares_of_two = lend(LOST * SHARES_LENGTH);
     two_spares = lend(LOST * LAYERS);
+    card = lend(CARD);
     wary_codeword = lend(WARY_TRAYS * WARY_LAYERS);
     wary_shares = lend(WARY_SHARES);
     wary_spare = lend(WARY_LAYERS);
@@ -252,6 +254,27 @@ static void repair_in_pieces(void)
     memcpy(tray_at(5), spare, LAYERS);
 }
 
+/* The works print a card for group 3 of the same repair; at first one multiplier is wrong. */
+static void repair_by_card(void)
+{
+    must(gesarumbo_card(layout, 5, helpers, HELPERS, 3, card, CARD) == 0, "a card is printed");
+    print_bytes("card of group 3:", card, CARD);
+    card[4] ^= 1;
+    printf("a wrong card: refused %u\n",
+           gesarumbo_card_test(layout, 5, helpers, HELPERS, card, CARD, 3));
+    card[4] ^= 1;
+    must(gesarumbo_card_test(layout, 5, helpers, HELPERS, card, CARD, 3) == 0,
+         "the card that was printed is right");
+    memset(spare, 0xEE, LAYERS);
+    gesarumbo_repaired done = gesarumbo_card_repair(layout, 5, helpers, HELPERS, card, CARD, shares,
+                                                    SHARES_LENGTH, rack_at(1), RACK_LENGTH, spare,
+                                                    LAYERS, 3);
+    must(done.refusal == 0 && done.groups == 1, "a group is repaired by its card");
+    printf("by card: crossed %u, still to come %u\n", (unsigned)done.crossed,
+           (unsigned)done.remaining);
+    print_bytes("spare:", spare, LAYERS);
+}
+
 static void print_test(void)
 {
     gesarumbo_tested t = gesarumbo_test(layout, codeword, CODEWORD_LENGTH);
@@ -340,6 +363,10 @@ static void lend_nothing(void)
                .refusal);
     printf(", correcting %u",
            gesarumbo_repair_correcting(wary, 5, NULL, 0, NULL, 0, NULL, 0, NULL, 0).refusal);
+    printf(", cards %u %u %u", gesarumbo_card(layout, 5, NULL, 0, 0, NULL, 0),
+           gesarumbo_card_test(layout, 5, NULL, 0, NULL, 0, 0),
+           gesarumbo_card_repair(layout, 5, NULL, 0, NULL, 0, NULL, 0, NULL, 0, NULL, 0, 0)
+               .refusal);
     printf(", part %u",
            gesarumbo_read_part(layout, NULL, 0, NULL, 0, 5, 0, 5, 0, 0).refusal);
     printf(", write %u", gesarumbo_write_image(layout, 5, LIVE, VOLUME, NULL, 0, NULL, 0));
@@ -448,6 +475,7 @@ static void correct_a_share(void)
                             wary_codeword + WARY_RACK, WARY_RACK, wary_spare, WARY_LAYERS, 0, 1)
                .refusal,
            repair_correcting(layout).refusal);
+    must(two.rack == 0 && two.crossed == 0, "a refusal's other numbers are 0");
     must(memcmp(wary_spare, tray, WARY_LAYERS) == 0, "a refusal changes nothing");
 }
 
@@ -532,6 +560,7 @@ int main(void)
     refuse_demonstration();
     collect_shares();
     repair_in_pieces();
+    repair_by_card();
     test();
     scrub();
     recover();

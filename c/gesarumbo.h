@@ -29,7 +29,8 @@
  *    3   a tray or rack number outside the layout, a state outside its values, an image to be
  *        written with volume number 0, a scrub record that breaks a rule named at gesarumbo_scrub,
  *        a run of layers outside 0 .. L or one that ends before it begins, more groups done than
- *        there are, or a symbol of the second field above 256
+ *        there are, a card's group not below L/s, or a symbol or multiplier of the second field
+ *        above 256
  *    4   a list is not strictly rising
  *    5   more than r trays erased, or not exactly d helpers
  *   12   not 1 to u - v lost trays
@@ -42,6 +43,7 @@
  *   11   image of another layout or volume
  *   13   a layer asked for of the lost tray is not in a group that is done
  *   14   the shares do not meet the checks, and no change of one helper's share makes them
+ *   15   the card is not right
  *
  * A refused call has changed no byte of any buffer, and every other number it answers is 0; a scrub
  * record is handed back as it came.
@@ -279,6 +281,48 @@ gesarumbo_corrected gesarumbo_repair_correcting(gesarumbo_layout layout, uint32_
                                                 uint8_t *spare, size_t spare_length);
 
 /*
+ * Repair cards. A card for a lost tray, d helpers and a group has d multipliers for each of the s
+ * sums of the lost tray's rack, d*s bytes: those of digit 0 first, helpers in their order. The sum
+ * of digit a is the exclusive or of the helpers' share symbols of the group, each times its
+ * multiplier for a. A card is right where this gives the sums of the host rack in the layers of the
+ * group for every codeword of the layout. There is exactly one right card for a host rack, helpers
+ * and a group; which tray of the rack is lost does not matter.
+ *
+ * Prints the right card into the d*s bytes of card.
+ * Grounds: 1, also for E = 1; 2, card; 3, the tray, a helper, or a group not below L/s; 4; 5; 6.
+ * Done: every byte of card is written, whatever it held.
+ */
+uint32_t gesarumbo_card(gesarumbo_layout layout, uint32_t lost,
+                        const uint32_t *helpers, size_t helpers_count, uint64_t group,
+                        uint8_t *card, size_t card_length);
+
+/*
+ * Tests a card, whoever has printed it.
+ * Grounds: 1, also for E = 1; 2, card; 3, the tray, a helper, or a group not below L/s; 4; 5; 6; 15,
+ * exactly when the card is not right.
+ * Done: the card is right. Nothing is written.
+ */
+uint32_t gesarumbo_card_test(gesarumbo_layout layout, uint32_t lost,
+                             const uint32_t *helpers, size_t helpers_count,
+                             const uint8_t *card, size_t card_length, uint64_t group);
+
+/*
+ * Repairs one group of a lost tray by a card, which is tested too. All else is lent as to
+ * gesarumbo_repair.
+ * Grounds: 1, also for E = 1; 2, card, shares, host or spare; 3, the tray, a helper, or a group not
+ * below L/s; 4; 5; 6; 15, exactly when the card is not right.
+ * Done: what gesarumbo_repair does and answers with first group group and a budget of 1, for any
+ * shares: the group's layers of spare are written, and no other byte. So the call may stand for that
+ * piece in a repair that is cut.
+ */
+gesarumbo_repaired gesarumbo_card_repair(gesarumbo_layout layout, uint32_t lost,
+                                         const uint32_t *helpers, size_t helpers_count,
+                                         const uint8_t *card, size_t card_length,
+                                         const uint8_t *shares, size_t shares_length,
+                                         const uint8_t *host, size_t host_length,
+                                         uint8_t *spare, size_t spare_length, uint64_t group);
+
+/*
  * Reads layers first to end - 1 of a tray while the tray lost is being repaired in spare, where so
  * many groups are done from group 0. codeword, the store, has n*L bytes and spare has L.
  * Grounds: 1, also for E = 1; 2, codeword or spare; 3, either tray, groups above L/s, end above L, or
@@ -369,10 +413,10 @@ gesarumbo_scrubbed gesarumbo_scrub(gesarumbo_layout layout,
  * Layouts. u is 1, 2, 4, 8 or 16; the other conditions are the same. Points and weights are powers
  * of 3, with 256/u in place of 255/u.
  *
- * Symbols are the numbers 0 to 256, and every sum is one modulo 257 in place of the exclusive or.
- * So signs matter: a lost symbol is the host rack's sum less its other trays' symbols, and a tray
- * fed twice to a share counts twice. Lengths count symbols; images and states stay bytes, and their
- * lengths count bytes.
+ * Symbols, and the multipliers of cards, are the numbers 0 to 256, and every sum is one modulo 257
+ * in place of the exclusive or. So signs matter: a lost symbol is the host rack's sum less its other
+ * trays' symbols, and a tray fed twice to a share counts twice. Lengths count symbols; images and
+ * states stay bytes, and their lengths count bytes.
  *
  * Ground 3 applies also where a number above 256 stands where the call looks:
  *
@@ -384,6 +428,9 @@ gesarumbo_scrubbed gesarumbo_scrub(gesarumbo_layout layout,
  *    repair, repair_many         the share symbols of the groups that the call does, and the
  *                                symbols of the host's sound trays in their layers
  *    repair_correcting           the shares, and the host's sound trays
+ *    card_test                   the card
+ *    card_repair                 the card, the share symbols of the group, and the symbols of the
+ *                                host's sound trays in its layers
  *    write_image                 the symbols
  *    scrub                       the layers that the call tests
  *
@@ -454,6 +501,21 @@ gesarumbo_corrected gesarumbo257_repair_correcting(gesarumbo_layout layout, uint
                                                    const uint16_t *shares, size_t shares_length,
                                                    const uint16_t *host, size_t host_length,
                                                    uint16_t *spare, size_t spare_length);
+
+uint32_t gesarumbo257_card(gesarumbo_layout layout, uint32_t lost,
+                           const uint32_t *helpers, size_t helpers_count, uint64_t group,
+                           uint16_t *card, size_t card_length);
+
+uint32_t gesarumbo257_card_test(gesarumbo_layout layout, uint32_t lost,
+                                const uint32_t *helpers, size_t helpers_count,
+                                const uint16_t *card, size_t card_length, uint64_t group);
+
+gesarumbo_repaired gesarumbo257_card_repair(gesarumbo_layout layout, uint32_t lost,
+                                            const uint32_t *helpers, size_t helpers_count,
+                                            const uint16_t *card, size_t card_length,
+                                            const uint16_t *shares, size_t shares_length,
+                                            const uint16_t *host, size_t host_length,
+                                            uint16_t *spare, size_t spare_length, uint64_t group);
 
 gesarumbo_part gesarumbo257_read_part(gesarumbo_layout layout,
                                       const uint16_t *codeword, size_t codeword_length,

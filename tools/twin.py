@@ -24,6 +24,8 @@ TWINS = {
     'testing': [],
     'sums': ['digit_point', 'inverse'],
     'group': [],
+    'multipliers': [],
+    'cards': ['card_sum'],
     'pieces': [],
     'locating': [],
     'correcting': [],

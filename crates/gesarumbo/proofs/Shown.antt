@@ -22,8 +22,9 @@ use Rattle.gesarumbo.specs.declared.numbers.PartNumbers.{PartNumbers}
 use Rattle.gesarumbo.specs.declared.numbers.RepairNumbers.{RepairNumbers}
 use Rattle.correcting.specs.declared.Corrected.{Corrected}
 use Rattle.correcting.specs.Correcting.{CorrectingAnswer}
+use Rattle.cards.specs.Cards.{PrintAnswer, TestAnswer, CardAnswer}
 use Rattle.gesarumbo.specs.declared.numbers.CorrectedNumbers.{CorrectedNumbers}
-use Rattle.gesarumbo.specs.Boundary.{repairNumbers, correctedNumbers, ReadShown, RepairShown, CorrectingShown, PartShown}
+use Rattle.gesarumbo.specs.Boundary.{repairNumbers, correctedNumbers, ReadShown, RepairShown, CorrectingShown, CardShown, PartShown}
 use Rattle.gesarumbo.specs.Inner.{partNumbers}
 
 -- a part is as long as it says
@@ -74,6 +75,11 @@ module _ {A : Type 0} (f : Field A) (l : Layout) (helpers shares host old new : 
       CorrectingShown f l lost helpers shares host old new r
   correcting-shown a r right shown =
       record { answer = a; right = subst (λ x. CorrectingAnswer f l x helpers shares host old new a) e right; shown = shown }
+
+  pub card-shown : (card : List ℕ) (group : ℕ) (a : Repaired) (r : RepairNumbers) → CardAnswer f l (t .0) helpers card shares host group old new a → r ≡ repairNumbers a →
+      CardShown f l lost helpers card shares host group old new r
+  card-shown card group a r right shown =
+      record { answer = a; right = subst (λ x. CardAnswer f l x helpers card shares host group old new a) e right; shown = shown }
 
 -- and so is one of two runs
 own-run : (b : Bool) (n x y : ℕ) (s c part : List ℕ) → part ≡ cond b (take n (drop x s)) (take n (drop y c)) →

@@ -24,6 +24,7 @@ use Rattle.repair.specs.declared.Repaired.{Repaired}
 use Rattle.repair.specs.Repair.{report, RepairAnswer}
 use Rattle.correcting.specs.declared.Corrected.{Corrected}
 use Rattle.correcting.specs.Correcting.{CorrectingAnswer, report as corrected}
+use Rattle.cards.specs.Cards.{CardAnswer}
 use Rattle.reading.specs.Reading.{partRefusal, partGiven}
 use Rattle.gesarumbo.specs.declared.numbers.CorrectedNumbers.{CorrectedNumbers}
 use Rattle.gesarumbo.specs.declared.numbers.PartNumbers.{PartNumbers}
@@ -76,6 +77,12 @@ pub record CorrectingShown {A : Type 0} (f : Field A) (l : Layout) (lost : ℕ) 
   pub answer : Corrected
   pub right : CorrectingAnswer f l lost helpers shares host old new answer
   pub shown : r ≡ correctedNumbers answer
+
+-- and of the repair by card
+pub record CardShown {A : Type 0} (f : Field A) (l : Layout) (lost : ℕ) (helpers card shares host : List ℕ) (group : ℕ) (old new : List ℕ) (r : RepairNumbers) : Type 0 where
+  pub answer : Repaired
+  pub right : CardAnswer f l lost helpers card shares host group old new answer
+  pub shown : r ≡ repairNumbers answer
 
 -- the place of the part that a read gives while a tray is being repaired: source is 1 for the codeword and 2 for the spare. N is the number of powers of the field's root
 module _ (N : ℕ) (l : Layout) (codeword spare : List ℕ) (lost done tray first end : ℕ) where

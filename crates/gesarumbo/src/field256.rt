@@ -23,7 +23,8 @@ ghost use Rattle.margin.specs.Margin.{marginRefusal, marginValue};
 ghost use Rattle.share.specs.Share.{shareRefusal, shareBuffer, addRefusal, addBuffer};
 ghost use Rattle.share.specs.Many.{manyRefusal, manyBuffer, addManyRefusal, addManyBuffer};
 ghost use Rattle.scrub.specs.Scrub.{scrubbed, begun};
-ghost use Rattle.gesarumbo.specs.Boundary.{measureNumbers, scrubNumbers, TestShown, RepairShown, CorrectingShown, PartShown};
+ghost use Rattle.cards.specs.Cards.{PrintAnswer, TestAnswer};
+ghost use Rattle.gesarumbo.specs.Boundary.{measureNumbers, scrubNumbers, TestShown, RepairShown, CorrectingShown, CardShown, PartShown};
 
 #[no_mangle]
 pub extern "C" fn gesarumbo_measure(l: Layout) -> MeasureNumbers
@@ -165,6 +166,57 @@ pub extern "C" fn gesarumbo_repair_correcting(
         shares,
         host,
         spare,
+    ))
+}
+
+#[no_mangle]
+pub extern "C" fn gesarumbo_card(
+    l: Layout,
+    lost: u32,
+    helpers: &[u32],
+    group: u64,
+    card: &mut [u8],
+) -> u32
+    ensures { λ r. ⌜ PrintAnswer gf256 l lost (now (helpers .entry)) group (now (card .entry)) (now (card .exit)) r ⌝ }
+{
+    cards::card_print(l, Tray::of(lost), helpers, card, group) as u32
+}
+
+#[no_mangle]
+pub extern "C" fn gesarumbo_card_test(
+    l: Layout,
+    lost: u32,
+    helpers: &[u32],
+    card: &[u8],
+    group: u64,
+) -> u32
+    ensures { λ r. ⌜ TestAnswer gf256 l lost (now (helpers .entry)) (now (card .entry)) group r ⌝ }
+{
+    cards::card_test(l, Tray::of(lost), helpers, card, group) as u32
+}
+
+#[no_mangle]
+pub extern "C" fn gesarumbo_card_repair(
+    l: Layout,
+    lost: u32,
+    helpers: &[u32],
+    card: &[u8],
+    shares: &[u8],
+    host: &[u8],
+    spare: &mut [u8],
+    group: u64,
+) -> RepairNumbers
+    ensures { λ r. ⌜ CardShown gf256 l lost (now (helpers .entry)) (now (card .entry)) (now (shares .entry)) (now (host .entry)) group (now (spare .entry)) (now (spare .exit)) r ⌝ }
+{
+    numbers::repair_numbers(cards::card_repair(
+        l,
+        Tray::of(lost),
+        helpers,
+        card,
+        shares,
+        host,
+        spare,
+        group,
     ))
 }
 

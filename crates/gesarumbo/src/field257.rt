@@ -24,7 +24,8 @@ ghost use Rattle.margin.specs.Margin.{marginRefusal, marginValue};
 ghost use Rattle.share.specs.Share.{shareRefusal, shareBuffer, addRefusal, addBuffer};
 ghost use Rattle.share.specs.Many.{manyRefusal, manyBuffer, addManyRefusal, addManyBuffer};
 ghost use Rattle.scrub.specs.Scrub.{scrubbed, begun};
-ghost use Rattle.gesarumbo.specs.Boundary.{measureNumbers, scrubNumbers, TestShown, RepairShown, CorrectingShown, PartShown};
+ghost use Rattle.cards.specs.Cards.{PrintAnswer, TestAnswer};
+ghost use Rattle.gesarumbo.specs.Boundary.{measureNumbers, scrubNumbers, TestShown, RepairShown, CorrectingShown, CardShown, PartShown};
 
 #[no_mangle]
 pub extern "C" fn gesarumbo257_measure(l: Layout) -> MeasureNumbers
@@ -166,6 +167,57 @@ pub extern "C" fn gesarumbo257_repair_correcting(
         shares,
         host,
         spare,
+    ))
+}
+
+#[no_mangle]
+pub extern "C" fn gesarumbo257_card(
+    l: Layout,
+    lost: u32,
+    helpers: &[u32],
+    group: u64,
+    card: &mut [u16],
+) -> u32
+    ensures { λ r. ⌜ PrintAnswer gf257 l lost (now (helpers .entry)) group (now (card .entry)) (now (card .exit)) r ⌝ }
+{
+    cards257::card_print(l, Tray::of(lost), helpers, card, group) as u32
+}
+
+#[no_mangle]
+pub extern "C" fn gesarumbo257_card_test(
+    l: Layout,
+    lost: u32,
+    helpers: &[u32],
+    card: &[u16],
+    group: u64,
+) -> u32
+    ensures { λ r. ⌜ TestAnswer gf257 l lost (now (helpers .entry)) (now (card .entry)) group r ⌝ }
+{
+    cards257::card_test(l, Tray::of(lost), helpers, card, group) as u32
+}
+
+#[no_mangle]
+pub extern "C" fn gesarumbo257_card_repair(
+    l: Layout,
+    lost: u32,
+    helpers: &[u32],
+    card: &[u16],
+    shares: &[u16],
+    host: &[u16],
+    spare: &mut [u16],
+    group: u64,
+) -> RepairNumbers
+    ensures { λ r. ⌜ CardShown gf257 l lost (now (helpers .entry)) (now (card .entry)) (now (shares .entry)) (now (host .entry)) group (now (spare .entry)) (now (spare .exit)) r ⌝ }
+{
+    numbers::repair_numbers(cards257::card_repair(
+        l,
+        Tray::of(lost),
+        helpers,
+        card,
+        shares,
+        host,
+        spare,
+        group,
     ))
 }
 

@@ -2,6 +2,7 @@
 
 use crate::answer::Answer;
 use crate::cabinet::Cabinet;
+use crate::calls::card_print::Place;
 use crate::calls::repair::{budget, SPARE};
 use crate::calls::{many_shares, Call};
 use crate::field::Symbol;
@@ -118,6 +119,30 @@ impl Given {
         inputs
     }
 
+    /// The inputs of the repair of a group by a card; one tray is lost.
+    pub fn by_card(
+        &self,
+        random: &mut Random,
+        spare: &[Symbol],
+        group: u64,
+        card: Vec<Symbol>,
+    ) -> Inputs {
+        let mut inputs = self.all_groups(random, spare);
+        let last = [Value::Wide(group), Value::Symbols(card)];
+        inputs.values.extend(last);
+        inputs
+    }
+
+    /// What a card of its first group is for; one tray is lost.
+    pub fn place(&self) -> Place {
+        Place {
+            cabinet: self.cabinet,
+            lost: self.lost[0],
+            helpers: self.helpers.clone(),
+            group: 0,
+        }
+    }
+
     /// Changes the share of a helper, by its place in the list, in these groups.
     pub fn spoil_share(&mut self, random: &mut Random, helper: usize, groups: &[u32]) {
         let field = self.cabinet.field;
@@ -142,7 +167,7 @@ impl Given {
 
     /// The host rack's symbols at the lost trays, which nobody looks at, are noise
     /// of each piece's own.
-    fn inputs(&self, random: &mut Random, spare: &[Symbol], first: u64, budget: u64) -> Inputs {
+    pub fn inputs(&self, random: &mut Random, spare: &[Symbol], first: u64, budget: u64) -> Inputs {
         let cabinet = &self.cabinet;
         let mut host = self.host.clone();
         for tray in &self.lost {
@@ -166,6 +191,7 @@ fn rack_of(cabinet: &Cabinet, lost: &[u32]) -> u32 {
     lost.first().map_or(0, |&tray| cabinet.rack_of(tray))
 }
 
-fn helpers(random: &mut Random, cabinet: &Cabinet, host: u32) -> Vec<u32> {
+/// Random helpers for a host rack.
+pub fn helpers(random: &mut Random, cabinet: &Cabinet, host: u32) -> Vec<u32> {
     random.some_of(cabinet.numbers.helpers, cabinet.other_racks(host))
 }

@@ -10,7 +10,7 @@ use std::path::{Path, PathBuf};
 
 /// The requests that have landed. Each new one is named here.
 pub const LANDED: &[&str] = &[
-    "W1", "W2", "W4", "W5", "W6", "W7", "W8", "W10", "W11", "W12",
+    "W1", "W2", "W4", "W5", "W6", "W7", "W8", "W10", "W11", "W12", "W13",
 ];
 
 /// Cases replayed and left out.

@@ -198,6 +198,42 @@ macro_rules! calls {
                     spare: *mut $symbol,
                     spare_length: usize,
                 ) -> Corrected;
+                #[link_name = concat!($prefix, "_card")]
+                pub fn card(
+                    layout: Layout,
+                    lost: Tray,
+                    helpers: *const Rack,
+                    count: usize,
+                    group: u64,
+                    card: *mut $symbol,
+                    card_length: usize,
+                ) -> u32;
+                #[link_name = concat!($prefix, "_card_test")]
+                pub fn card_test(
+                    layout: Layout,
+                    lost: Tray,
+                    helpers: *const Rack,
+                    count: usize,
+                    card: *const $symbol,
+                    card_length: usize,
+                    group: u64,
+                ) -> u32;
+                #[link_name = concat!($prefix, "_card_repair")]
+                pub fn card_repair(
+                    layout: Layout,
+                    lost: Tray,
+                    helpers: *const Rack,
+                    count: usize,
+                    card: *const $symbol,
+                    card_length: usize,
+                    shares: *const $symbol,
+                    shares_length: usize,
+                    host: *const $symbol,
+                    host_length: usize,
+                    spare: *mut $symbol,
+                    spare_length: usize,
+                    group: u64,
+                ) -> Repaired;
                 #[link_name = concat!($prefix, "_read_part")]
                 pub fn read_part(
                     layout: Layout,
@@ -444,6 +480,79 @@ macro_rules! calls {
                     host.len(),
                     spare.as_mut_ptr(),
                     spare.len(),
+                )
+            }
+        }
+
+        pub fn card(
+            layout: Layout,
+            lost: Tray,
+            helpers: &[Rack],
+            group: u64,
+            card: &mut [$symbol],
+        ) -> u32 {
+            // SAFETY: both slices are lent for the call, the written one alone; a rack is a 32-bit number.
+            unsafe {
+                c::card(
+                    layout,
+                    lost,
+                    helpers.as_ptr(),
+                    helpers.len(),
+                    group,
+                    card.as_mut_ptr(),
+                    card.len(),
+                )
+            }
+        }
+
+        pub fn card_test(
+            layout: Layout,
+            lost: Tray,
+            helpers: &[Rack],
+            card: &[$symbol],
+            group: u64,
+        ) -> u32 {
+            // SAFETY: both slices are lent for the call; a rack is a 32-bit number.
+            unsafe {
+                c::card_test(
+                    layout,
+                    lost,
+                    helpers.as_ptr(),
+                    helpers.len(),
+                    card.as_ptr(),
+                    card.len(),
+                    group,
+                )
+            }
+        }
+
+        #[allow(clippy::too_many_arguments)] // a repair has as many
+        pub fn card_repair(
+            layout: Layout,
+            lost: Tray,
+            helpers: &[Rack],
+            card: &[$symbol],
+            shares: &[$symbol],
+            host: &[$symbol],
+            spare: &mut [$symbol],
+            group: u64,
+        ) -> Repaired {
+            // SAFETY: all slices are lent for the call, the written one alone; a rack is a 32-bit number.
+            unsafe {
+                c::card_repair(
+                    layout,
+                    lost,
+                    helpers.as_ptr(),
+                    helpers.len(),
+                    card.as_ptr(),
+                    card.len(),
+                    shares.as_ptr(),
+                    shares.len(),
+                    host.as_ptr(),
+                    host.len(),
+                    spare.as_mut_ptr(),
+                    spare.len(),
+                    group,
                 )
             }
         }

@@ -52,6 +52,7 @@
 #[allow(unsafe_code)]
 mod ffi;
 
+mod card;
 mod correcting;
 pub mod field257;
 mod image;
@@ -70,6 +71,7 @@ mod state;
 mod store;
 mod test;
 
+pub use card::{card, card_repair, card_test};
 pub use correcting::{repair_correcting, Corrected};
 pub use image::{read_image, write_image, Image};
 pub use kinds::{Layer, Rack, Tray};

@@ -24,10 +24,10 @@ pub enum Refusal {
     /// A lent buffer is not exactly the length its rule gives: symbols, shares, spare, states or an
     /// image being written.
     Length = 2,
-    /// A tray, rack, state or volume number is outside its values, a run of layers or a number of
-    /// groups done is, or a scrub record breaks a rule that [`scrub`](crate::scrub()) names; or a
-    /// symbol of [`field257`](crate::field257) is above 256, or a value of
-    /// [`sixteen`](crate::sixteen) above 15.
+    /// A tray, rack, state or volume number is outside its values, a run of layers, a number of
+    /// groups done or a card's group is, or a scrub record breaks a rule that
+    /// [`scrub`](crate::scrub()) names; or a symbol or multiplier of [`field257`](crate::field257)
+    /// is above 256, or a value of [`sixteen`](crate::sixteen) above 15.
     Number = 3,
     /// A list is not strictly rising.
     Order = 4,
@@ -52,10 +52,12 @@ pub enum Refusal {
     NotRepaired = 13,
     /// The shares do not meet the checks, and no change of one helper's share makes them.
     Shares = 14,
+    /// The card is not right: its multipliers do not give the host rack's sums of every codeword.
+    Card = 15,
 }
 
 /// Every ground with its words, in the order of their numbers.
-const GROUNDS: [(Refusal, &str); 14] = [
+const GROUNDS: [(Refusal, &str); 15] = [
     (
         Refusal::Layout,
         "the layout is not admissible, or not one that the call is for",
@@ -94,6 +96,10 @@ const GROUNDS: [(Refusal, &str); 14] = [
     (
         Refusal::Shares,
         "more than one helper's share is wrong: no change of one makes them agree",
+    ),
+    (
+        Refusal::Card,
+        "the card does not give the host rack's sums of every codeword",
     ),
 ];
 
@@ -152,7 +158,7 @@ mod tests {
 
     #[test]
     fn no_other_number_is_a_ground() {
-        for number in [0, 15, 255, 256 + 1, u32::MAX] {
+        for number in [0, 16, 255, 256 + 1, u32::MAX] {
             assert_eq!(Refusal::from_number(number), None);
         }
     }

@@ -151,6 +151,42 @@ fn a_number_above_256_before_later_grounds() {
     assert_eq!(added(1, 256, 256, 4), Ok(()));
 }
 
+/// A card's multipliers, the share symbols of its group, and the sound symbols of its layers.
+#[test]
+fn a_card_looks_at_its_own_group() {
+    let (lost, helpers) = (Tray::new(3), [0, 2].map(Rack::new));
+    // Group 1 of rack 1 is layers 1 and 3.
+    let mut right = [0; 4];
+    card(TWOS, lost, &helpers, 1, &mut right).expect("a card is printed");
+    let refused = |card: &[u16], shares: &[u16], host: &[u16], helpers: &[Rack]| {
+        card_repair(TWOS, lost, helpers, card, shares, host, &mut [LARGE; 8], 1).err()
+    };
+    assert_eq!(refused(&right, &[0; 8], &[0; 16], &helpers), None);
+    for at in 0..4 {
+        let mut above = right;
+        above[at] = LARGE;
+        let tested = card_test(TWOS, lost, &helpers, &above, 1);
+        assert_eq!(tested, Err(Refusal::Number));
+        let host_helps = [0, 1].map(Rack::new);
+        for helpers in [helpers, host_helps] {
+            let found = refused(&above, &[0; 8], &[0; 16], &helpers);
+            assert_eq!(found, Some(Refusal::Number));
+        }
+    }
+    for at in 0..8 {
+        let mut shares = [0; 8];
+        shares[at] = LARGE;
+        let expected = (at % 4 == 1).then_some(Refusal::Number);
+        assert_eq!(refused(&right, &shares, &[0; 16], &helpers), expected);
+    }
+    for at in 0..16 {
+        let mut host = [0; 16];
+        host[at] = LARGE;
+        let expected = [1, 3].contains(&at).then_some(Refusal::Number);
+        assert_eq!(refused(&right, &[0; 8], &host, &helpers), expected);
+    }
+}
+
 #[test]
 fn a_tray_fed_257_times_cancels() {
     let (host, tray) = (Rack::new(1), Tray::new(5));

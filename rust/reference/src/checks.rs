@@ -1,6 +1,6 @@
 //! The parity checks of a layout.
 
-use crate::elimination::{solve, Equation};
+use crate::elimination::{solve, solve_many, Equation};
 use crate::field::Field;
 use crate::layout::Numbers;
 
@@ -80,6 +80,33 @@ impl<F: Field> Checks<F> {
         };
         let equations = (0..self.numbers.checks).map(equation).collect();
         solve::<F>(equations, unknown.len())
+    }
+
+    /// The codewords' symbols in a layer, for each data symbol the one in which it
+    /// is 1 and the others are 0: every layer of a codeword is a sum of multiples
+    /// of these.
+    pub fn units(&self, layer: usize) -> Vec<Vec<F::Symbol>> {
+        let Numbers {
+            dimension,
+            trays,
+            checks,
+            ..
+        } = self.numbers;
+        let equation = |t| -> Equation<F> {
+            let parity = (dimension..trays).map(|tray| self.coefficient(tray, layer, t));
+            let data = (0..dimension).map(|tray| F::negate(self.coefficient(tray, layer, t)));
+            parity.chain(data).collect()
+        };
+        let equations = (0..checks).map(equation).collect();
+        let parity = solve_many::<F>(equations, checks);
+        let parity = parity.expect("r checks in r unknowns have a solution");
+        let symbol = |tray: usize, data: usize| match tray.checked_sub(dimension) {
+            Some(place) => parity[place][data],
+            None if tray == data => F::ONE,
+            None => F::ZERO,
+        };
+        let unit = |data| (0..trays).map(|tray| symbol(tray, data)).collect();
+        (0..dimension).map(unit).collect()
     }
 
     /// The codeword with the unknown trays filled in, layer by layer.

@@ -2,13 +2,24 @@
 
 use crate::field::Field;
 
-/// One equation: a coefficient for each unknown, then the right side.
+/// One equation: a coefficient for each unknown, then the right side, or several
+/// of them.
 pub type Equation<F> = Vec<<F as Field>::Symbol>;
 
 /// The one solution, or none where the equations contradict each other.
 ///
 /// The equations must determine every unknown; those of the parity checks do.
-pub fn solve<F: Field>(mut equations: Vec<Equation<F>>, unknowns: usize) -> Option<Vec<F::Symbol>> {
+pub fn solve<F: Field>(equations: Vec<Equation<F>>, unknowns: usize) -> Option<Vec<F::Symbol>> {
+    let solved = solve_many::<F>(equations, unknowns)?;
+    Some(solved.iter().map(|values| values[0]).collect())
+}
+
+/// The same for several right sides: the values of each unknown, one for each
+/// side.
+pub fn solve_many<F: Field>(
+    mut equations: Vec<Equation<F>>,
+    unknowns: usize,
+) -> Option<Vec<Vec<F::Symbol>>> {
     for unknown in 0..unknowns {
         let pivot = (unknown..equations.len())
             .find(|&row| equations[row][unknown] != F::ZERO)
@@ -18,8 +29,10 @@ pub fn solve<F: Field>(mut equations: Vec<Equation<F>>, unknowns: usize) -> Opti
         clear::<F>(&mut equations, unknown);
     }
     let (solved, rest) = equations.split_at(unknowns);
-    let consistent = rest.iter().all(|equation| equation[unknowns] == F::ZERO);
-    consistent.then(|| solved.iter().map(|equation| equation[unknowns]).collect())
+    let right = |equation: &Equation<F>| equation[unknowns..].to_vec();
+    let vanishes = |equation: &Equation<F>| right(equation).iter().all(|&side| side == F::ZERO);
+    let consistent = rest.iter().all(vanishes);
+    consistent.then(|| solved.iter().map(right).collect())
 }
 
 /// Makes the unknown's coefficient 1.
@@ -69,6 +82,15 @@ mod tests {
         let contrary = vec![vec![1, 0, 7], vec![0, 2, 9], vec![2, 4, 33]];
         assert_eq!(solve::<Field257>(agreeing, 2), Some(vec![7, 133]));
         assert_eq!(solve::<Field257>(contrary, 2), None);
+    }
+
+    #[test]
+    fn several_right_sides() {
+        let equations = vec![vec![0, 1, 5, 1], vec![1, 1, 6, 1]];
+        let both = Some(vec![vec![3, 0], vec![5, 1]]);
+        assert_eq!(solve_many::<Field256>(equations, 2), both);
+        let contrary = vec![vec![1, 7, 7], vec![2, 14, 15]];
+        assert_eq!(solve_many::<Field257>(contrary, 1), None);
     }
 
     #[test]

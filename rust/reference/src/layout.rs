@@ -161,6 +161,15 @@ impl Numbers {
         let below = self.base.pow(host as u32);
         layer % below + below * (layer / (below * self.base))
     }
+
+    /// The layers of each group for a host rack, in order of the host's digit.
+    pub fn layers_of_groups(&self, host: usize) -> Vec<Vec<usize>> {
+        let mut layers_of = vec![vec![]; self.groups];
+        for layer in 0..self.layers {
+            layers_of[self.group(host, layer)].push(layer);
+        }
+        layers_of
+    }
 }
 
 /// The layout call: L, r and the traffic d·L/s.

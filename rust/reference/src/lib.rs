@@ -11,6 +11,7 @@
 
 #![forbid(unsafe_code)]
 
+pub mod card;
 pub mod checks;
 pub mod correcting;
 pub mod elimination;
@@ -30,6 +31,7 @@ pub mod sixteen;
 pub mod store;
 pub mod test;
 
+pub use card::{card, card_repair, card_test};
 pub use correcting::{repair_correcting, Corrected};
 pub use field::Field;
 pub use field256::Field256;

@@ -18,6 +18,7 @@ pub enum Refusal {
     LostCount = 12,
     NotRepaired = 13,
     Shares = 14,
+    Card = 15,
 }
 
 impl Refusal {

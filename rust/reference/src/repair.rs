@@ -2,7 +2,7 @@
 //! layouts with E = 0, and what they have in common with the one for E = 1.
 
 use crate::checks::Checks;
-use crate::elimination::{solve, Equation};
+use crate::elimination::{solve, solve_many, Equation};
 use crate::field::Field;
 use crate::layout::{Layout, Numbers, Rack, Tray};
 use crate::refusal::{refuse, rising, Refusal};
@@ -210,10 +210,7 @@ impl<F: Field> Repair<'_, F> {
     /// none where the checks contradict each other in one of the groups.
     pub fn write(&self, spare: &[F::Symbol], groups: Range<usize>) -> Option<Vec<F::Symbol>> {
         let mut written = spare.to_vec();
-        let mut layers_of = vec![vec![]; self.numbers.groups];
-        for layer in 0..self.numbers.layers {
-            layers_of[self.numbers.group(self.host, layer)].push(layer);
-        }
+        let layers_of = self.numbers.layers_of_groups(self.host);
         for group in groups {
             let layers = &layers_of[group];
             let sums: Vec<Vec<F::Symbol>> = (0..self.lost.len())
@@ -234,22 +231,59 @@ impl<F: Field> Repair<'_, F> {
     /// unknowns are the group sums, so weighted, of the silent racks.
     fn host_sums(&self, group: usize, layers: &[usize], m: usize) -> Option<Vec<F::Symbol>> {
         let equation = |w: usize| -> Equation<F> {
-            // In these checks a tray's coefficient is that of place 0 times
-            // its weight; and that of a rack that isn't the host is the same
-            // in all layers of the group.
             let t = self.numbers.size * w + m;
-            let of_rack = |rack, layer| self.checks.coefficient(rack * self.numbers.size, layer, t);
-            let of_host = layers.iter().map(|&layer| of_rack(self.host, layer));
-            let of_silent = self.silent.iter().map(|&rack| of_rack(rack, layers[0]));
             let of_helpers = self.helpers.iter().map(|&(at, rack)| {
-                F::multiply(of_rack(rack, layers[0]), self.share_symbol(at, m, group))
+                let coefficient = self.coefficient(rack, layers[0], t);
+                F::multiply(coefficient, self.share_symbol(at, m, group))
             });
             // The unknown part and the helpers' add up to zero.
             let right = F::negate(F::sum(of_helpers));
-            of_host.chain(of_silent).chain([right]).collect()
+            self.unknown_part(layers, t).chain([right]).collect()
         };
         let equations = (0..self.numbers.rack_checks).map(equation).collect();
-        solve::<F>(equations, self.numbers.base + self.silent.len())
+        solve::<F>(equations, self.unknowns())
+    }
+
+    /// What those of weight 0 are in terms of the share symbols: for each layer of
+    /// the group what each helper's is multiplied by. That is the solution for
+    /// shares that are 1 for one helper and 0 for the others.
+    pub fn multipliers(&self, layers: &[usize]) -> Vec<Vec<F::Symbol>> {
+        let equation = |w: usize| -> Equation<F> {
+            let t = self.numbers.size * w;
+            let of_helper = |&(_, rack): &(usize, usize)| self.coefficient(rack, layers[0], t);
+            let right = self.helpers.iter().map(of_helper).map(F::negate);
+            self.unknown_part(layers, t).chain(right).collect()
+        };
+        let equations = (0..self.numbers.rack_checks).map(equation).collect();
+        let mut solved = solve_many::<F>(equations, self.unknowns())
+            .expect("R checks in R unknowns have a solution");
+        solved.truncate(layers.len());
+        solved
+    }
+
+    fn unknowns(&self) -> usize {
+        self.numbers.base + self.silent.len()
+    }
+
+    /// What check t multiplies the unknowns of a group by.
+    fn unknown_part<'a>(
+        &'a self,
+        layers: &'a [usize],
+        t: usize,
+    ) -> impl Iterator<Item = F::Symbol> + 'a {
+        let of_host = move |&layer: &usize| self.coefficient(self.host, layer, t);
+        let of_silent = move |&rack: &usize| self.coefficient(rack, layers[0], t);
+        layers
+            .iter()
+            .map(of_host)
+            .chain(self.silent.iter().map(of_silent))
+    }
+
+    /// What check t = u·w + m multiplies a rack's sum of weight m in a layer by:
+    /// there a tray's coefficient is that of place 0 times its weight. That of a
+    /// rack that isn't the host is the same in all layers of a group.
+    fn coefficient(&self, rack: usize, layer: usize, t: usize) -> F::Symbol {
+        self.checks.coefficient(rack * self.numbers.size, layer, t)
     }
 
     /// The symbol for a group in share m of the helper at this place of the
@@ -260,7 +294,7 @@ impl<F: Field> Repair<'_, F> {
 
     /// The lost symbols of a layer: those that give the host rack's weighted
     /// sums, m = 0 first, with the symbols of its sound trays.
-    fn lost_symbols(&self, layer: usize, sums: &[F::Symbol]) -> Vec<F::Symbol> {
+    pub fn lost_symbols(&self, layer: usize, sums: &[F::Symbol]) -> Vec<F::Symbol> {
         let sound: Vec<usize> = (0..self.numbers.size)
             .filter(|place| !self.lost.contains(place))
             .collect();

@@ -25,6 +25,7 @@ over_both_fields! {
     of_the_shares,
     of_the_repairs,
     of_the_correcting_repair,
+    of_the_cards,
     of_the_walk,
     of_reading_a_part,
     of_images,
@@ -59,6 +60,12 @@ fn of_the_correcting_repair<F: Tried>() {
     each_ground_in_order::<Correct<F>>();
 }
 
+fn of_the_cards<F: Tried>() {
+    each_ground_in_order::<CardPrint<F>>();
+    each_ground_in_order::<CardTest<F>>();
+    each_ground_in_order::<CardRepair<F>>();
+}
+
 fn of_the_walk<F: Tried>() {
     each_ground_in_order::<Scrub<F>>();
     let inadmissible = Layout::<F>::from(F::INADMISSIBLE);
@@ -84,6 +91,7 @@ fn the_new_grounds_have_their_numbers() {
     assert_eq!(Refusal::LostCount.number(), 12);
     assert_eq!(Refusal::NotRepaired.number(), 13);
     assert_eq!(Refusal::Shares.number(), 14);
+    assert_eq!(Refusal::Card.number(), 15);
 }
 
 /// A lost list is measured by the rack of the first tray listed, and only then

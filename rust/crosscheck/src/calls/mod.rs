@@ -1,6 +1,9 @@
 //! The calls: those over either field, one file and one entry of [`COMMON`] each,
 //! and those of the box, which belong to neither.
 
+pub mod card_print;
+pub mod card_repair;
+pub mod card_test;
 pub mod copy_image;
 pub mod margin;
 pub mod measure;
@@ -71,7 +74,7 @@ impl Looks {
 }
 
 /// The calls that both fields have alike.
-const COMMON: [&Call; 16] = [
+const COMMON: [&Call; 19] = [
     &measure::CALL,
     &test::CALL,
     &store::CALL,
@@ -83,6 +86,9 @@ const COMMON: [&Call; 16] = [
     &share_add_many::CALL,
     &repair_many::CALL,
     &repair_correcting::CALL,
+    &card_print::CALL,
+    &card_test::CALL,
+    &card_repair::CALL,
     &read_part::CALL,
     &write_image::CALL,
     &margin::CALL,

@@ -1,10 +1,11 @@
 //! The cutting claim: lists of repair calls over one spare, refused ones among
-//! them, looked at after every call.
+//! them and repairs by cards, looked at after every call.
 
 use super::Draw;
 use crate::cabinet::Cabinet;
+use crate::calls::card_print::Place;
 use crate::calls::repair::{budget, SPARE};
-use crate::calls::Call;
+use crate::calls::{card_repair, Call};
 use crate::crosscheck::Crosscheck;
 use crate::field::Symbol;
 use crate::given::Given;
@@ -43,6 +44,8 @@ fn case(all: &mut Crosscheck) {
     for _ in 0..all.source.random.below(MOST_CALLS + 1) {
         if all.source.random.one_in(3) {
             list.refused_call(all);
+        } else if list.may_go_by_card() && all.source.random.one_in(3) {
+            list.card_call(all);
         } else {
             list.done_call(all);
         }
@@ -91,6 +94,32 @@ impl List {
         self.remaining = answer.numbers[2];
     }
 
+    /// Whether a card can do the next group: one tray is lost, and a group is left.
+    fn may_go_by_card(&self) -> bool {
+        let groups = self.given.cabinet.numbers.groups as u64;
+        self.given.lost.len() == 1 && self.done < groups
+    }
+
+    /// The next group by its card, in place of the piece that does it alone.
+    fn card_call(&mut self, all: &mut Crosscheck) {
+        let place = Place {
+            group: self.done,
+            ..self.given.place()
+        };
+        let random = &mut all.source.random;
+        let inputs = self
+            .given
+            .by_card(random, &self.spare, self.done, place.right());
+        let answer = all.run.compare(&card_repair::CALL, &inputs);
+        all.run.claim(answer.refusal == 0, || {
+            format!("a right card was refused: {inputs}")
+        });
+        self.spare = answer.symbols().to_vec();
+        self.done += 1;
+        self.crossed += answer.numbers[1];
+        self.remaining = answer.numbers[2];
+    }
+
     fn refused_call(&mut self, all: &mut Crosscheck) {
         let (call, inputs) = refused(&mut all.source, &self.given.cabinet, &self.spare);
         let answer = all.run.compare(call, &inputs);
@@ -131,7 +160,10 @@ fn refused(source: &mut Source, own: &Cabinet, spare: &[Symbol]) -> (&'static Ca
         } else {
             *own
         };
-        let call = pair::REPAIR.any(&mut source.random);
+        let call = match source.random.one_in(4) {
+            true => &card_repair::CALL,
+            false => pair::REPAIR.any(&mut source.random),
+        };
         let mut inputs = (call.example)(source, &cabinet);
         let times = 1 + source.random.below(3);
         spoil(source, &cabinet, &mut inputs, times);

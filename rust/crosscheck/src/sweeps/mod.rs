@@ -3,6 +3,7 @@
 
 mod box_losses;
 mod box_trays;
+mod cards;
 mod every_layout;
 mod header_bytes;
 mod large_numbers;
@@ -24,7 +25,7 @@ pub struct Sweep {
     pub item: fn(&mut Crosscheck, usize),
 }
 
-pub const SWEEPS: [&Sweep; 10] = [
+pub const SWEEPS: [&Sweep; 11] = [
     &every_layout::SWEEP,
     &small_layouts::SWEEP,
     &least_check::SWEEP,
@@ -33,6 +34,7 @@ pub const SWEEPS: [&Sweep; 10] = [
     &large_numbers::SWEEP,
     &whole_repairs::SWEEP,
     &wrong_shares::SWEEP,
+    &cards::SWEEP,
     &box_losses::SWEEP,
     &box_trays::SWEEP,
 ];

@@ -12,7 +12,8 @@
 //!   it. [`test()`] looks at every symbol before it answers, [`store`] at the data, [`recover`] at
 //!   the trays that are not listed, the share calls at the rack or tray and, where they add, at the
 //!   shares too, a repair at the share symbols and sound host symbols of its own groups,
-//!   [`repair_correcting`] at those of all groups, [`write_image`] at the symbols, [`scrub`] at the
+//!   [`repair_correcting`] at those of all groups, [`card_test`] and [`card_repair`] at the card's
+//!   multipliers, which are numbers 0 to 256 too, [`write_image`] at the symbols, [`scrub`] at the
 //!   layers it tests. This holds where the call would be refused on a later ground too. No call looks at what it only writes, at lost and
 //!   erased trays, or at other groups and layers; [`read_part`] and a call for no lost tray look at
 //!   no symbol at all.
@@ -49,6 +50,7 @@
 //! # Ok::<(), gesarumbo::Refusal>(())
 //! ```
 
+mod card;
 mod correcting;
 mod image;
 mod margin;
@@ -61,6 +63,7 @@ mod share;
 mod store;
 mod test;
 
+pub use card::{card, card_repair, card_test};
 pub use correcting::repair_correcting;
 pub use image::{read_image, write_image};
 pub use margin::margin;

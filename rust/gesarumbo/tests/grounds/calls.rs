@@ -254,6 +254,87 @@ fn a_wrong_share_is_named() {
     }
 }
 
+#[test]
+fn cards() {
+    let outside = &[1, 0, 4, 3][..];
+    let [falling, four, own] = [&[1, 0, 2, 3][..], &[0, 1, 2, 3], &[0, 1, 3]];
+    for (ground, layout, lost, helpers, length, group) in [
+        (Refusal::Layout, BAD, N, outside, 7, 8),
+        (Refusal::Layout, WARY, N, outside, 7, 8),
+        (Refusal::Length, GOOD, N, outside, 7, 8),
+        (Refusal::Length, GOOD, N, outside, 5, 8),
+        (Refusal::Number, GOOD, N, falling, 6, 7),
+        (Refusal::Number, GOOD, N - 1, outside, 6, 7),
+        (Refusal::Number, GOOD, N - 1, falling, 6, 8),
+        (Refusal::Number, GOOD, N - 1, falling, 6, 1 << 32),
+        (Refusal::Order, GOOD, N - 1, falling, 6, 7),
+        (Refusal::Count, GOOD, N - 1, four, 6, 7),
+        (Refusal::Host, GOOD, N - 1, own, 6, 7),
+    ] {
+        let (lost, helpers) = (Tray::new(lost), racks(helpers));
+        refused(ground, length, |out| {
+            card(layout, lost, &helpers, group, out)
+        });
+        refused(ground, length, |c| {
+            card_test(layout, lost, &helpers, c, group)
+        });
+        let (lent, shares, host) = (zeros(length), zeros(24), zeros(RACK));
+        refused(ground, 16, |spare| {
+            card_repair(layout, lost, &helpers, &lent, &shares, &host, spare, group)
+        });
+    }
+    let (lost, helpers) = (Tray::new(0), racks(&[0, 2, 3]));
+    for longer in [[1, 0, 0], [0, 1, 0], [0, 0, 1]] {
+        let [shares, host, spare] = longer;
+        let (shares, host) = (zeros(24 + shares), zeros(RACK + host));
+        refused(Refusal::Length, 16 + spare, |spare| {
+            card_repair(GOOD, lost, &helpers, &zeros(6), &shares, &host, spare, 8)
+        });
+    }
+}
+
+/// A tray from the right cards of all groups, and every one of their multipliers changed.
+#[test]
+fn right_cards() {
+    let data: Vec<Symbol> = (0..DATA).map(|at| (at * 11 % 251) as Symbol).collect();
+    let mut codeword = zeros(CODEWORD);
+    store(GOOD, &data, &mut codeword).expect("data are stored");
+    let (lost, helpers) = (Tray::new(U + 1), racks(&[0, 2, 3]));
+    let mut shares = zeros(24);
+    for (helper, sent) in helpers.iter().zip(shares.chunks_mut(8)) {
+        let rack = &codeword[helper.number() as usize * RACK..][..RACK];
+        share(GOOD, Rack::new(1), *helper, rack, sent).expect("a share is worked out");
+    }
+    let host = &codeword[RACK..2 * RACK];
+    let mut spare = vec![99; 16];
+    for group in 0..8 {
+        let mut printed = vec![99; 6];
+        assert_eq!(card(GOOD, lost, &helpers, group, &mut printed), Ok(()));
+        assert_eq!(card_test(GOOD, lost, &helpers, &printed, group), Ok(()));
+        for at in 0..6 {
+            let mut other = printed.clone();
+            other[at] = Symbol::from(other[at] == 0);
+            let tested = card_test(GOOD, lost, &helpers, &other, group);
+            assert_eq!(tested, Err(Refusal::Card));
+            refused(Refusal::Card, 16, |spare| {
+                card_repair(GOOD, lost, &helpers, &other, &shares, host, spare, group)
+            });
+        }
+        let spare = &mut spare;
+        let done = card_repair(GOOD, lost, &helpers, &printed, &shares, host, spare, group);
+        let remaining = 3 * (7 - group);
+        assert_eq!(
+            done,
+            Ok(Repaired {
+                groups: 1,
+                crossed: 3,
+                remaining
+            })
+        );
+    }
+    assert_eq!(spare, codeword[(U as usize + 1) * 16..][..16]);
+}
+
 /// Calls that are for E = 0 only, given what is right for E = 1 but for that.
 #[test]
 fn not_for_wrong_shares() {
@@ -271,6 +352,13 @@ fn not_for_wrong_shares() {
     });
     refused(Refusal::Layout, groups, |share| {
         share_add_many(WARY, 1, Rack::new(1), tray, &zeros(32), share)
+    });
+    refused(Refusal::Layout, 8, |c| card(WARY, tray, &helpers, 0, c));
+    refused(Refusal::Layout, 8, |c| {
+        card_test(WARY, tray, &helpers, c, 0)
+    });
+    refused(Refusal::Layout, 32, |spare| {
+        card_repair(WARY, tray, &helpers, &zeros(8), &shares, &host, spare, 0)
     });
     let (codeword, spare) = (zeros(10 * RACK), zeros(32));
     let none = Layer::new(0)..Layer::new(0);
@@ -427,6 +515,11 @@ fn nothing_lent_is_a_wrong_length() {
     });
     refused(length, 0, |s| {
         repair_correcting(WARY, tray, &[], nothing, nothing, s)
+    });
+    refused(length, 0, |c| card(GOOD, tray, &[], 0, c));
+    refused(length, 0, |c| card_test(GOOD, tray, &[], c, 0));
+    refused(length, 0, |s| {
+        card_repair(GOOD, tray, &[], nothing, nothing, nothing, s, 0)
     });
     let none = Layer::new(0)..Layer::new(0);
     let read = read_part(GOOD, nothing, nothing, tray, 0, tray, none);

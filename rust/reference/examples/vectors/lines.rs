@@ -274,6 +274,58 @@ impl<F: Tried> Line<F> for Correct<F> {
     }
 }
 
+impl<F: Tried> CardPrint<F> {
+    /// All but the card.
+    fn inputs_before(&self) -> Vec<String> {
+        vec![
+            of_layout(self.layout),
+            self.lost.0.to_string(),
+            of_list(self.helpers.iter().map(|rack| rack.0)),
+            self.group.to_string(),
+        ]
+    }
+}
+
+impl<F: Tried> Line<F> for CardPrint<F> {
+    const CALL: &'static str = "card_print";
+
+    fn inputs(&self) -> Vec<String> {
+        let card = of_symbols::<F>(&self.card);
+        [self.inputs_before(), vec![card]].concat()
+    }
+
+    fn answer(&self) -> String {
+        of_written(self.run(), &self.card, of_symbols::<F>)
+    }
+}
+
+impl<F: Tried> Line<F> for CardTest<F> {
+    const CALL: &'static str = "card_test";
+
+    fn inputs(&self) -> Vec<String> {
+        self.0.inputs()
+    }
+
+    fn answer(&self) -> String {
+        self.run().err().map_or(0, Refusal::number).to_string()
+    }
+}
+
+impl<F: Tried> Line<F> for CardRepair<F> {
+    const CALL: &'static str = "card_repair";
+
+    fn inputs(&self) -> Vec<String> {
+        let mut inputs = self.of.inputs();
+        inputs.truncate(6);
+        inputs.extend([self.group.to_string(), of_symbols::<F>(&self.card)]);
+        inputs
+    }
+
+    fn answer(&self) -> String {
+        of_repaired::<F>(self.run(), &self.of.0.spare)
+    }
+}
+
 /// The reading of an image of edition 1, whose symbols are a part of it.
 pub struct ReadImage {
     pub layout: Layout<Field256>,

@@ -1,6 +1,7 @@
 //! Calls of documents 01 and 02 with all they are given, and the faults for
 //! which they are refused.
 
+mod cards;
 mod codewords;
 mod corrections;
 mod images;
@@ -10,6 +11,7 @@ mod repairs;
 mod shares;
 mod walks;
 
+pub use cards::{CardPrint, CardRepair, CardTest};
 pub use codewords::{Recover, Store, Test};
 pub use corrections::Correct;
 pub use images::{CopyImage, WriteImage};
@@ -23,7 +25,7 @@ use super::Tried;
 use reference::*;
 
 /// The order in which the grounds are tried.
-pub const ORDER: [Refusal; 14] = [
+pub const ORDER: [Refusal; 15] = [
     Refusal::Layout,
     Refusal::Length,
     Refusal::Number,
@@ -38,6 +40,7 @@ pub const ORDER: [Refusal; 14] = [
     Refusal::Other,
     Refusal::NotRepaired,
     Refusal::Shares,
+    Refusal::Card,
 ];
 
 /// A fault and the ground it brings about.

@@ -1,0 +1,22 @@
+use borrow.Author.Needs.{needs}
+use Rattle.multipliers.proofs.Sides.{rooms}
+use Rattle.multipliers.proofs.right_multipliers.Statement.{statement}
+use Rattle.multipliers.proofs.right_multipliers.Tie as tie
+
+pub right-multipliers-spec : {M : Type 1} → statement M
+right-multipliers-spec =
+    tie.close (tie.spec
+    (λ c. search needs)
+    (λ c κs. search needs)
+    (λ c. search needs)
+    (λ c. search needs)
+    (λ c. search needs)
+    (λ c. search needs)
+    (λ c. search needs)
+    (λ c. search needs)
+    (λ c κs.
+    let e = c .before .before .before .before .before .before .before .before in
+    let s = e .before .before .before .before in
+    (s .pre .0, rooms _ (s .pre .1), e .inverses .ensures))
+    (λ c. search needs)
+    (λ c. search needs))

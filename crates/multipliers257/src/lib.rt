@@ -1,0 +1,99 @@
+// Made by tools/twin.py from crates/multipliers/src/lib.rt.
+// The multipliers of a right card (document 02, W13), for either field: by them the symbols that d helpers send for a group give the host's rack sums. They are found
+// by crate columns, a column for each helper, whose right sides are less the powers of its point. Promises the multipliers of crate card.
+use layout::Layout;
+use symbol257::plain::SIZE;
+ghost use Prim.Native.Nat.{_≤_};
+ghost use lib.ListN.{length};
+ghost use Rattle.symbol257.specs.Elem.{gf257};
+ghost use Rattle.kernel.specs.Runs.{Inverses};
+ghost use Rattle.blocks.specs.Blocks.{roomLimit};
+ghost use Rattle.multipliers.specs.Inner.{Grouped, Space, Rooms, HelperPoints, PowerSides, Multipliers};
+
+// The points of the helpers in a group.
+fn helper_points(row: &mut [u16], l: Layout, h: u32, p: u32, helpers: &[u32])
+    requires { ⌜ Grouped l h p (now helpers) × (l .helpers ≤ length (now row)) ⌝ }
+    ensures { λ _. ⌜ HelperPoints gf257 l h p (now (helpers .entry)) (l .helpers) (now (row .exit)) ⌝ }
+{
+    let u = l.size;
+    let j = layout::layer_of(l, h, p, 0);
+    let mut k = 0usize;
+    while k < helpers.len() {
+        let v = points257::point_power(l, helpers[k] * u, j, u);
+        kernel257::fill(row, k, 1, v);
+        k += 1;
+    }
+}
+
+// The powers of these points, a row for each check.
+fn power_sides(
+    sides: &mut [u16],
+    l: Layout,
+    h: u32,
+    p: u32,
+    helpers: &[u32],
+    row: &mut [u16],
+    cur: &mut [u16],
+)
+    requires { ⌜ Grouped l h p (now helpers) × Space l (now sides) (now row) (now cur) ⌝ }
+    ensures { λ _. ⌜ PowerSides gf257 l h p (now (helpers .entry)) (now (sides .exit)) ⌝ }
+{
+    let d = l.helpers as usize;
+    let n = sums257::unknown_count(l) as usize;
+    helper_points(row, l, h, p, helpers);
+    kernel257::fill(cur, 0, d, 1);
+    kernel257::fill(sides, 0, n * d, 0);
+    syndrome257::add_terms(sides, d, n, cur, row);
+}
+
+// The multipliers, by rooms to work in and a table of the inverses of all symbols.
+fn solve_sides(
+    found: &mut [u16],
+    l: Layout,
+    h: u32,
+    p: u32,
+    helpers: &[u32],
+    sides: &mut [u16],
+    points: &mut [u16],
+    coefs: &mut [u16],
+    row: &mut [u16],
+    cur: &mut [u16],
+    table: &[u16],
+)
+    requires { ⌜ Grouped l h p (now helpers) × Rooms (now found) (now sides) (now points) (now coefs) (now row) (now cur) × Inverses gf257 (now table) ⌝ }
+    ensures { λ _. ⌜ Multipliers gf257 l h p (now (helpers .entry)) (now (found .exit)) ⌝ }
+{
+    let d = l.helpers as usize;
+    let n = sums257::unknown_count(l) as usize;
+    let s = layout::digit_count(l) as usize;
+    sums257::unknown_points(points, l, h, 1, p as usize, helpers, 1, 1, row);
+    power_sides(sides, l, h, p, helpers, row, cur);
+    columns257::solve_first(found, d, 1, d, 1, n, s, sides, points, coefs, row, table);
+}
+
+// The multipliers, first in a room, as a card has them: d, helpers rising, for each of the s sums, digit 0 first.
+pub fn right_multipliers(found: &mut [u16], l: Layout, h: u32, p: u32, helpers: &[u32])
+    requires { ⌜ Grouped l h p (now helpers) × (roomLimit ≤ length (now found)) ⌝ }
+    ensures { λ _. ⌜ Multipliers gf257 l h p (now (helpers .entry)) (now (found .exit)) ⌝ }
+{
+    let mut sides = [0u16; blocks::ROOM];
+    let mut points = [0u16; blocks::ROOM];
+    let mut coefs = [0u16; blocks::ROOM];
+    let mut row = [0u16; blocks::BLOCK];
+    let mut cur = [0u16; blocks::BLOCK];
+    let mut table = [0u16; SIZE];
+    kernel257::inverses(&mut table);
+    solve_sides(
+        found,
+        l,
+        h,
+        p,
+        helpers,
+        &mut sides,
+        &mut points,
+        &mut coefs,
+        &mut row,
+        &mut cur,
+        &table,
+    );
+}
