@@ -21,7 +21,7 @@ def lines(path):
 
 
 def counted(page):
-    """The page with every count as it is now."""
+    """The page with every count as it is now; a heading begins a new sum."""
     total, out = 0, []
     for line in page.splitlines():
         row = ROW.match(line)
@@ -29,6 +29,8 @@ def counted(page):
             n = lines(row.group(1))
             total += n
             line = '| %s | %s | %d |' % (row.group(1), row.group(2), n)
+        elif line.startswith('## '):
+            total = 0
         elif line.startswith('| | in all'):
             line = re.sub(r'[\d,]+ \|$', '{:,} |'.format(total), line)
         out.append(line)

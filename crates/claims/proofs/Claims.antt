@@ -1,0 +1,255 @@
+-- THE THEOREMS: everything on the page (specs/Claims.antt) holds for every layout, over both fields, and of the box. Each line names what proves it.
+-- Assumes nothing.
+use mathlib.Core.Path.{_≡_, refl, sym, ap, subst, _∙_}
+use mathlib.Core.List.{List}
+use Prim.Native.Nat.{ℕ, _*_, _<_}
+use native.Mathlib.Omega.{arith}
+use lib.ListN.{length}
+use Rattle.algebra.specs.Shape.{Field}
+use Rattle.algebra.specs.Plain.{Working}
+use Rattle.algebra.specs.Layers.{groupOf}
+use Rattle.algebra.proofs.Points.{powers-apart}
+use Rattle.symbol.specs.Elem.{elem as elem-256, ops as ops-256, gf256}
+use Rattle.symbol.proofs.Working.{working as working-256}
+use Rattle.symbol257.specs.Elem.{elem as elem-257, gf257}
+use Rattle.symbol257.proofs.Working.{working as working-257}
+use Rattle.layout.specs.declared.Layout.{Layout}
+use Rattle.layout.specs.Layout.{digits, AdmissibleWith}
+use Rattle.layout.proofs.Numbers.{product-high, whole-low, parity-low, group-below}
+use Rattle.codeword.specs.declared.Tested.the-variants.{Sound}
+use Rattle.codeword.specs.Codeword.{shapeOf}
+use Rattle.codeword.specs.Test.{TestAnswer}
+use Rattle.codeword.proofs.Usable.{usable, solvable}
+use Rattle.codeword.proofs.Buffers.{points-distinct}
+use Rattle.codeword.proofs.Unique.{tested-unique}
+use Rattle.store.proofs.Trays.{store-exists}
+use Rattle.store.proofs.Settled.{old-bytes-unread, answer-unique as stored-unique}
+use Rattle.recover.proofs.Settled.{never-looks, answer-unique as recovered-unique, eight-exactly, codeword-returns}
+use Rattle.rule.specs.Rule.{Helpers}
+use Rattle.rule.proofs.Instances.{rule-one-at}
+use Rattle.rule.proofs.Single.{one-lost, lost-one}
+use Rattle.share.proofs.Weights.{weight-is}
+use Rattle.share.proofs.Feeds.{feeds-call, twice-cancels}
+use Rattle.repair.specs.declared.Repaired.{Repaired}
+use Rattle.repair.specs.Repair.{RepairAnswer}
+use Rattle.repair.proofs.Unique.{repaired-unique}
+use Rattle.repair.proofs.Cutting.{cutting, same-group}
+use Rattle.repair.proofs.Exact.{of-sent, sent-by-calls, exact-by-calls}
+use Rattle.repair.proofs.Single.{cutting-one, exact-one-by-calls}
+use Rattle.reading.proofs.ReadsTheCodeword.{reads-the-codeword, empty-run}
+use Rattle.correcting.proofs.Unique.{correcting-unique}
+use Rattle.correcting.proofs.Calls.{exact-by-calls as correcting-by-calls}
+use Rattle.card.proofs.Instances.{one-card-at}
+use Rattle.cards.proofs.Claims.{printed-unique, carded-unique}
+use Rattle.cards.proofs.Mixed.{cards-cutting}
+use Rattle.least.proofs.Instances.{truly-least-at}
+use Rattle.least.proofs.Calls.{share-message}
+use Rattle.image.specs.declared.Edition.{Edition}
+use Rattle.image.specs.Image.{edition1, edition2}
+use Rattle.image.specs.Inner.{Proper}
+use Rattle.image.proofs.Editions.{proper1, proper2}
+use Rattle.image.proofs.LiveOnly.{live-only, demonstration-named, demonstration-refused}
+use Rattle.image.proofs.AcceptedExactly.{accepted-exactly}
+use Rattle.image.proofs.HeaderRules.{formed-exactly}
+use Rattle.image.proofs.Both.{other-refused-both}
+use Rattle.margin.proofs.Range.{margin-range, margin-ends}
+use Rattle.scrub.proofs.Walks.{walked}
+use Rattle.scrub.proofs.Broken.{bad-broken, broken-bad}
+use Rattle.bench_book.proofs.Claim.{worked-examples}
+use Rattle.box_words.proofs.Words.{word-only}
+use Rattle.box_recover.proofs.Settled.{answer-unique as box-unique, data-unique, any-seven, data-any-seven, eight-exactly as box-eight, data-eight-exactly}
+use Rattle.box_repair.proofs.Tops.{tops-equal}
+use Rattle.box_repair.proofs.Exact.{share-unique, repair-unique, repair-exact}
+use Rattle.box_repair.proofs.Eight.{eight-exactly as differing-eight}
+use Rattle.box_repair.proofs.Examples.{worked-examples as box-examples}
+use Rattle.claims.specs.Claims.{Demand1, Demand2, EachRepair, Demand3, Document01, Requests, Correcting, Cards, Least, Claims, Claims256, Claims257, Box}
+use Rattle.claims.proofs.Refused.{measure-numbers, test-grounds, share-refused, add-refused, many-refused, add-many-refused, repair-grounds, write-refused, read-refused, margin-refused, scrub-refused, reset-refused, part-refused, repair-other, many-other, add-many-other, part-other, print-other, card-other, by-card-other, correcting-other, box-refused}
+use Rattle.claims.proofs.Survivors.{erased-only, none-erased, stops}
+use Rattle.claims.proofs.Spares.{own-groups, reports, nothing, lost-unread, no-ground}
+use Rattle.claims.proofs.Words.{group-agrees, margin-live, of-store, of-spare, done-only, steps}
+use Rattle.claims.proofs.Points.{every-symbol, rack-sums, nought-written, nought-read}
+use Rattle.claims.proofs.Fed.{one-share, feeds-are, fed-once, fed-often, cancels}
+use Rattle.claims.proofs.Corrected.{correcting-grounds, fourteen-exactly, printed-grounds, tested-exactly, by-card-exactly, as-the-repair}
+use Rattle.claims.proofs.Fields.{adds-256, adds-257, multiplies-257, sizes-of-256, sizes-of-257}
+
+module _ {A : Type 0} {f : Field A} (W : Working f) (ed : Edition) (fit : Proper ed) (l : Layout) where
+  demand1 : Demand1 f ed l
+  demand1 = record {
+    measure = measure-numbers (f .order) l;
+    test = test-grounds f l;
+    store = λ given c d n p. (p .answer, λ h. p .unchanged (λ e. h (sym (p .answer) ∙ e)));
+    recover = λ es c d n p. (p .refused, p .unchanged);
+    share = share-refused f l;
+    share-add = add-refused f l;
+    share-many = many-refused f l;
+    share-add-many = add-many-refused f l;
+    repair = repair-grounds f l;
+    write = write-refused ed l;
+    read = read-refused ed l;
+    margin = margin-refused (f .order) l;
+    scrub = scrub-refused f l;
+    reset = reset-refused (f .order) l;
+    read-part = part-refused (f .order) l;
+    test-one = tested-unique f l;
+    store-one = stored-unique f l;
+    recover-one = recovered-unique f l;
+    repair-one = repaired-unique W l;
+    live-only = live-only ed fit;
+    named = demonstration-named ed l;
+    demonstration-refused = demonstration-refused ed fit;
+  }
+
+  demand2 : Demand2 f l
+  demand2 = record {
+    stored = λ given c d n p e. let w = p .done e in (w .codeword, w .begins, w .only);
+    storable = store-exists W l;
+    stored-anew = old-bytes-unread f l;
+    recovered = codeword-returns f l;
+    refused-exactly = eight-exactly f l;
+    erased-only = erased-only f l;
+    old-unread = never-looks f l;
+    none-erased = none-erased W l;
+    sound-exactly = λ c r p z. (λ e. (subst (λ y. TestAnswer f l c y) e p) .1, λ good. tested-unique f l c r Sound p (z, good));
+    first-bad = λ c j t p. p .1;
+    stops = stops f l;
+  }
+
+  each : (lost helpers shares host : List ℕ) (first budget : ℕ) (old new : List ℕ) (r : Repaired) →
+      RepairAnswer f l lost helpers shares host first budget old new r → EachRepair f l lost helpers shares host first budget old new r
+  each lost helpers shares host first budget old new r p = record {
+    reports = reports W l lost helpers shares host first budget old new r p;
+    own-groups = own-groups W l lost helpers shares host first budget old new r p;
+    nothing = nothing W l lost helpers shares host first budget old new r p;
+    no-ground = no-ground f l lost helpers shares host (length old) first budget;
+    lost-unread = λ host′ new′ long alike r′ q. lost-unread W l lost helpers shares host first budget old new host′ new′ long alike r r′ p q;
+  }
+
+  demand3 : AdmissibleWith (f .order) 0 l → Demand3 f l
+  demand3 a = record {
+    each = each;
+    exact-one = exact-one-by-calls W l a;
+    exact = exact-by-calls W l a;
+    cutting-one = λ x helpers given shares host start G crossed toCome spare. cutting-one W l a x helpers shares host given start;
+    cutting = λ lost helpers given shares host start G crossed toCome spare. cutting W l a lost helpers given shares host start;
+    exact-cut = λ lost helpers shares host c p start G crossed toCome spare calls e.
+        let cut = cutting W l a lost helpers (p .setting .losses) shares host start calls in (
+          cut .whole e c (of-sent f l (usable W l (a .admissible)) lost helpers shares host c (sent-by-calls W l a lost helpers shares host c p)),
+          cut .crossed-is ∙ ap (λ g. length lost * (l .helpers * g)) e,
+        );
+    same-group = same-group W l;
+    fixed = rule-one-at W l a;
+  }
+
+  document01 : Document01 f ed l
+  document01 = record {
+    field = W .field;
+    every-symbol = every-symbol W;
+    room = λ a. (omega (arith, product-high l (a .cabinet), W .room), whole-low l (a .cabinet), parity-low l (a .cabinet));
+    points-differ = λ a. points-distinct f l (usable W l a);
+    powers-differ = λ a. powers-apart (shapeOf f l) (usable W l a .fits);
+    rack-sums = λ a. rack-sums f l (usable W l a);
+    groups-agree = λ a h j k hh hj hk.
+        (group-below l (a .cabinet) h j hh hj, group-agrees (digits l) (usable W l a .fits .some-digits) (l .racks) h j k hh hj hk);
+    accepted-exactly = accepted-exactly ed fit;
+    formed-exactly = formed-exactly ed fit;
+    margin-range = margin-range (f .order) l;
+    margin-ends = margin-ends (f .order) l;
+    margin-live = margin-live l;
+  }
+
+  requests : Requests f ed l
+  requests = record {
+    weights = weight-is f l (W .field);
+    one-share = one-share W l;
+    one-rule = λ a x helpers shares host p spare.
+        (one-lost f l (usable W l a) x helpers shares host p spare, lost-one f l (usable W l a) x helpers shares host p spare);
+    nought-written = nought-written ed l;
+    nought-read = nought-read ed fit l;
+    looks = steps f l;
+    walked = λ c w r. walked f l c (W .field);
+    bad-layer = λ c j. (bad-broken f l c j, broken-bad f l c j (W .field .coded));
+    part-of = λ codeword spare lost done tray first end z. (
+      of-store (f .order) l codeword spare lost done tray first end z,
+      λ e. (of-spare (f .order) l codeword spare lost done tray first end z e, done-only (f .order) l codeword spare lost done tray first end z e),
+    );
+    empty-run = λ codeword spare lost done tray first. empty-run (f .order) l codeword spare lost done tray first .1;
+    part-right = reads-the-codeword W l;
+    feeds-are = feeds-are W l;
+    fed-once = fed-once W l;
+    fed-once-many = feeds-call W l;
+    fed-often = fed-often W l;
+  }
+
+  wrong-share : Correcting f l
+  wrong-share = record {
+    grounds = correcting-grounds W l;
+    one = correcting-unique W l;
+    exact = correcting-by-calls W l;
+    fourteen-exactly = fourteen-exactly W l;
+    pieces-other = λ d. (repair-other f l d, many-other f l d, add-many-other f l d, part-other f l d);
+    cards-other = λ d x helpers group. (print-other f l d x helpers group, card-other f l d x helpers group, by-card-other f l d x helpers group);
+    whole-other = correcting-other f l;
+  }
+
+  cards : (x : ℕ) (helpers : List ℕ) (group : ℕ) → Cards f l x helpers group
+  cards x helpers group = record {
+    one-card = λ a help inside. one-card-at W l a x helpers help group inside;
+    printed = printed-grounds f l x helpers group;
+    print-one = printed-unique W l x helpers group;
+    accepted-exactly = tested-exactly f l x helpers group;
+    repair-exactly = by-card-exactly f l x helpers group;
+    repair-one = carded-unique W l x helpers group;
+    as-the-repair = as-the-repair W l x helpers group;
+    cutting = λ a help shares host start G crossed toCome spare. cards-cutting W l a x helpers shares host help start;
+  }
+
+  least : AdmissibleWith (f .order) 0 l → (x : ℕ) (helpers : List ℕ) → Helpers l x helpers → Least f l x helpers
+  least a x helpers help = record { truly-least = truly-least-at W l a x helpers help; messages-are = share-message f l (solvable W l a) x helpers help }
+
+  -- over any field with what the code needs, and an edition of its images
+  pub claims-at : (ed .order ≡ f .order) × (ed .size ≡ f .coding .size) → Claims f ed l
+  claims-at same = record { images = same; first = demand1; second = demand2; third = demand3; own = document01; requests = requests; wrong-share = wrong-share; cards = cards; least = least }
+
+pub claims-256 : (l : Layout) → Claims256 l
+unfolding elem-256
+claims-256 l = record {
+  claims = claims-at working-256 edition1 proper1 l (refl, refl);
+  adds = adds-256;
+  root = (refl, refl, refl);
+  sizes = sizes-of-256 l;
+  fed-twice = twice-cancels l;
+  cancels = cancels l;
+  other-edition = other-refused-both .0;
+  bench-book = worked-examples;
+}
+
+pub claims-257 : (l : Layout) → Claims257 l
+unfolding elem-257
+claims-257 l = record {
+  claims = claims-at working-257 edition2 proper2 l (refl, refl);
+  adds = adds-257;
+  multiplies = multiplies-257;
+  root = (refl, refl, refl);
+  sizes = sizes-of-257 l;
+  other-edition = other-refused-both .1;
+}
+
+pub claims-box : Box
+claims-box = record {
+  store-refused = box-refused;
+  recover-grounds = λ es c d n p. (p .refused, p .unchanged);
+  recover-one = box-unique;
+  data-one = data-unique;
+  share-one = share-unique;
+  repair-grounds = λ lost hs shares rack old new r p. (p .answer, λ h. p .unchanged (λ e. h (sym (p .answer) ∙ e)));
+  repair-one = repair-unique;
+  words-differ = word-only;
+  any-seven = any-seven;
+  data-any-seven = data-any-seven;
+  eight-exactly = box-eight;
+  data-eight = data-eight-exactly;
+  tops-equal = tops-equal;
+  repair-exact = repair-exact;
+  repair-eight = differing-eight;
+  example-1 = box-examples;
+}

@@ -1,0 +1,9 @@
+pub mod Refused
+pub mod Survivors
+pub mod Spares
+pub mod Points
+pub mod Words
+pub mod Fed
+pub mod Fields
+pub mod Corrected
+pub mod Claims

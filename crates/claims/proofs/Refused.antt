@@ -1,0 +1,158 @@
+-- What each call does when it is refused, read off its contract. Over any field and edition.
+-- Assumes nothing.
+use mathlib.Core.Path.{_≡_, refl, sym, ap, _∙_}
+use mathlib.Core.Bool.{Bool, true, false, cond}
+use mathlib.Core.List.{List, []}
+use Prim.Native.Nat.{ℕ}
+use borrow.Author.Tests.{ne-eqb}
+use lib.Dec.{eqb}
+use lib.ListN.{length}
+use Rattle.algebra.specs.Shape.{Field}
+use Rattle.layout.specs.declared.Layout.{Layout}
+use Rattle.layout.specs.declared.Measured.the-variants.{Known, Refused as NoMeasure}
+use Rattle.layout.specs.Layout.{checks, layers, traffic, admissible, admissibleWith, measured, numbersOf as measures}
+use Rattle.layout.proofs.Facts.{with-other}
+use Rattle.codeword.specs.declared.Tested.{Tested}
+use Rattle.codeword.specs.declared.Tested.the-variants.{Sound, Bad, Refused as NoTest}
+use Rattle.codeword.specs.Test.{testRefusal, TestAnswer, numbersOf as verdict}
+use Rattle.share.specs.Share.{shareRefusal, shareBuffer, addRefusal, addBuffer}
+use Rattle.share.specs.Many.{manyRefusal, manyBuffer, addManyRefusal, addManyBuffer}
+use Rattle.repair.specs.declared.Repaired.{Repaired}
+use Rattle.repair.specs.declared.Repaired.the-variants.{Done, Refused}
+use Rattle.repair.specs.Repair.{repairRefusal, report, RepairAnswer}
+use Rattle.reading.specs.Reading.{partRefusal, partGiven}
+use Rattle.correcting.specs.Correcting.{correctingRefusal}
+use Rattle.card.specs.Grounds.{cardGround}
+use Rattle.cards.specs.Cards.{printGround, testGround, repairGround}
+use Rattle.image.specs.declared.Edition.{Edition}
+use Rattle.image.specs.Image.{writeRefusal, writeBuffer, readRefusal, readTray, readSymbols}
+use Rattle.margin.specs.declared.LossMargin.the-variants.{Refused as NoMargin}
+use Rattle.margin.specs.Margin.{marginRefusal, marginAnswer}
+use Rattle.scrub.specs.declared.Walk.{Walk}
+use Rattle.scrub.specs.declared.Report.the-variants.{Refused as NoWalk}
+use Rattle.scrub.specs.Scrub.{scrubRefusal, scrubbed, begun}
+use Rattle.box_words.specs.Store.{storeRefusal as boxStoreRefusal, storeBuffer as boxStoreBuffer}
+use Rattle.claims.specs.Claims.{Refuses, Grounded}
+
+-- with a refusal the second of two outcomes is taken
+refused : {A : Type 0} (n : ℕ) (a b : A) → Refuses n → cond (eqb n 0) a b ≡ b
+refused n a b h = ap (λ t. cond t a b) (ne-eqb n 0 h)
+
+not-taken : {A : Type 0} (t : Bool) (a b : A) → ¬ (t ≡ true) → cond t a b ≡ b
+not-taken true a b h = absurd (h refl)
+not-taken false a b h = refl
+
+module _ (N : ℕ) (l : Layout) where
+  pub measure-numbers : measures (measured N l) ≡ cond (admissible N l) (record { refusal = 0; layers = layers l; checks = checks l; traffic = traffic l })
+      (record { refusal = 1; layers = 0; checks = 0; traffic = 0 })
+  unfolding measured
+  measure-numbers = go (admissible N l)
+    where
+      go : (t : Bool) → measures (cond t (Known (layers l) (checks l) (traffic l)) (NoMeasure 1)) ≡
+          cond t (record { refusal = 0; layers = layers l; checks = checks l; traffic = traffic l }) (record { refusal = 1; layers = 0; checks = 0; traffic = 0 })
+      go true = refl
+      go false = refl
+
+  pub margin-refused : (states : List ℕ) → Refuses (marginRefusal N l states) → marginAnswer N l states ≡ NoMargin (marginRefusal N l states)
+  unfolding marginAnswer
+  margin-refused states h = refused _ _ _ h
+
+  pub reset-refused : (w : Walk) → ¬ (admissible N l ≡ true) → begun N l w ≡ record { report = NoWalk 1; walk = w }
+  unfolding begun
+  reset-refused w h = not-taken (admissible N l) _ _ h
+
+  pub part-refused : (codeword spare : List ℕ) (lost done tray first end : ℕ) →
+      Refuses (partRefusal N l (length codeword) (length spare) lost done tray first end) →
+      partGiven N l codeword spare lost done tray first end ≡ []
+  unfolding partGiven
+  part-refused codeword spare lost done tray first end h = refused _ _ _ h
+
+module _ {A : Type 0} (f : Field A) (l : Layout) where
+  pub test-grounds : (c : List ℕ) (r : Tested) → TestAnswer f l c r →
+      (verdict r .refusal ≡ testRefusal f l c) × (Refuses (testRefusal f l c) → verdict r ≡ record { refusal = testRefusal f l c; verdict = 0; layer = 0; check = 0 })
+  test-grounds c Sound p = (sym (p .0), λ h. absurd (h (p .0)))
+  test-grounds c (Bad j t) p = (sym (p .0), λ h. absurd (h (p .0)))
+  test-grounds c (NoTest e) p = (p .0, λ h i. record { refusal = p .0 i; verdict = 0; layer = 0; check = 0 })
+
+  pub share-refused : (host helper : ℕ) (rack out : List ℕ) → Refuses (shareRefusal f l host helper rack (length out)) → shareBuffer f l host helper rack out ≡ out
+  unfolding shareBuffer
+  share-refused host helper rack out h = refused _ _ _ h
+
+  pub add-refused : (host x : ℕ) (symbols held : List ℕ) → Refuses (addRefusal f l host x symbols held) → addBuffer f l host x symbols held ≡ held
+  unfolding addBuffer
+  add-refused host x symbols held h = refused _ _ _ h
+
+  pub many-refused : (e host helper : ℕ) (rack out : List ℕ) → Refuses (manyRefusal f l e host helper rack (length out)) → manyBuffer f l e host helper rack out ≡ out
+  unfolding manyBuffer
+  many-refused e host helper rack out h = refused _ _ _ h
+
+  pub add-many-refused : (e host x : ℕ) (symbols held : List ℕ) → Refuses (addManyRefusal f l e host x symbols held) → addManyBuffer f l e host x symbols held ≡ held
+  unfolding addManyBuffer
+  add-many-refused e host x symbols held h = refused _ _ _ h
+
+  module _ (lost helpers shares host : List ℕ) (first budget : ℕ) (old new : List ℕ) where
+    pub repair-grounds : (r : Repaired) → RepairAnswer f l lost helpers shares host first budget old new r →
+        Grounded (repairRefusal f l lost helpers shares host (length old) first budget) (report r .refusal) old new
+        × (Refuses (repairRefusal f l lost helpers shares host (length old) first budget) →
+        report r ≡ record { refusal = repairRefusal f l lost helpers shares host (length old) first budget; groupsDone = 0; crossed = 0; remaining = 0 })
+    repair-grounds (Done g c t) p = ((sym (p .accepted), λ h. absurd (h (p .accepted))), λ h. absurd (h (p .accepted)))
+    repair-grounds (Refused e) p = ((p .refused, λ h. p .kept), λ h i. record { refusal = p .refused i; groupsDone = 0; crossed = 0; remaining = 0 })
+
+  pub scrub-refused : (c : List ℕ) (w : Walk) (budget : ℕ) → Refuses (scrubRefusal f l c w budget) →
+      scrubbed f l c w budget ≡ record { report = NoWalk (scrubRefusal f l c w budget); walk = w }
+  unfolding scrubbed
+  scrub-refused c w budget h = refused _ _ _ h
+
+  -- with E = 1 the calls that are for E = 0 answer 1
+  module _ (d : ¬ (l .errors ≡ 0)) where
+    not-fit : admissibleWith (f .order) 0 l ≡ false
+    not-fit = sym (with-other (f .order) 0 l d)
+
+    pub repair-other : (lost helpers shares host : List ℕ) (room first budget : ℕ) → repairRefusal f l lost helpers shares host room first budget ≡ 1
+    unfolding repairRefusal
+    repair-other lost helpers shares host room first budget = simp not-fit
+
+    pub many-other : (e h i : ℕ) (rack : List ℕ) (room : ℕ) → manyRefusal f l e h i rack room ≡ 1
+    unfolding manyRefusal
+    many-other e h i rack room = simp not-fit
+
+    pub add-many-other : (e h x : ℕ) (tray held : List ℕ) → addManyRefusal f l e h x tray held ≡ 1
+    unfolding addManyRefusal
+    add-many-other e h x tray held = simp not-fit
+
+    pub part-other : (codeword spare lost done tray first end : ℕ) → partRefusal (f .order) l codeword spare lost done tray first end ≡ 1
+    unfolding partRefusal
+    part-other codeword spare lost done tray first end = simp not-fit
+
+    pub print-other : (x : ℕ) (helpers : List ℕ) (group room : ℕ) → printGround f l x helpers group room ≡ 1
+    unfolding printGround cardGround
+    print-other x helpers group room = simp not-fit
+
+    pub card-other : (x : ℕ) (helpers : List ℕ) (group : ℕ) (card : List ℕ) → testGround f l x helpers group card ≡ 1
+    unfolding testGround cardGround
+    card-other x helpers group card = simp not-fit
+
+    pub by-card-other : (x : ℕ) (helpers : List ℕ) (group : ℕ) (card shares host : List ℕ) (room : ℕ) → repairGround f l x helpers group card shares host room ≡ 1
+    unfolding repairGround cardGround
+    by-card-other x helpers group card shares host room = simp not-fit
+
+  -- and with E = 0 the one that is for E = 1
+  pub correcting-other : ¬ (l .errors ≡ 1) → (x : ℕ) (helpers shares host : List ℕ) (room : ℕ) → correctingRefusal f l x helpers shares host room ≡ 1
+  unfolding correctingRefusal
+  correcting-other d x helpers shares host room = simp (sym (with-other (f .order) 1 l d))
+
+module _ (ed : Edition) (l : Layout) where
+  pub write-refused : (tray state volume : ℕ) (symbols image : List ℕ) → Refuses (writeRefusal ed l tray state volume symbols (length image)) →
+      writeBuffer ed l tray state volume symbols image ≡ image
+  unfolding writeBuffer
+  write-refused tray state volume symbols image h = refused _ _ _ h
+
+  pub read-refused : (volume places : ℕ) (given image : List ℕ) → Refuses (readRefusal ed l volume places image) →
+      (readTray ed l volume places image ≡ 0) × (readSymbols ed l volume places given image ≡ given)
+  unfolding readTray readSymbols
+  read-refused volume places given image h = (refused _ _ _ h, refused _ _ _ h)
+
+-- storing in the box
+pub box-refused : (given out : List ℕ) → Refuses (boxStoreRefusal given (length out)) → boxStoreBuffer given out ≡ out
+unfolding boxStoreBuffer
+box-refused given out h = refused _ _ _ h

@@ -1,0 +1,161 @@
+-- What a repair leaves of the spare, and what it never looks at. Over any field.
+-- Assumes nothing.
+use mathlib.Core.Path.{_≡_, refl, sym, ap, subst, _∙_}
+use mathlib.Core.Bool.{Bool, true, false, cond, _&&_}
+use mathlib.Core.List.{List}
+use mathlib.Core.Logic.{_⊎_, ⊎-elim}
+use Prim.Native.Nat.{ℕ, _+_, _-_, _*_, _/_, _%_, _<_, _≤_, min}
+use native.Mathlib.Decide.{decLe, decLt}
+use native.Mathlib.Omega.{arith}
+use borrow.Author.Tests.{le-leb, leb-true, ltb-true}
+use lib.Arith.{digits-mod}
+use lib.Dec.{leb, ltb, eqb}
+use lib.ListN.{length, getD}
+use lib.Seq.{ext-getD}
+use Rattle.lists.specs.Lists.{all, absent}
+use Rattle.lists.proofs.Bools.{all-same, not-both}
+use Rattle.lists.proofs.Numbered.{absent-true}
+use Rattle.algebra.specs.Shape.{Field}
+use Rattle.algebra.specs.Plain.{Working}
+use Rattle.algebra.specs.Layers.{groupOf}
+use Rattle.layout.specs.declared.Layout.{Layout}
+use Rattle.layout.specs.Layout.{digits, layers, groups}
+use Rattle.range.specs.Range.{symbolsFrom, symbolRows}
+use Rattle.range.proofs.Symbols.{symbols-true}
+use Rattle.codeword.specs.Codeword.{symbolAt, Solvable}
+use Rattle.codeword.proofs.Usable.{usable, solvable}
+use Rattle.codeword.proofs.Buffers.{layers-pos}
+use Rattle.rule.specs.Rule.{groupAt, Outside}
+use Rattle.rule.specs.Lost.{firstLost, lostPlace, Losses, SoundAlike, Piece}
+use Rattle.rule.proofs.Lost.{ruled-same}
+use Rattle.seen.specs.Seen.{layerSymbol, soundSymbols, pieceSymbols}
+use Rattle.seen.proofs.Piece.{passes}
+use Rattle.repair.specs.declared.Repaired.{Repaired}
+use Rattle.repair.specs.declared.Repaired.the-variants.{Done, Refused}
+use Rattle.repair.specs.Repair.{repairRefusal, report, RepairDone, RepairAnswer}
+use Rattle.repair.proofs.Refusals.{repairable}
+use Rattle.repair.proofs.Pieces.{kept-at}
+use Rattle.claims.specs.Claims.{OthersAlike}
+
+module _ {A : Type 0} {f : Field A} (W : Working f) (l : Layout) (lost helpers shares host : List ℕ) (first budget : ℕ) (old new : List ℕ) where
+  -- a call writes its own groups' layers only
+  pub own-groups : (r : Repaired) → RepairAnswer f l lost helpers shares host first budget old new r →
+      (length new ≡ length old) × ((n : ℕ) → n < length old → Outside l (firstLost l lost) first (report r .groupsDone) (n % layers l) → getD new n 0 ≡ getD old n 0)
+  own-groups (Done g c t) p =
+      let made = repairable f l lost helpers shares host (length old) first budget (p .accepted) in (
+        p .piece .long,
+        λ n h out. kept-at (length lost) (layers l) (layers-pos f l (usable W l (made .adm .admissible))) n old new (omega (arith, h, made .spare-long))
+            (λ i hi j hj e. p .piece .kept i hi j hj (subst (λ y. Outside l (firstLost l lost) first g y) (sym e) out)),
+      )
+  own-groups (Refused e) p = (ap length (p .kept), λ n h out. ap (λ s. getD s n 0) (p .kept))
+
+  -- no group done: nothing written
+  idle : (r : Repaired) → RepairAnswer f l lost helpers shares host first budget old new r → report r .groupsDone ≡ 0 → new ≡ old
+  idle r p z =
+      let own = own-groups r p in
+      ext-getD 0 new old (own .0) (λ n h. own .1 n (omega (arith, h, own .0)) (λ w. omega (arith, z, w .0, w .1)))
+
+  no-group : (r : Repaired) → RepairAnswer f l lost helpers shares host first budget old new r → (budget ≡ 0) ⊎ (first ≡ groups l) → report r .groupsDone ≡ 0
+  no-group (Done g c t) p why = ⊎-elim (λ e. omega (arith, p .done-is, e)) (λ e. omega (arith, p .done-is, e)) why
+  no-group (Refused e) p why = refl
+
+  -- a budget of 0, or a first group of L/s, does nothing
+  pub nothing : (r : Repaired) → RepairAnswer f l lost helpers shares host first budget old new r → (budget ≡ 0) ⊎ (first ≡ groups l) →
+      (new ≡ old) × (report r .groupsDone ≡ 0)
+  nothing r p why = (idle r p (no-group r p why), no-group r p why)
+
+  -- what a call that is done reports
+  pub reports : (r : Repaired) → RepairAnswer f l lost helpers shares host first budget old new r → report r .refusal ≡ 0 →
+      (report r .groupsDone ≡ min budget (groups l - first)) × (report r .crossed ≡ length lost * (l .helpers * report r .groupsDone))
+      × (report r .remaining ≡ length lost * (l .helpers * (groups l - (first + report r .groupsDone))))
+  reports (Done g c t) p z = (p .done-is, p .crossed-is, p .remaining-is)
+  reports (Refused e) p z = absurd (omega (arith, p .ground, z))
+
+  module _ (host′ new′ : List ℕ) (long : length host ≡ length host′) (alike : OthersAlike l lost host host′) where
+    abbrev h : ℕ
+    h = firstLost l lost / l .size
+
+    abbrev n : ℕ
+    n = min budget (groups l - first)
+
+    sound : Losses l lost helpers → (j : ℕ) → j < layers l → SoundAlike f l lost j host host′
+    unfolding symbolAt lostPlace
+    sound given j hj g hg out =
+        ap (f .coding .elem) (alike g j hg hj (sym (absent-true lost (h * l .size + g) (λ k hk e. out k hk (sym (ap (λ y. y % l .size) e ∙ digits-mod h hg))))))
+
+    -- two pieces of the same groups over the same spare write the same, where the host racks are alike in the sound trays
+    same-piece : Solvable f l → Losses l lost helpers → (g : ℕ) → first + g ≤ groups l → length old ≡ length lost * layers l →
+        Piece f l lost helpers shares host first g old new → Piece f l lost helpers shares host′ first g old new′ → new ≡ new′
+    same-piece ok given g within old-long a b =
+        ext-getD 0 new new′ (a .long ∙ sym (b .long))
+        (λ n hn. kept-at (length lost) (layers l) (layers-pos f l (ok .usable)) n new′ new (omega (arith, hn, a .long, old-long)) (λ i hi j hj _. at i hi j hj (groupAt l (firstLost l lost) j) refl))
+      where
+        at : (i : ℕ) → i < length lost → (j : ℕ) → j < layers l → (p : ℕ) → groupAt l (firstLost l lost) j ≡ p →
+            getD new (i * layers l + j) 0 ≡ getD new′ (i * layers l + j) 0
+        at i hi j hj p e = elim (decLe first p) [
+          | yes low ↦ elim (decLt p (first + g)) [
+            | yes high ↦ ruled-same f l ok lost helpers given p (omega arith) shares shares host host′ new new′ (a .done p low high) (b .done p low high) (λ m k hm hk. refl)
+                (λ q hq d. sound given q hq) i hi j hj e
+            | no high ↦ a .kept i hi j hj (λ w. high (omega arith)) ∙ sym (b .kept i hi j hj (λ w. high (omega arith)))
+          ]
+          | no low ↦ a .kept i hi j hj (λ w. low (omega arith)) ∙ sym (b .kept i hi j hj (λ w. low (omega arith)))
+        ]
+
+    both-done : (g c t g′ c′ t′ : ℕ) → RepairDone f l lost helpers shares host first budget old new (report (Done g c t)) →
+        RepairDone f l lost helpers shares host′ first budget old new′ (report (Done g′ c′ t′)) → (Done g c t ≡ Done g′ c′ t′) × (new ≡ new′)
+    both-done g c t g′ c′ t′ a b =
+        let made = repairable f l lost helpers shares host (length old) first budget (a .accepted) in
+        let groups-same : g ≡ g′ = a .done-is ∙ sym (b .done-is) in
+        let crossed-same : c ≡ c′ = a .crossed-is ∙ ap (λ n. length lost * (l .helpers * n)) groups-same ∙ sym (b .crossed-is) in
+        let toCome-same : t ≡ t′ = a .remaining-is ∙ ap (λ n. length lost * (l .helpers * (groups l - (first + n)))) groups-same ∙ sym (b .remaining-is) in (
+          (λ i. Done (groups-same i) (crossed-same i) (toCome-same i)),
+          same-piece (solvable W l (made .adm)) (made .losses) g (omega (arith, a .done-is, made .first-in)) (made .spare-long) (a .piece) (rw groups-same (b .piece)),
+        )
+
+    -- the symbols that are looked at are the same
+    layer-same : (g j : ℕ) → g < l .size → j < layers l → absent lost (h * l .size + g) ≡ true → layerSymbol f l h host first n g j ≡ layerSymbol f l h host′ first n g j
+    unfolding layerSymbol symbolsFrom all
+    layer-same g j hg hj a = ap (λ y. cond (leb first (groupOf (digits l) h j) && ltb (groupOf (digits l) h j) (first + n)) (ltb y (f .coding .size)) true)
+        (ap (λ k. getD host k 0) (omega arith) ∙ alike g j hg hj a ∙ ap (λ k. getD host′ k 0) (omega arith))
+
+    tray-same : (g : ℕ) → g < l .size → (t : Bool) → absent lost (h * l .size + g) ≡ t →
+        cond t (all (layerSymbol f l h host first n g) (layers l)) true ≡ cond t (all (layerSymbol f l h host′ first n g) (layers l)) true
+    tray-same g hg true a = all-same _ _ (layers l) (λ j hj. layer-same g j hg hj a)
+    tray-same g hg false a = refl
+
+    seen-same : pieceSymbols f l lost shares host first budget ≡ pieceSymbols f l lost shares host′ first budget
+    unfolding pieceSymbols soundSymbols
+    seen-same = ap (λ t. cond (eqb (length lost) 0) true (symbolRows f shares (length lost * l .helpers) (groups l) first n && t))
+        (all-same _ _ (l .size) (λ g hg. tray-same g hg (absent lost (h * l .size + g)) refl))
+
+    same-ground : repairRefusal f l lost helpers shares host (length old) first budget ≡ repairRefusal f l lost helpers shares host′ (length old) first budget
+    unfolding repairRefusal
+    same-ground = simp (long, seen-same)
+
+    -- two calls alike but for the bytes of the lost trays in the host rack answer the same and leave the same spare
+    pub lost-unread : (r r′ : Repaired) → RepairAnswer f l lost helpers shares host first budget old new r →
+        RepairAnswer f l lost helpers shares host′ first budget old new′ r′ → (r ≡ r′) × (new ≡ new′)
+    lost-unread (Done g c t) (Done g′ c′ t′) p q = both-done g c t g′ c′ t′ p q
+    lost-unread (Done g c t) (Refused e) p q = absurd (omega (arith, p .accepted, same-ground, q .refused, q .ground))
+    lost-unread (Refused e) (Done g c t) p q = absurd (omega (arith, q .accepted, same-ground, p .refused, p .ground))
+    lost-unread (Refused e) (Refused e′) p q = (ap Refused (p .refused ∙ same-ground ∙ sym (q .refused)), p .kept ∙ sym (q .kept))
+
+-- a call that has nothing to do looks at nothing, so that its grounds are those of a budget of 0 from group 0 on
+module _ {A : Type 0} (f : Field A) (l : Layout) (lost helpers shares host : List ℕ) (spare : ℕ) where
+  away : (first h g j : ℕ) → layerSymbol f l h host first 0 g j ≡ true
+  unfolding layerSymbol
+  away first h g j = ap (λ b. cond b (symbolsFrom f host (g * layers l + j) 1) true)
+      (not-both (leb first (groupOf (digits l) h j)) (ltb (groupOf (digits l) h j) (first + 0)) (λ x y.
+      let p = leb-true first (groupOf (digits l) h j) x in let q = ltb-true (groupOf (digits l) h j) (first + 0) y in omega arith))
+
+  unseen : (first budget : ℕ) → min budget (groups l - first) ≡ 0 → pieceSymbols f l lost shares host first budget ≡ true
+  unseen first budget z = passes f l lost shares host first budget
+      (λ r hr. subst (λ c. symbolsFrom f shares (r * groups l + first) c ≡ true) (sym z) (sym (symbols-true f shares (r * groups l + first) 0 (λ i hi. absurd (omega arith)))))
+      (λ g hg a j hj. subst (λ c. layerSymbol f l (firstLost l lost / l .size) host first c g j ≡ true) (sym z) (away first (firstLost l lost / l .size) g j))
+
+  pub no-ground : (first budget : ℕ) → (budget ≡ 0) ⊎ (first ≡ groups l) → first ≤ groups l →
+      repairRefusal f l lost helpers shares host spare first budget ≡ repairRefusal f l lost helpers shares host spare 0 0
+  unfolding repairRefusal
+  no-ground first budget why fits =
+      let none : min budget (groups l - first) ≡ 0 = ⊎-elim (λ e. omega arith) (λ e. omega arith) why in
+      simp (unseen first budget none, unseen 0 0 (omega arith), le-leb first (groups l) fits, le-leb 0 (groups l) (omega arith))
