@@ -50,6 +50,7 @@ impl Setting {
 }
 
 /// A command line, sorted into words and settings.
+#[derive(Clone)]
 pub struct Arguments {
     words: Vec<OsString>,
     given: Vec<(&'static str, OsString)>,
@@ -114,6 +115,18 @@ impl Arguments {
             };
             usage(format!("expected {wanted}, found {} words", found.len()))
         })
+    }
+
+    /// The first plain word, and the line without it.
+    pub fn action(&self) -> Result<(String, Arguments), Failure> {
+        let mut rest = self.clone();
+        match self.words.first() {
+            Some(word) => {
+                rest.words.remove(0);
+                Ok((word.to_string_lossy().into_owned(), rest))
+            }
+            None => Err(usage("expected one word or more".to_string())),
+        }
     }
 
     /// The numbers B, u, k, d of a layout, or B, u, k, d, E, and the plain words after them, exactly

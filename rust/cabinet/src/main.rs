@@ -6,6 +6,7 @@
 #![forbid(unsafe_code)]
 
 mod arguments;
+mod card;
 mod commands;
 mod conditions;
 mod correcting;

@@ -8,7 +8,7 @@ use crate::progress;
 use crate::screen::{Paint, Screen};
 use crate::spare::Spare;
 use crate::symbol::Symbol;
-use crate::task::Task;
+use crate::task::{Piece, Task};
 use crate::words::trays;
 use gesarumbo::{Rack, Tested, Tray};
 use std::path::PathBuf;
@@ -58,14 +58,40 @@ pub fn work<S: Symbol>(
     loop {
         let budget = task.piece_size().min(end - next);
         let piece = task.piece(&mut spare.symbols, next, budget)?;
+        keep(task, spare, &piece, screen)?;
         next = piece.end;
-        spare.done = spare.done.max(next);
-        spare.save(task)?;
-        screen.line(progress::piece(&piece));
         if next >= end {
             return Ok(());
         }
     }
+}
+
+/// Does the groups from the first on by their cards, as many as there are.
+pub fn work_by_cards<S: Symbol>(
+    task: &Task<S>,
+    spare: &mut Spare<S>,
+    first: u64,
+    cards: &[Vec<S>],
+    screen: &mut Screen,
+) -> Result<(), Failure> {
+    for (group, card) in (first..).zip(cards) {
+        let piece = task.group_by_card(&mut spare.symbols, group, card)?;
+        keep(task, spare, &piece, screen)?;
+    }
+    Ok(())
+}
+
+/// Writes the work file after a piece, and says how far the repair is.
+fn keep<S: Symbol>(
+    task: &Task<S>,
+    spare: &mut Spare<S>,
+    piece: &Piece,
+    screen: &mut Screen,
+) -> Result<(), Failure> {
+    spare.done = spare.done.max(piece.end);
+    spare.save(task)?;
+    screen.line(progress::piece(piece));
+    Ok(())
 }
 
 /// Tests the finished trays with the others, writes their images and removes the work file.

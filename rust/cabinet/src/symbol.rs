@@ -48,6 +48,9 @@ pub struct Calls<S: 'static> {
     pub repair_many:
         fn(Layout, &[Tray], &[Rack], &[S], &[S], &mut [S], u64, u64) -> Answer<Repaired>,
     pub repair_correcting: fn(Layout, Tray, &[Rack], &[S], &[S], &mut [S]) -> Answer<Corrected>,
+    pub card: fn(Layout, Tray, &[Rack], u64, &mut [S]) -> Answer<()>,
+    pub card_test: fn(Layout, Tray, &[Rack], &[S], u64) -> Answer<()>,
+    pub card_repair: fn(Layout, Tray, &[Rack], &[S], &[S], &[S], &mut [S], u64) -> Answer<Repaired>,
     pub read_part:
         for<'a> fn(Layout, &'a [S], &'a [S], Tray, u64, Tray, Range<Layer>) -> Answer<&'a [S]>,
     pub write_image: fn(Layout, Tray, u32, u32, &[S], &mut [u8]) -> Answer<()>,
@@ -68,6 +71,9 @@ macro_rules! calls {
             share_many: $module::share_many,
             repair_many: $module::repair_many,
             repair_correcting: $module::repair_correcting,
+            card: $module::card,
+            card_test: $module::card_test,
+            card_repair: $module::card_repair,
             read_part: $module::read_part,
             write_image: $module::write_image,
             margin: $module::margin,

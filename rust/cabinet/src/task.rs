@@ -8,7 +8,7 @@ use crate::numbers::Numbers;
 use crate::progress;
 use crate::symbol::Symbol;
 use crate::words::trays;
-use gesarumbo::{Rack, Tray};
+use gesarumbo::{Rack, Refusal, Repaired, Tray};
 
 /// What stays fixed over all pieces of a repair.
 pub struct Task<S> {
@@ -111,8 +111,28 @@ impl<S: Symbol> Task<S> {
         } = &self.label;
         let (layout, shares, host) = (plate.layout, &self.shares, &self.host);
         let done =
-            (S::CALLS.repair_many)(layout, lost, helpers, shares, host, spare, first, budget)
-                .map_err(Failure::refused(format!("repair of {}", trays(lost))))?;
+            (S::CALLS.repair_many)(layout, lost, helpers, shares, host, spare, first, budget);
+        self.done(first, done)
+    }
+
+    /// Does one group of one lost tray by a card.
+    pub fn group_by_card(&self, spare: &mut [S], group: u64, card: &[S]) -> Result<Piece, Failure> {
+        let Label {
+            plate,
+            lost,
+            helpers,
+            ..
+        } = &self.label;
+        let (layout, shares, host) = (plate.layout, &self.shares, &self.host);
+        let done =
+            (S::CALLS.card_repair)(layout, lost[0], helpers, card, shares, host, spare, group);
+        self.done(group, done)
+    }
+
+    /// What the library's answer to a piece from this group on means for the whole.
+    fn done(&self, first: u64, done: Result<Repaired, Refusal>) -> Result<Piece, Failure> {
+        let lost = &self.label.lost;
+        let done = done.map_err(Failure::refused(format!("repair of {}", trays(lost))))?;
         let of_group = (lost.len() * self.numbers.helpers) as u64;
         Ok(Piece {
             first,

@@ -6,6 +6,7 @@ use crate::help;
 use crate::screen::Screen;
 use std::ffi::{OsStr, OsString};
 
+mod card;
 mod demo;
 mod inspect;
 mod margin;
@@ -42,6 +43,7 @@ pub const COMMANDS: &[Command] = &[
     recover::COMMAND,
     share::COMMAND,
     repair::COMMAND,
+    card::COMMAND,
     read::COMMAND,
     margin::COMMAND,
     inspect::COMMAND,

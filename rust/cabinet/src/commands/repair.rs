@@ -3,6 +3,7 @@
 
 use super::Command;
 use crate::arguments::{needed, Arguments, Setting};
+use crate::card;
 use crate::correcting;
 use crate::failure::Failure;
 use crate::field::in_field;
@@ -37,6 +38,12 @@ const FIRST: Setting = Setting::with(
     "begin with group G, at most the groups done; without it, go on where the work file ends",
 );
 const BUDGET: Setting = Setting::with("--budget", "N", "do at most N groups now");
+const CARD: Setting = Setting::with(
+    "--card",
+    "FILE",
+    "do the next group by this card, from cabinet card: once for each group, in their order",
+)
+.repeated();
 
 pub const COMMAND: Command = Command {
     name: "repair",
@@ -48,6 +55,7 @@ pub const COMMAND: Command = Command {
         SHARE,
         FIRST,
         BUDGET,
+        CARD,
         SPARE,
         plate::LAYOUT,
         plate::VOLUME,
@@ -58,7 +66,7 @@ pub const COMMAND: Command = Command {
 
 const HELP: &str = "\
 cabinet repair DIR --lost X,Y,.. --helpers a,b,.. [--share FILE]..
-               [--first G] [--budget N] [--spare FILE]
+               [--first G] [--budget N] [--card FILE].. [--spare FILE]
 
 Brings back tray X, or up to u - v trays of one rack, from the shares of d
 helper racks and the other trays of their rack, some groups at a time. After
@@ -66,7 +74,8 @@ each piece the spare is kept in a work file that names the repair and the groups
 done, so a repair that is broken off goes on where it ended. When all groups are
 done, the trays are tested with the others, if all are there, their live images
 are written and the work file removed. If they do not fit together no image is
-written (65).
+written (65). A group of one lost tray can be done by a card, whoever has
+printed it: a card that is not right for the group is refused (15).
 
 In a cabinet with E = 1 one of the d shares may be wrong. One tray is brought
 back, all groups at once and without a work file: the tray is right all the
@@ -110,7 +119,9 @@ fn repair<S: Symbol>(
 ) -> Result<(), Failure> {
     let folder = Folder::<S>::open(place)?;
     match asked.lost[..] {
-        [lost] if folder.numbers.errors > 0 => at_once(&folder, lost, &asked, arguments, screen),
+        [lost] if folder.numbers.errors > 0 && !arguments.has(CARD) => {
+            at_once(&folder, lost, &asked, arguments, screen)
+        }
         _ => in_pieces(&folder, asked, arguments, screen),
     }
 }
@@ -155,6 +166,7 @@ fn in_pieces<S: Symbol>(
 ) -> Result<(), Failure> {
     let first = asked.first.unwrap_or(0);
     judge::<S>(&folder.numbers, &asked.lost, &asked.helpers, first)?;
+    let cards = cards(&asked, arguments)?;
     let shares = shares(folder, &asked, arguments)?;
     let lost = asked.lost;
     let task = Task::new(folder, lost.clone(), asked.helpers, shares)?;
@@ -162,7 +174,10 @@ fn in_pieces<S: Symbol>(
     let mut spare = Spare::open(&path, &task)?;
     let first = start(asked.first, &spare)?;
     folder.introduce(screen);
-    mending::work(&task, &mut spare, first, asked.budget, screen)?;
+    match cards.is_empty() {
+        true => mending::work(&task, &mut spare, first, asked.budget, screen)?,
+        false => mending::work_by_cards(&task, &mut spare, first, &cards, screen)?,
+    }
     if spare.done < task.groups() {
         let place = path.display();
         screen.line(format!(
@@ -171,6 +186,24 @@ fn in_pieces<S: Symbol>(
         return Ok(());
     }
     mending::finish(folder, &lost, spare, screen)
+}
+
+/// The cards that are named, each of one group.
+fn cards<S: Symbol>(asked: &Asked, arguments: &Arguments) -> Result<Vec<Vec<S>>, Failure> {
+    let files = arguments.values(CARD);
+    let but = match asked.lost.len() {
+        _ if files.is_empty() => None,
+        1 if arguments.has(BUDGET) => Some(format!("there is no {} with it", BUDGET.name)),
+        1 => None,
+        _ => Some("cards are for one lost tray".to_string()),
+    };
+    match but {
+        Some(words) => Err(Failure::Usage(format!("{}: {words}", CARD.name))),
+        None => files
+            .iter()
+            .map(|file| card::read(Path::new(file)))
+            .collect(),
+    }
 }
 
 /// All helpers' shares, from files, each of the wanted length.

@@ -2,9 +2,9 @@
 
 use crate::bench::{assert_readable, Bench};
 
-const COMMANDS: [&str; 12] = [
-    "demo", "plan", "store", "test", "scrub", "recover", "share", "repair", "read", "margin",
-    "inspect", "box",
+const COMMANDS: [&str; 13] = [
+    "demo", "plan", "store", "test", "scrub", "recover", "share", "repair", "card", "read",
+    "margin", "inspect", "box",
 ];
 
 #[test]
@@ -22,7 +22,7 @@ fn general_help_lists_commands_and_statuses() {
     }
     for status in [
         "   0  ", "   1  ", "  11  ", "  12  ", "  13  ", "  14  ", "  64  ", "  65  ", "  70  ",
-        "  74  ",
+        "  15  ", "  74  ",
     ] {
         assert!(
             help.contains(&format!("\n{status}")),
@@ -92,6 +92,16 @@ fn senseless_lines_are_usage_errors() {
         "repair c --lost 4 --helpers 0,two,3",
         "repair c --lost 3,four --helpers 0,2,3",
         "repair c --lost 4 --helpers 0,2,3 --share c/tray-00.img",
+        "repair c --lost 4 --helpers 0,2,3 --card",
+        "repair c --lost 4 --helpers 0,2,3 --card k --budget 1",
+        "card",
+        "card wash",
+        "card print 4 3 8 3 --lost 4 --helpers 0,2,3 out",
+        "card print 4 3 8 3 --lost 4 --group 0 out",
+        "card print 4 3 8 3 --helpers 0,2,3 --group 0 out",
+        "card print 4 3 8 --lost 4 --helpers 0,2,3 --group 0 out",
+        "card test 4 3 8 3 --lost 4 --helpers 0,2,3 --group 0",
+        "card test 4 3 8 3 --lost 4 --helpers 0,2,3 --group -1 k",
         "read c --tray 4",
         "read c --layers 0..1",
         "read c --tray 4 --layers 0",

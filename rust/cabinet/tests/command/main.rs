@@ -1,6 +1,7 @@
 //! The command run as people run it: words in, files in, files out, and an exit status.
 
 mod bench;
+mod card;
 mod demo;
 mod field257;
 mod files;

@@ -1,0 +1,126 @@
+//! `cabinet card`: the ready multipliers of one group of a repair.
+
+use super::Command;
+use crate::arguments::{needed, Arguments, Setting};
+use crate::card;
+use crate::failure::Failure;
+use crate::field::{in_field, Field, FIELD};
+use crate::files;
+use crate::numbers::Numbers;
+use crate::screen::{Paint, Screen};
+use crate::symbol::Symbol;
+use gesarumbo::{Rack, Tray};
+use std::path::Path;
+
+const LOST: Setting = Setting::with("--lost", "X", "the lost tray");
+const HELPERS: Setting = Setting::with("--helpers", "a,b,..", "d other racks, rising");
+const GROUP: Setting = Setting::with("--group", "G", "the group of the repair");
+
+pub const COMMAND: Command = Command {
+    name: "card",
+    summary: "print and test cards of ready numbers for a repair",
+    help: HELP,
+    settings: &[LOST, HELPERS, GROUP, FIELD],
+    run,
+};
+
+const HELP: &str = "\
+cabinet card print B u k d --lost X --helpers a,b,.. --group G [--field N] OUT
+cabinet card test  B u k d --lost X --helpers a,b,.. --group G [--field N] FILE
+
+A card has the ready multipliers of one group of a repair: they turn the symbols
+that the d helpers send for the group into the s sums of the lost tray's rack.
+It is a text: a line for each sum, with a number for each helper. Tray X stands
+for its rack; its place there does not matter.
+
+print    writes the one right card to OUT
+test     says whether the card in FILE is right, whoever has printed it; one
+         that does not give the sums of every codeword is refused (15)
+
+cabinet repair --card repairs a group by a card.
+";
+
+/// What a card is for.
+struct Place {
+    numbers: Numbers,
+    lost: Tray,
+    helpers: Vec<Rack>,
+    group: u64,
+}
+
+fn run(arguments: &Arguments, screen: &mut Screen) -> Result<(), Failure> {
+    let (action, arguments) = arguments.action()?;
+    if !["print", "test"].contains(&action.as_str()) {
+        return Err(Failure::Usage("print or test is needed".to_string()));
+    }
+    let (layout, [file]) = arguments.layout_and(["FILE"])?;
+    let field = Field::asked(&arguments)?.unwrap_or_default();
+    let lost = Tray::new(needed(LOST, arguments.number(LOST)?)?);
+    let helpers = needed(HELPERS, arguments.list(HELPERS)?)?;
+    let group = needed(GROUP, arguments.number(GROUP)?)?;
+    let place = Place {
+        numbers: Numbers::of(layout, field)?,
+        lost,
+        helpers: helpers.into_iter().map(Rack::new).collect(),
+        group,
+    };
+    let path = Path::new(file);
+    match action.as_str() {
+        "print" => in_field!(field, print(&place, path, screen)),
+        _ => in_field!(field, test(&place, path, screen)),
+    }
+}
+
+impl Place {
+    /// In words.
+    fn name(&self) -> String {
+        let Place {
+            numbers,
+            lost,
+            group,
+            ..
+        } = self;
+        let rack = numbers.rack_of(*lost);
+        format!(
+            "card of group {group} for rack {rack} of {}",
+            numbers.name()
+        )
+    }
+}
+
+fn print<S: Symbol>(place: &Place, path: &Path, screen: &mut Screen) -> Result<(), Failure> {
+    let Place {
+        numbers,
+        lost,
+        helpers,
+        group,
+    } = place;
+    let mut card = vec![S::default(); numbers.helpers * numbers.base];
+    (S::CALLS.card)(numbers.layout, *lost, helpers, *group, &mut card)
+        .map_err(Failure::refused(place.name()))?;
+    let lines = card::lines(&card, numbers.helpers);
+    screen.heading(place.name());
+    lines
+        .iter()
+        .for_each(|line| screen.line(format!("  {line}")));
+    files::write_one(path, (lines.join("\n") + "\n").into_bytes())
+}
+
+fn test<S: Symbol>(place: &Place, path: &Path, screen: &mut Screen) -> Result<(), Failure> {
+    let Place {
+        numbers,
+        lost,
+        helpers,
+        group,
+    } = place;
+    let card: Vec<S> = card::read(path)?;
+    let about = format!("{}: {}", path.display(), place.name());
+    (S::CALLS.card_test)(numbers.layout, *lost, helpers, &card, *group)
+        .map_err(Failure::refused(about))?;
+    let right = screen.paint(Paint::Good, "right");
+    screen.heading(place.name());
+    screen.line(format!(
+        "  {right}: it gives the rack's sums of every codeword"
+    ));
+    Ok(())
+}
