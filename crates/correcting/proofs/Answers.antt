@@ -19,16 +19,16 @@ use Rattle.layout.specs.Layout.{digits, layers, groups, parityRacks, trayLimit,
 use Rattle.layout.proofs.Facts.{bounds, rack-in}
 use Rattle.layout.proofs.Numbers.{groups-are}
 use Rattle.codeword.specs.Codeword.{shapeOf}
-use Rattle.rule.specs.Rule.{sharedSymbol}
+use Rattle.rule.specs.Rule.{Helpers, sharedSymbol}
 use Rattle.sums.specs.Inner.{helperAt}
 use Rattle.locating.specs.Inner.{Sent, Found}
 use Rattle.correcting.specs.declared.Corrected.the-variants.{Done, Refused}
 use Rattle.correcting.specs.Correcting.{correctingRefusal, report, ChecksHold, CorrectingDone, CorrectingRefused}
-use Rattle.correcting.specs.Inner.{shorter, sentLimit, Mending, Mended, LeftAt}
+use Rattle.correcting.specs.Inner.{plainLayout, Racks, sentLimit, Rebuilding, Rebuilt, LeavingOut, RebuiltWithout}
 use Rattle.correcting.proofs.Choices.{Alike, clean-hold, hold-clean, right-share, right-alike, located-hold, none-hold}
-use Rattle.correcting.proofs.Layouts.{short-digits, short-unknowns, short-cabinet, short-groups}
+use Rattle.correcting.proofs.Layouts.{plain-digits, plain-unknowns, plain-cabinet, plain-groups, two-racks}
 use Rattle.correcting.proofs.Refusals.{Accepted, accepted-so}
-use Rattle.correcting.proofs.Mends.{tray-settled, Differs, differs}
+use Rattle.correcting.proofs.Rebuilt.{tray-all, tray-without, Differs, differs}
 
 -- ---- room: with s = 1 there is one group, and else there are at most 12 racks and 2,048 groups
 one-power : (n : ℕ) → 1 ^ n ≡ 1
@@ -47,57 +47,61 @@ many-racks B s h k = go (decLe B 12)
         let more : 2 ^ 13 ≤ 2 ^ B = pow-le-pow-right low high in
         absurd (omega arith)
 
-pub sent-few : (l : Layout) → Cabinet l → (l .helpers - 2) * groups l ≤ sentLimit
+pub sent-few : (l : Layout) → Cabinet l → (l .helpers - 1) * groups l ≤ sentLimit
 sent-few l a = go (decLe 2 (digits l))
   where
-    go : Dec (2 ≤ digits l) → (l .helpers - 2) * groups l ≤ sentLimit
+    go : Dec (2 ≤ digits l) → (l .helpers - 1) * groups l ≤ sentLimit
     go (yes h) =
         let r = many-racks (l .racks) (digits l) h (a .layers-high) in
         let g : groups l * digits l ≤ layers l = div-mul-le-self (layers l) (digits l) in
         let t : groups l * 2 ≤ groups l * digits l = mul-le-mul-left (groups l) h in
-        let d : l .helpers - 2 ≤ 9 = omega (arith, a .helpers-high) in
+        let d : l .helpers - 1 ≤ 10 = omega (arith, a .helpers-high) in
         let e : groups l ≤ 2048 = omega (arith, a .layers-high) in
-        let p : (l .helpers - 2) * groups l ≤ 9 * 2048 = mul-le-mul d e in
+        let p : (l .helpers - 1) * groups l ≤ 10 * 2048 = mul-le-mul d e in
         omega arith
     go (no h) =
         let b = bounds l a in
         let s : digits l ≡ 1 = omega arith in
         let g : groups l ≡ 1 = groups-are l a ∙ ap (λ y. y ^ (l .racks - 1)) s ∙ one-power (l .racks - 1) in
-        omega (arith, ap (λ y. (l .helpers - 2) * y) g ∙ mul-one (l .helpers - 2))
+        omega (arith, ap (λ y. (l .helpers - 1) * y) g ∙ mul-one (l .helpers - 1))
 
-module _ (N : ℕ) (l : Layout) (x : ℕ) (helpers shares host : List ℕ) (k : ℕ) (spare : List ℕ) (g : Mending N l x helpers shares host k spare) where
-  left-count : length helpers - 2 ≡ l .helpers - 2
-  left-count = ap (λ n. n - 2) (g .help .many)
+module _ (N : ℕ) (l : Layout) (x : ℕ) (helpers shares host : List ℕ) (k : ℕ) (spare : List ℕ) (g : LeavingOut N l x helpers shares host k spare) where
+  left-count : length helpers - 1 ≡ l .helpers - 1
+  left-count = ap (λ n. n - 1) (g .help .many)
 
-  product : (n : ℕ) → n ≡ groups l → (length helpers - 2) * n ≡ (l .helpers - 2) * groups l
+  product : (n : ℕ) → n ≡ groups l → (length helpers - 1) * n ≡ (l .helpers - 1) * groups l
   product n e = ap₂ (λ a b. a * b) left-count e
 
-  pub product-fits : (n : ℕ) → n ≡ groups l → Fits w64 ((length helpers - 2) * n)
+  pub product-fits : (n : ℕ) → n ≡ groups l → Fits w64 ((length helpers - 1) * n)
   product-fits n e = let t = sent-few l (g .adm .admissible .cabinet) in let p = product n e in record { fits = omega arith }
 
-  pub left-room : (left : List ℕ) → trayLimit ≤ length left → length helpers - 2 ≤ length left
+  pub left-room : (left : List ℕ) → trayLimit ≤ length left → length helpers - 1 ≤ length left
   left-room left r = let b = bounds l (g .adm .admissible .cabinet) in omega (arith, g .help .many, g .adm .admissible .cabinet .helpers-high)
 
-  pub sent-room : (n : ℕ) (sent : List ℕ) → n ≡ groups l → sentLimit ≤ length sent → (length helpers - 2) * n ≤ length sent
+  pub sent-room : (n : ℕ) (sent : List ℕ) → n ≡ groups l → sentLimit ≤ length sent → (length helpers - 1) * n ≤ length sent
   sent-room n sent e r = let t = sent-few l (g .adm .admissible .cabinet) in let p = product n e in omega arith
 
-  pub cut-left : (left : List ℕ) → trayLimit ≤ length left → length helpers - 2 ≡ length (take (length helpers - 2) left)
-  cut-left left r = sym (length-take-le (length helpers - 2) left (left-room left r))
+  pub cut-left : (left : List ℕ) → trayLimit ≤ length left → length helpers - 1 ≡ length (take (length helpers - 1) left)
+  cut-left left r = sym (length-take-le (length helpers - 1) left (left-room left r))
 
-  pub cut-sent : (n : ℕ) (sent : List ℕ) → n ≡ groups l → sentLimit ≤ length sent → (length helpers - 2) * n ≡ length (take ((length helpers - 2) * n) sent)
-  cut-sent n sent e r = sym (length-take-le ((length helpers - 2) * n) sent (sent-room n sent e r))
+  pub cut-sent : (n : ℕ) (sent : List ℕ) → n ≡ groups l → sentLimit ≤ length sent → (length helpers - 1) * n ≡ length (take ((length helpers - 1) * n) sent)
+  cut-sent n sent e r = sym (length-take-le ((length helpers - 1) * n) sent (sent-room n sent e r))
 
   pub cut-fits : (n : ℕ) (left sent : List ℕ) → n ≡ groups l → trayLimit ≤ length left → sentLimit ≤ length sent →
-      (length (take (length helpers - 2) left) + 2 ≡ l .helpers) × (length (take ((length helpers - 2) * n) sent) ≡ length (take (length helpers - 2) left) * groups l)
+      (length (take (length helpers - 1) left) + 1 ≡ l .helpers) × (length (take ((length helpers - 1) * n) sent) ≡ length (take (length helpers - 1) left) * groups l)
   cut-fits n left sent e r s =
       let c = cut-left left r in (
-        ap (λ y. y + 2) (sym c) ∙ omega (arith, g .help .many, g .inside),
+        ap (λ y. y + 1) (sym c) ∙ omega (arith, g .help .many, g .inside),
         sym (cut-sent n sent e s) ∙ ap₂ (λ a b. a * b) c e,
       )
 
 -- ---- what was found, by the layout itself
-move : (P : ℕ → ℕ → ℕ → Type 0) (s t m n F G : ℕ) → s ≡ t → m ≡ n → F ≡ G → P s m F → P t n G
-move P s t m n F G a b c p = subst (λ y. P t n y) c (subst (λ y. P t y F) b (subst (λ y. P y m F) a p))
+all-helpers : (l : Layout) → plainLayout 2 l .helpers ≡ l .helpers
+unfolding plainLayout
+all-helpers l = omega arith
+
+move : (P : ℕ → ℕ → ℕ → ℕ → Type 0) (d e s t m n F G : ℕ) → d ≡ e → s ≡ t → m ≡ n → F ≡ G → P d s m F → P e t n G
+move P d e s t m n F G z a b c p = subst (λ y. P e t n y) c (subst (λ y. P e t y F) b (subst (λ y. P e y m F) a (subst (λ y. P y s m F) z p)))
 
 module _ {A : Type 0} (f : Field A) (l : Layout) (a : Cabinet l) (one : l .errors ≡ 1) (h : ℕ) (helpers shares : List ℕ) where
   -- the layout's shape and shares, with s digits and F groups
@@ -107,31 +111,31 @@ module _ {A : Type 0} (f : Field A) (l : Layout) (a : Cabinet l) (one : l .error
   abbrev sharedBy : ℕ → ℕ → ℕ → A
   sharedBy F p k = f .coding .elem (getD shares (k * F + p) 0)
 
-  abbrev CleanBy : ℕ → ℕ → ℕ → Type 0
-  CleanBy s m F = Clean (by s) h (helperAt helpers) (l .helpers) m F (sharedBy F)
+  abbrev CleanBy : ℕ → ℕ → ℕ → ℕ → Type 0
+  CleanBy d s m F = Clean (by s) h (helperAt helpers) d m F (sharedBy F)
 
-  abbrev LocatedBy : ℕ → ℕ → ℕ → ℕ → Type 0
-  LocatedBy k s m F = Located (by s) h (helperAt helpers) (l .helpers) m F k (sharedBy F)
+  abbrev LocatedBy : ℕ → ℕ → ℕ → ℕ → ℕ → Type 0
+  LocatedBy k d s m F = Located (by s) h (helperAt helpers) d m F k (sharedBy F)
 
-  pub clean-here : Clean (shapeOf f (shorter l)) h (helperAt helpers) (shorter l .helpers) (parityRacks (shorter l)) (groups (shorter l)) (sharedSymbol f (shorter l) shares) →
+  pub clean-here : Clean (shapeOf f (plainLayout 2 l)) h (helperAt helpers) (plainLayout 2 l .helpers) (parityRacks (plainLayout 2 l)) (groups (plainLayout 2 l)) (sharedSymbol f (plainLayout 2 l) shares) →
       Clean (shapeOf f l) h (λ k. getD helpers k 0) (l .helpers) (parityRacks l - 2) (groups l) (sharedSymbol f l shares)
-  unfolding shorter sharedSymbol
-  clean-here = move CleanBy _ _ _ _ _ _ (short-digits l a one) (short-unknowns l a one) (short-groups l a one)
+  unfolding plainLayout sharedSymbol
+  clean-here = move CleanBy _ _ _ _ _ _ _ _ (all-helpers l) (plain-digits l a one 2 two-racks) (plain-unknowns l a one 2 two-racks) (plain-groups l a one 2 two-racks)
 
   pub clean-there : Clean (shapeOf f l) h (λ k. getD helpers k 0) (l .helpers) (parityRacks l - 2) (groups l) (sharedSymbol f l shares) →
-      Clean (shapeOf f (shorter l)) h (helperAt helpers) (shorter l .helpers) (parityRacks (shorter l)) (groups (shorter l)) (sharedSymbol f (shorter l) shares)
-  unfolding shorter sharedSymbol
-  clean-there = move CleanBy _ _ _ _ _ _ (sym (short-digits l a one)) (sym (short-unknowns l a one)) (sym (short-groups l a one))
+      Clean (shapeOf f (plainLayout 2 l)) h (helperAt helpers) (plainLayout 2 l .helpers) (parityRacks (plainLayout 2 l)) (groups (plainLayout 2 l)) (sharedSymbol f (plainLayout 2 l) shares)
+  unfolding plainLayout sharedSymbol
+  clean-there = move CleanBy _ _ _ _ _ _ _ _ (sym (all-helpers l)) (sym (plain-digits l a one 2 two-racks)) (sym (plain-unknowns l a one 2 two-racks)) (sym (plain-groups l a one 2 two-racks))
 
-  pub located-here : (k : ℕ) → Located (shapeOf f (shorter l)) h (helperAt helpers) (shorter l .helpers) (parityRacks (shorter l)) (groups (shorter l)) k (sharedSymbol f (shorter l) shares) →
+  pub located-here : (k : ℕ) → Located (shapeOf f (plainLayout 2 l)) h (helperAt helpers) (plainLayout 2 l .helpers) (parityRacks (plainLayout 2 l)) (groups (plainLayout 2 l)) k (sharedSymbol f (plainLayout 2 l) shares) →
       Located (shapeOf f l) h (λ k. getD helpers k 0) (l .helpers) (parityRacks l - 2) (groups l) k (sharedSymbol f l shares)
-  unfolding shorter sharedSymbol
-  located-here k = move (LocatedBy k) _ _ _ _ _ _ (short-digits l a one) (short-unknowns l a one) (short-groups l a one)
+  unfolding plainLayout sharedSymbol
+  located-here k = move (LocatedBy k) _ _ _ _ _ _ _ _ (all-helpers l) (plain-digits l a one 2 two-racks) (plain-unknowns l a one 2 two-racks) (plain-groups l a one 2 two-racks)
 
   pub located-there : (k : ℕ) → Located (shapeOf f l) h (λ k. getD helpers k 0) (l .helpers) (parityRacks l - 2) (groups l) k (sharedSymbol f l shares) →
-      Located (shapeOf f (shorter l)) h (helperAt helpers) (shorter l .helpers) (parityRacks (shorter l)) (groups (shorter l)) k (sharedSymbol f (shorter l) shares)
-  unfolding shorter sharedSymbol
-  located-there k = move (LocatedBy k) _ _ _ _ _ _ (sym (short-digits l a one)) (sym (short-unknowns l a one)) (sym (short-groups l a one))
+      Located (shapeOf f (plainLayout 2 l)) h (helperAt helpers) (plainLayout 2 l .helpers) (parityRacks (plainLayout 2 l)) (groups (plainLayout 2 l)) k (sharedSymbol f (plainLayout 2 l) shares)
+  unfolding plainLayout sharedSymbol
+  located-there k = move (LocatedBy k) _ _ _ _ _ _ _ _ (sym (all-helpers l)) (sym (plain-digits l a one 2 two-racks)) (sym (plain-unknowns l a one 2 two-racks)) (sym (plain-groups l a one 2 two-racks))
 
 -- ---- the answers
 module _ {A : Type 0} {f : Field A} (W : Working f) (l : Layout) (x : ℕ) (helpers shares host old : List ℕ) where
@@ -151,45 +155,61 @@ module _ {A : Type 0} {f : Field A} (W : Working f) (l : Layout) (x : ℕ) (help
     one : l .errors ≡ 1
     one = acc .adm .errors-are
 
-    pub two-helpers : 2 ≤ length helpers
-    two-helpers = omega (arith, acc .help .many, cab .helpers-low, one)
+    all-help : Helpers (plainLayout 2 l) x helpers
+    all-help = unfold plainLayout in record {
+      lost-in = acc .help .lost-in;
+      many = acc .help .many ∙ sym (all-helpers l);
+      inside = λ i q. acc .help .inside i (rw (all-helpers l) at q);
+      rising = λ i q. acc .help .rising i (rw (all-helpers l) at q);
+      other = λ i q. acc .help .other i (rw (all-helpers l) at q);
+    }
 
-    pub mending-of : (k r : ℕ) → LeftAt k (length helpers) r → Mending (f .order) l x helpers shares host r old
-    mending-of k r at = record {
+    pub rebuilding-all : Rebuilding (f .order) l 2 x helpers shares host old
+    rebuilding-all = record {
+      adm = acc .adm;
+      racks = two-racks;
+      help = all-help;
+      shares-long = let d : l .helpers ≡ l .helpers - (2 - 2) = omega arith in acc .shares-long ∙ ap (λ n. n * groups l) d;
+      host-long = acc .host-long;
+      spare-long = acc .spare-long;
+    }
+
+    pub leaving-out : (k : ℕ) → k < length helpers → LeavingOut (f .order) l x helpers shares host k old
+    leaving-out k h = record {
       adm = acc .adm;
       help = acc .help;
-      inside = omega (arith, at .inside, acc .help .many);
+      inside = omega (arith, h, acc .help .many);
       shares-long = acc .shares-long;
       host-long = acc .host-long;
       spare-long = acc .spare-long;
     }
 
-    pub sending-of : (short : Layout) → short ≡ shorter l → Sent short (x / l .size) helpers shares
+    pub sending-of : (short : Layout) → short ≡ plainLayout 2 l → Sent short (x / l .size) helpers shares
     sending-of short e = subst (λ y. Sent y (x / l .size) helpers shares) (sym e) go
       where
-        go : Sent (shorter l) (x / l .size) helpers shares
-        go = unfold shorter in record {
+        go : Sent (plainLayout 2 l) (x / l .size) helpers shares
+        go = unfold plainLayout in record {
           chosen = record {
-            adm = short-cabinet l cab one;
+            adm = plain-cabinet l cab one 2 two-racks;
             plain = refl;
             host-in = rack-in l cab x (acc .help .lost-in);
-            many = acc .help .many;
-            inside = acc .help .inside;
-            rising = acc .help .rising;
-            other = acc .help .other;
+            many = all-help .many;
+            inside = all-help .inside;
+            rising = all-help .rising;
+            other = all-help .other;
           };
-          shares-long = acc .shares-long ∙ ap (λ n. l .helpers * n) (sym (short-groups l cab one));
+          shares-long = acc .shares-long ∙ ap₂ (λ d n. d * n) (sym (all-helpers l)) (sym (plain-groups l cab one 2 two-racks));
         }
 
-    module _ (short : Layout) (e : short ≡ shorter l) (r : ℕ) (found : Found f short (x / l .size) helpers shares r) where
+    module _ (short : Layout) (e : short ≡ plainLayout 2 l) (r : ℕ) (found : Found f short (x / l .size) helpers shares r) where
       abbrev h : ℕ
       h = x / l .size
 
-      here : Found f (shorter l) (x / l .size) helpers shares r
+      here : Found f (plainLayout 2 l) (x / l .size) helpers shares r
       here = subst (λ y. Found f y (x / l .size) helpers shares r) e found
 
-      d-is : shorter l .helpers ≡ l .helpers
-      d-is = unfold shorter in refl
+      d-is : plainLayout 2 l .helpers ≡ l .helpers
+      d-is = all-helpers l
 
       shared : ℕ → ℕ → A
       shared = sharedSymbol f l shares
@@ -203,7 +223,7 @@ module _ {A : Type 0} {f : Field A} (W : Working f) (l : Layout) (x : ℕ) (help
       unfolding shared
       none-answer q =
           let m = acc .help .many in
-          let top : r ≡ shorter l .helpers + 1 = (let t = here .high in let d = d-is in omega arith) in
+          let top : r ≡ plainLayout 2 l .helpers + 1 = (let t = here .high in let d = d-is in omega arith) in
           record {
             ground = omega arith;
             refused = λ n. absurd (n z);
@@ -217,9 +237,9 @@ module _ {A : Type 0} {f : Field A} (W : Working f) (l : Layout) (x : ℕ) (help
           }
 
       -- the checks hold
-      pub clean-answer : (k : ℕ) (new : List ℕ) → r ≡ length helpers → Mended f l x helpers shares host k old new → CorrectingDone f l x helpers shares host old new (report (Done (l .racks) (length shares)))
+      pub clean-answer : (new : List ℕ) → r ≡ length helpers → Rebuilt f l 2 x helpers shares host old new → CorrectingDone f l x helpers shares host old new (report (Done (l .racks) (length shares)))
       unfolding shared
-      clean-answer k new q m =
+      clean-answer new q m =
           let g = clean-hold W l (acc .adm) x helpers (acc .help) shared
           (clean-here f l cab one h helpers shares (here .clean (q ∙ acc .help .many ∙ sym d-is))) in
           record {
@@ -230,15 +250,15 @@ module _ {A : Type 0} {f : Field A} (W : Working f) (l : Layout) (x : ℕ) (help
               meant = shared;
               named = record { right = λ i p hi hp n. refl; wrong = λ d. absurd (d refl) };
               hold = g;
-              tray = tray-settled W l (acc .adm) x helpers shares host (acc .help) k old new m shared g (λ i p hi hp a b. refl);
+              tray = tray-all W l (acc .adm) x helpers (acc .help) shared g shares host old new all-help m (λ i p hi hp. refl);
             };
           }
 
       -- one share is wrong
-      pub named-answer : (k : ℕ) (new : List ℕ) → r < length helpers → LeftAt r (length helpers) k → Mended f l x helpers shares host k old new →
+      pub named-answer : (new : List ℕ) → r < length helpers → RebuiltWithout f l x helpers shares host r old new →
           CorrectingDone f l x helpers shares host old new (report (Done (getD helpers r 0) (length shares)))
       unfolding shared
-      named-answer k new q at m =
+      named-answer new q m =
           let inside : r < l .helpers = rw (sym (acc .help .many)) q in
           let meant = right-share W l (acc .adm) x helpers (acc .help) r shared in
           let alike = right-alike W l (acc .adm) x helpers (acc .help) r shared in
@@ -255,7 +275,7 @@ module _ {A : Type 0} {f : Field A} (W : Working f) (l : Layout) (x : ℕ) (help
           record {
             accepted = z;
             crossed-is = acc .shares-long;
-            long = m .long;
+            long = m .rebuilt .long;
             settled = record {
               meant = meant;
               named = record {
@@ -263,7 +283,7 @@ module _ {A : Type 0} {f : Field A} (W : Working f) (l : Layout) (x : ℕ) (help
                 wrong = λ n. record { helper = r; group = w .at; helper-in = inside; group-in = w .inside; is-rack = refl; differs = w .differ };
               };
               hold = g;
-              tray = tray-settled W l (acc .adm) x helpers shares host (acc .help) k old new m meant g (λ i p hi hp a b. alike .at p i hp hi (other i a b));
+              tray = tray-without W l (acc .adm) x helpers (acc .help) meant g shares host r old new m (λ i p hi hp a. alike .at p i hp hi a);
             };
           }
         where
@@ -271,10 +291,3 @@ module _ {A : Type 0} {f : Field A} (W : Working f) (l : Layout) (x : ℕ) (help
               (p : ℕ) → p < groups l → (i : ℕ) → i < l .helpers → Dec (i ≡ r) → shared p i ≡ meant p i
           both meant alike all p hp i hi (yes y) = ap (shared p) y ∙ all p hp ∙ ap (meant p) (sym y)
           both meant alike all p hp i hi (no y) = alike .at p i hp hi y
-
-          other : (i : ℕ) → ¬ (i ≡ k) → ¬ (i ≡ k + 1) → ¬ (i ≡ r)
-          other i a b c = go (ℕ-discrete r k)
-            where
-              go : Dec (r ≡ k) → ⊥
-              go (yes y) = a (c ∙ y)
-              go (no y) = b (c ∙ at .skips q y)

@@ -5,7 +5,7 @@ pub mod Refusals
 pub mod Exact
 pub mod Lists
 pub mod Layouts
-pub mod Mends
+pub mod Rebuilt
 pub mod Answers
 pub mod Unique
 pub mod Calls

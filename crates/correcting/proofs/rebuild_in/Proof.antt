@@ -1,11 +1,11 @@
 use Rattle.symbol.specs.Elem.{gf256}
 use Rattle.correcting.proofs.Answers.{product-fits, left-room, sent-room, cut-left, cut-sent, cut-fits}
 use borrow.Author.Needs.{needs}
-use Rattle.correcting.proofs.mend_in.Statement.{statement}
-use Rattle.correcting.proofs.mend_in.Tie as tie
+use Rattle.correcting.proofs.rebuild_in.Statement.{statement}
+use Rattle.correcting.proofs.rebuild_in.Tie as tie
 
-pub mend-in-spec : {M : Type 1} → statement M
-mend-in-spec =
+pub rebuild-in-spec : {M : Type 1} → statement M
+rebuild-in-spec =
     tie.close (tie.spec
     (λ c. search needs)
     (λ c κs. search needs)
