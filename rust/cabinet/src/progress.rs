@@ -46,7 +46,7 @@ pub fn piece(piece: &Piece) -> String {
 
 /// One piece of a walk: which layers, how far the whole is, and what has been found bad.
 pub fn layers(before: &ScrubRecord, after: &ScrubRecord, layers: usize) -> String {
-    let [first, end] = [before, after].map(|record| u64::from(record.next.number()));
+    let [first, end] = [before, after].map(|record| u64::from(record.next));
     let which = run("layer", first, end);
     let bar = bar(end, layers as u64, 16);
     let found = match after.bad {

@@ -75,7 +75,7 @@ impl<'a, S: Symbol> Reading<'a, S> {
 
     /// Layers of a tray. A lost one is read from the spare, and must fit to the other trays if they
     /// are all here; any other is read from the store, and must be live.
-    pub fn read(&self, tray: Tray, layers: Range<Layer>) -> Result<(&[S], Source), Failure> {
+    pub fn read(&self, tray: Tray, layers: Range<u32>) -> Result<(&[S], Source), Failure> {
         let about = format!("tray {tray}, layers {}..{}", layers.start, layers.end);
         let part = self
             .part(tray, layers.clone())
@@ -89,16 +89,13 @@ impl<'a, S: Symbol> Reading<'a, S> {
 
     /// The layers of the lost tray that can be read.
     pub fn readable(&self) -> Vec<Layer> {
-        let can_be = |layer: &u32| {
-            let alone = Layer::new(*layer)..Layer::new(layer + 1);
-            self.part(self.lost, alone).is_ok()
-        };
+        let can_be = |layer: &u32| self.part(self.lost, *layer..layer + 1).is_ok();
         let layers = 0..self.folder.numbers.layers as u32;
         layers.filter(can_be).map(Layer::new).collect()
     }
 
     /// The library's answer; for a tray that is not live it is a part of zeros.
-    fn part(&self, tray: Tray, layers: Range<Layer>) -> Result<&[S], Refusal> {
+    fn part(&self, tray: Tray, layers: Range<u32>) -> Result<&[S], Refusal> {
         let (layout, spare) = (self.folder.plate.layout, &self.spare);
         (S::CALLS.read_part)(
             layout,
@@ -112,14 +109,13 @@ impl<'a, S: Symbol> Reading<'a, S> {
     }
 
     /// Tests these layers of the spare with the other trays, by a walk over no others.
-    fn test(&self, layers: Range<Layer>) -> Result<Source, Failure> {
+    fn test(&self, layers: Range<u32>) -> Result<Source, Failure> {
         let (folder, lost) = (self.folder, self.lost);
         let Some(codeword) = folder.codeword_with(&[lost], &self.spare.symbols) else {
             return Ok(Source::Untested);
         };
-        let [first, end] = [layers.start, layers.end].map(Layer::number);
-        let mut record = ScrubRecord::new(first, 0, folder.numbers.layers as u32);
-        let budget = u64::from(end - first);
+        let mut record = ScrubRecord::new(layers.start, 0, folder.numbers.layers as u32);
+        let budget = u64::from(layers.end - layers.start);
         (S::CALLS.scrub)(folder.plate.layout, &codeword, &mut record, budget)
             .map_err(Failure::refused("test"))?;
         match record.bad {

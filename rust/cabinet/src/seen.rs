@@ -42,7 +42,7 @@ impl Seen<'_> {
     pub fn of(walk: &Walk, layers: usize) -> Seen<'_> {
         Seen {
             layers,
-            next: walk.record.next.number() as usize,
+            next: walk.record.next as usize,
             bad: &walk.bad,
         }
     }

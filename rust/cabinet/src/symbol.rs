@@ -2,8 +2,8 @@
 
 use crate::field::Field;
 use gesarumbo::{
-    field257, Corrected, Layer, Layout, Measured, Rack, Refusal, Repaired, ScrubRecord, Scrubbed,
-    Tested, Tray,
+    field257, Corrected, Layout, Measured, Rack, Refusal, Repaired, ScrubRecord, Scrubbed, Tested,
+    Tray,
 };
 use std::ops::Range;
 
@@ -52,7 +52,7 @@ pub struct Calls<S: 'static> {
     pub card_test: fn(Layout, Tray, &[Rack], &[S], u64) -> Answer<()>,
     pub card_repair: fn(Layout, Tray, &[Rack], &[S], &[S], &[S], &mut [S], u64) -> Answer<Repaired>,
     pub read_part:
-        for<'a> fn(Layout, &'a [S], &'a [S], Tray, u64, Tray, Range<Layer>) -> Answer<&'a [S]>,
+        for<'a> fn(Layout, &'a [S], &'a [S], Tray, u64, Tray, Range<u32>) -> Answer<&'a [S]>,
     pub write_image: fn(Layout, Tray, u32, u32, &[S], &mut [u8]) -> Answer<()>,
     pub margin: fn(Layout, &[u8]) -> Answer<i32>,
     pub scrub_reset: fn(Layout, &mut ScrubRecord) -> Answer<()>,

@@ -78,7 +78,7 @@ impl Walk {
         let report = (S::CALLS.scrub)(self.layout, codeword, &mut self.record, budget)
             .map_err(Failure::refused(self.path.display()))?;
         if self.record.bad > before.bad {
-            self.bad.push(before.next);
+            self.bad.push(Layer::new(before.next));
         }
         Ok(report)
     }
@@ -88,9 +88,9 @@ impl Walk {
     fn agrees(&self) -> bool {
         let ScrubRecord { next, bad, first } = self.record;
         self.bad.len() == bad as usize
-            && self.bad.first().is_none_or(|layer| *layer == first)
+            && self.bad.first().is_none_or(|layer| layer.number() == first)
             && self.bad.windows(2).all(|pair| pair[0] < pair[1])
-            && self.bad.last().is_none_or(|layer| *layer < next)
+            && self.bad.last().is_none_or(|layer| layer.number() < next)
     }
 
     /// Writes the file.

@@ -5,7 +5,7 @@
 //! keeps no pointer. What it writes is lent `&mut`, so a buffer that is written overlaps no other
 //! one of the call. Structs and kinds have the layout of the header `c/gesarumbo.h`.
 
-use crate::{Layer, Layout, Rack, ScrubRecord, Tray};
+use crate::{Layout, Rack, ScrubRecord, Tray};
 
 /// The answer to a measuring; `refusal` is 0 where the call was done, here and below.
 #[repr(C)]
@@ -244,8 +244,8 @@ macro_rules! calls {
                     lost: Tray,
                     groups: u64,
                     tray: Tray,
-                    first: Layer,
-                    end: Layer,
+                    first: u32,
+                    end: u32,
                 ) -> Part;
                 #[link_name = concat!($prefix, "_write_image")]
                 pub fn write_image(
@@ -565,8 +565,8 @@ macro_rules! calls {
             lost: Tray,
             groups: u64,
             tray: Tray,
-            first: Layer,
-            end: Layer,
+            first: u32,
+            end: u32,
         ) -> Part {
             // SAFETY: both slices are lent for the call.
             unsafe {

@@ -1,6 +1,6 @@
 //! Numbers of racks, trays and layers: three kinds that cannot be taken for one another.
 
-use std::fmt;
+use core::fmt;
 
 /// One kind of number, with the two functions that make and open it.
 macro_rules! kind {
@@ -49,6 +49,7 @@ kind! {
 }
 
 kind! {
-    /// The number of a layer, 0 to L − 1 in a layout.
+    /// The number of a layer, 0 to L − 1 in a layout. The end of a run of layers, which may be L, is a
+    /// plain number.
     Layer
 }

@@ -1,6 +1,6 @@
 //! The five numbers of a cabinet.
 
-use std::fmt;
+use core::fmt;
 
 /// The five numbers of a cabinet, any 32-bit values; each call says whether they are admissible: as
 /// the fields say, and with at most 4,096 layers, which are s^B for s = d − k/u (whole) + 1 − 2·E.

@@ -43,8 +43,11 @@
 //! calls in [`field257`].
 //!
 //! These are theorems about the library that this crate links, and not tests. The crate adds the
-//! kinds, and nothing of its own happens between a call and the proved function.
+//! kinds and, with [`numbers()`], the numbers that a layout's letters stand for; nothing of its own
+//! happens between a call and the proved function. It needs no standard library and allocates
+//! nothing.
 
+#![no_std]
 #![deny(missing_docs)]
 #![deny(unsafe_code)]
 #![deny(unsafe_op_in_unsafe_fn)]
@@ -60,6 +63,7 @@ mod kinds;
 mod layout;
 mod margin;
 mod measure;
+mod numbers;
 mod reading;
 mod recover;
 mod refusal;
@@ -78,6 +82,7 @@ pub use kinds::{Layer, Rack, Tray};
 pub use layout::Layout;
 pub use margin::margin;
 pub use measure::{measure, Measured};
+pub use numbers::{numbers, Numbers};
 pub use reading::read_part;
 pub use recover::recover;
 pub use refusal::Refusal;

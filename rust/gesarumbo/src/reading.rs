@@ -1,15 +1,15 @@
 //! Reading while a lost tray is being repaired.
 
-use std::ops::Range;
+use core::ops::Range;
 
 use crate::ffi::{self, field256};
-use crate::{Layer, Layout, Refusal, Tray};
+use crate::{Layout, Refusal, Tray};
 
 /// Reads a run of layers of a tray while the tray `lost` is being repaired in `spare`.
 ///
 /// `codeword` has n·L bytes, of which those of the lost tray are not looked at; `spare` has L
 /// bytes, and so many `groups` of the lost tray's rack are done in it, from group 0 on. The run is
-/// `layers.start` up to `layers.end`, itself left out.
+/// `layers.start` up to `layers.end`, itself left out: plain numbers, since it may end at L.
 ///
 /// Done: the part, where it lies: in the codeword for a tray that is not lost, in the spare for the
 /// lost one. An empty run is an empty part. If the spare was written by pieces of a repair of this
@@ -23,7 +23,7 @@ use crate::{Layer, Layout, Refusal, Tray};
 /// where a layer asked for of the lost tray is not in a group that is done.
 ///
 /// ```
-/// use gesarumbo::{read_part, repair, Layer, Layout, Rack, Refusal, Tray};
+/// use gesarumbo::{read_part, repair, Layout, Rack, Refusal, Tray};
 ///
 /// let (layout, lost, helpers) = (Layout::new(3, 1, 1, 2), Tray::new(0), [1, 2].map(Rack::new));
 /// let mut codeword = [0xEE; 24]; // tray 0 is lost
@@ -33,14 +33,13 @@ use crate::{Layer, Layout, Refusal, Tray};
 /// repair(layout, lost, &helpers, &[3; 8], &[0; 8], &mut spare, 0, 2)?;
 ///
 /// // Groups 0 and 1 of rack 0 are layers 0 to 3.
-/// let read = |tray, first, end| {
-///     let layers = Layer::new(first)..Layer::new(end);
+/// let read = |tray, layers| {
 ///     read_part(layout, &codeword, &spare, lost, 2, Tray::new(tray), layers)
 /// };
-/// assert_eq!(read(1, 6, 8), Ok(&[0x21, 0x22][..]));
-/// assert_eq!(read(0, 0, 4), Ok(&[0x14, 0x14, 0x18, 0x18][..]));
-/// assert_eq!(read(0, 3, 5), Err(Refusal::NotRepaired));
-/// assert_eq!(read(0, 8, 8), Ok(&[][..]));
+/// assert_eq!(read(1, 6..8), Ok(&[0x21, 0x22][..]));
+/// assert_eq!(read(0, 0..4), Ok(&[0x14, 0x14, 0x18, 0x18][..]));
+/// assert_eq!(read(0, 3..5), Err(Refusal::NotRepaired));
+/// assert_eq!(read(0, 8..8), Ok(&[][..]));
 /// # Ok::<(), Refusal>(())
 /// ```
 pub fn read_part<'a>(
@@ -50,7 +49,7 @@ pub fn read_part<'a>(
     lost: Tray,
     groups: u64,
     tray: Tray,
-    layers: Range<Layer>,
+    layers: Range<u32>,
 ) -> Result<&'a [u8], Refusal> {
     let Range { start, end } = layers;
     let answer = field256::read_part(layout, codeword, spare, lost, groups, tray, start, end);

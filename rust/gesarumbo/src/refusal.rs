@@ -1,6 +1,6 @@
 //! The grounds on which the library says no.
 
-use std::{error, fmt};
+use core::{error, fmt};
 
 /// Why a call was refused: the first ground that applies to it, in the order of their numbers but
 /// for [`Refusal::LostCount`], which is tried right after [`Refusal::Count`].
@@ -145,7 +145,10 @@ impl error::Error for Refusal {}
 
 #[cfg(test)]
 mod tests {
+    extern crate std;
+
     use super::*;
+    use std::string::ToString;
 
     #[test]
     fn every_ground_is_found_by_its_number() {

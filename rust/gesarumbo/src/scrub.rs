@@ -1,7 +1,7 @@
 //! The testing of a stored codeword some layers at a time.
 
 use crate::ffi::{self, field256};
-use crate::{Layer, Layout, Refusal};
+use crate::{Layout, Refusal};
 
 /// The record of a walk over a codeword's layers.
 ///
@@ -11,22 +11,18 @@ use crate::{Layer, Layout, Refusal};
 #[repr(C)]
 #[derive(Clone, Copy, Debug, PartialEq, Eq, Hash)]
 pub struct ScrubRecord {
-    /// The next layer to look at; L where all have been seen.
-    pub next: Layer,
+    /// The next layer to look at; L, which is no layer, where all have been seen.
+    pub next: u32,
     /// How many layers below the next are bad.
     pub bad: u32,
     /// The first bad layer; L where there is none.
-    pub first: Layer,
+    pub first: u32,
 }
 
 impl ScrubRecord {
     /// A record of these numbers: next layer, count of bad layers, first bad layer.
     pub const fn new(next: u32, bad: u32, first: u32) -> ScrubRecord {
-        ScrubRecord {
-            next: Layer::new(next),
-            bad,
-            first: Layer::new(first),
-        }
+        ScrubRecord { next, bad, first }
     }
 }
 

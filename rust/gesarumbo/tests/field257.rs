@@ -2,7 +2,7 @@
 //! does not; the signs; the images of edition 2.
 
 use gesarumbo::field257::*;
-use gesarumbo::{Layer, Layout, Rack, Refusal, ScrubRecord, Scrubbed, Tested, Tray};
+use gesarumbo::{Layout, Rack, Refusal, ScrubRecord, Scrubbed, Tested, Tray};
 use gesarumbo::{DEMONSTRATION, LIVE};
 
 /// Five racks of four trays of 32 symbols, of source 002; and three racks of two of 8.
@@ -207,7 +207,6 @@ fn a_tray_fed_257_times_cancels() {
 fn reads_and_walks_hand_on_what_they_do_not_look_at() {
     let store = [LARGE; 48];
     let read = |tray, end| {
-        let layers = Layer::new(0)..Layer::new(end);
         read_part(
             TWOS,
             &store,
@@ -215,7 +214,7 @@ fn reads_and_walks_hand_on_what_they_do_not_look_at() {
             Tray::new(1),
             1,
             Tray::new(tray),
-            layers,
+            0..end,
         )
     };
     assert_eq!(read(0, 8), Ok(&[LARGE; 8][..]));

@@ -15,7 +15,7 @@ use crate::runs;
 use crate::screen::{Paint, Screen};
 use crate::symbol::Symbol;
 use crate::words::{count, hanging};
-use gesarumbo::{Layer, Refusal, Tray};
+use gesarumbo::{Refusal, Tray};
 use std::ops::Range;
 use std::path::Path;
 
@@ -68,7 +68,7 @@ have no pieces.
 /// What the command line asks for.
 struct Asked {
     tray: Tray,
-    layers: Range<Layer>,
+    layers: Range<u32>,
     lost: Option<Tray>,
 }
 
@@ -82,7 +82,7 @@ impl Asked {
         }
         Ok(Asked {
             tray: Tray::new(needed(TRAY, arguments.number(TRAY)?)?),
-            layers: Layer::new(layers.start)..Layer::new(layers.end),
+            layers,
             lost: lost.map(Tray::new),
         })
     }
@@ -114,7 +114,7 @@ fn read<S: Symbol>(
     match arguments.value(OUT) {
         Some(path) => files::write_one(Path::new(path), S::to_bytes(part)),
         None => {
-            let lines = dump::lines(asked.layers.start.number(), part);
+            let lines = dump::lines(asked.layers.start, part);
             lines.iter().for_each(|line| screen.line(line));
             Ok(())
         }
@@ -156,7 +156,7 @@ fn say_place<S: Symbol>(
     screen: &mut Screen,
 ) {
     let unit = S::FIELD.unit();
-    let [first, end] = [asked.layers.start, asked.layers.end].map(Layer::number);
+    let Range { start: first, end } = asked.layers;
     let layers = progress::run("layer", first.into(), end.into());
     let (tray, symbols) = (asked.tray, count(part.len(), unit));
     let what = format!("  {layers} of tray {tray}: {symbols}");

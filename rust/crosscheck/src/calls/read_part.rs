@@ -90,7 +90,7 @@ fn place<S>(part: &[S], codeword: &[S], spare: &[S]) -> [i128; 3] {
 
 fn library(inputs: &Inputs) -> Answer {
     let [lost, tray] = [3, 5].map(|at| gesarumbo::Tray::new(inputs.small(at)));
-    let [first, end] = [6, 7].map(|at| gesarumbo::Layer::new(inputs.small(at)));
+    let [first, end] = [6, 7].map(|at| inputs.small(at));
     let (layout, groups) = (library_layout(inputs), inputs.wide(4));
     in_field!(inputs.field, {
         let [codeword, spare] = [1, 2].map(|at| inputs.lent::<F>(at));

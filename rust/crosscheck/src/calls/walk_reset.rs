@@ -55,7 +55,7 @@ pub fn reference_record(inputs: &Inputs, at: usize) -> reference::ScrubRecord {
 }
 
 pub fn library_numbers(record: gesarumbo::ScrubRecord) -> [u32; 3] {
-    [record.next.number(), record.bad, record.first.number()]
+    [record.next, record.bad, record.first]
 }
 
 pub fn reference_numbers(record: reference::ScrubRecord) -> [u32; 3] {

@@ -1,10 +1,10 @@
 //! Reading while a lost tray is being repaired in this field.
 
-use std::ops::Range;
+use core::ops::Range;
 
 use crate::ffi::field257;
 use crate::reading::answered;
-use crate::{Layer, Layout, Refusal, Tray};
+use crate::{Layout, Refusal, Tray};
 
 /// Reads a run of layers of a tray while the tray `lost` is being repaired in `spare`, as
 /// [`read_part`](crate::read_part) does. No symbol is looked at.
@@ -13,17 +13,16 @@ use crate::{Layer, Layout, Refusal, Tray};
 ///
 /// ```
 /// use gesarumbo::field257::read_part;
-/// use gesarumbo::{Layer, Layout, Refusal, Tray};
+/// use gesarumbo::{Layout, Refusal, Tray};
 ///
 /// let (layout, lost) = (Layout::new(3, 1, 1, 2), Tray::new(0));
 /// let (codeword, spare): (Vec<u16>, Vec<u16>) = ((0..24).collect(), (300..308).collect());
-/// let read = |tray, first, end| {
-///     let layers = Layer::new(first)..Layer::new(end);
+/// let read = |tray, layers| {
 ///     read_part(layout, &codeword, &spare, lost, 2, Tray::new(tray), layers)
 /// };
-/// assert_eq!(read(1, 6, 8), Ok(&[14, 15][..]));
-/// assert_eq!(read(0, 1, 4), Ok(&[301, 302, 303][..]));
-/// assert_eq!(read(0, 3, 5), Err(Refusal::NotRepaired));
+/// assert_eq!(read(1, 6..8), Ok(&[14, 15][..]));
+/// assert_eq!(read(0, 1..4), Ok(&[301, 302, 303][..]));
+/// assert_eq!(read(0, 3..5), Err(Refusal::NotRepaired));
 /// ```
 pub fn read_part<'a>(
     layout: Layout,
@@ -32,7 +31,7 @@ pub fn read_part<'a>(
     lost: Tray,
     groups: u64,
     tray: Tray,
-    layers: Range<Layer>,
+    layers: Range<u32>,
 ) -> Result<&'a [u16], Refusal> {
     let Range { start, end } = layers;
     let answer = field257::read_part(layout, codeword, spare, lost, groups, tray, start, end);

@@ -361,8 +361,7 @@ fn not_for_wrong_shares() {
         card_repair(WARY, tray, &helpers, &zeros(8), &shares, &host, spare, 0)
     });
     let (codeword, spare) = (zeros(10 * RACK), zeros(32));
-    let none = Layer::new(0)..Layer::new(0);
-    let read = read_part(WARY, &codeword, &spare, tray, 0, tray, none);
+    let read = read_part(WARY, &codeword, &spare, tray, 0, tray, 0..0);
     assert_eq!(read, Err(Refusal::Layout));
     for errors in [2, 257, u32::MAX] {
         assert_eq!(measure(Layout { errors, ..WARY }), Err(Refusal::Layout));
@@ -395,7 +394,7 @@ fn reading_while_repairing() {
         (Ok(&codeword[66..80]), GOOD, whole, 5, 0, 4, (2, 16)),
     ] {
         let (lost, tray) = (Tray::new(lost), Tray::new(tray));
-        let layers = Layer::new(layers.0)..Layer::new(layers.1);
+        let layers = layers.0..layers.1;
         let store = &codeword[..length];
         let read = read_part(layout, store, &spare, lost, groups, tray, layers);
         assert_eq!(read, answer);
@@ -521,8 +520,7 @@ fn nothing_lent_is_a_wrong_length() {
     refused(length, 0, |s| {
         card_repair(GOOD, tray, &[], nothing, nothing, nothing, s, 0)
     });
-    let none = Layer::new(0)..Layer::new(0);
-    let read = read_part(GOOD, nothing, nothing, tray, 0, tray, none);
+    let read = read_part(GOOD, nothing, nothing, tray, 0, tray, 0..0);
     assert_eq!(read, Err(length));
     refused(length, 0, |i| write_image(GOOD, tray, 1, 7, nothing, i));
     assert_eq!(read_tray(GOOD, 7, &[]), Err(Refusal::Malformed));
