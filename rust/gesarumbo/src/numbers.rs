@@ -11,8 +11,18 @@ use crate::{Layout, Refusal};
 #[non_exhaustive]
 #[derive(Clone, Copy, Debug, PartialEq, Eq, Hash)]
 pub struct Numbers {
-    /// B, u, k, d and E, from which the others follow.
+    /// The layout itself, to hand on to the calls.
     pub layout: Layout,
+    /// B, the racks.
+    pub racks: usize,
+    /// u, the trays of a rack.
+    pub size: usize,
+    /// k, the trays' worth of data.
+    pub dimension: usize,
+    /// d, the helper racks of a repair.
+    pub helpers: usize,
+    /// E, how many helpers may send a wrong share.
+    pub errors: usize,
     /// n = B·u, the trays in all.
     pub trays: usize,
     /// r = n − k, the checks of a layer: as many trays as may be erased.
@@ -58,37 +68,38 @@ impl Numbers {
     /// The numbers of a layout that the library has measured.
     pub(crate) fn of(layout: Layout, answer: ffi::Measured) -> Result<Numbers, Refusal> {
         let measured = answered(answer)?;
-        let Layout {
+        let (racks, size) = (layout.racks as usize, layout.size as usize);
+        let (dimension, helpers) = (layout.dimension as usize, layout.helpers as usize);
+        let errors = layout.errors as usize;
+        let (whole, layers) = (dimension / size, measured.layers as usize);
+        let digits = helpers + 1 - whole - 2 * errors;
+        Ok(Numbers {
+            layout,
             racks,
             size,
             dimension,
             helpers,
             errors,
-        } = layout;
-        let whole = dimension / size;
-        let digits = helpers + 1 - whole - 2 * errors;
-        Ok(Numbers {
-            layout,
-            trays: (racks * size) as usize,
+            trays: racks * size,
             checks: measured.checks as usize,
-            whole: whole as usize,
-            part: (dimension % size) as usize,
-            parity_racks: (racks - whole) as usize,
-            digits: digits as usize,
-            layers: measured.layers as usize,
-            groups: (measured.layers / digits) as usize,
+            whole,
+            part: dimension % size,
+            parity_racks: racks - whole,
+            digits,
+            layers,
+            groups: layers / digits,
             traffic: measured.traffic as usize,
         })
     }
 
     /// k·L, the symbols of the data.
     pub const fn data(&self) -> usize {
-        self.layout.dimension as usize * self.layers
+        self.dimension * self.layers
     }
 
     /// u·L, the symbols of a rack.
     pub const fn rack(&self) -> usize {
-        self.layout.size as usize * self.layers
+        self.size * self.layers
     }
 
     /// n·L, the symbols of a codeword.
@@ -98,8 +109,8 @@ impl Numbers {
 
     /// The lost trays of one rack that are repaired together at most: u − v, or one where E is 1.
     pub const fn lost_at_once(&self) -> usize {
-        match self.layout.errors {
-            0 => self.layout.size as usize - self.part,
+        match self.errors {
+            0 => self.size - self.part,
             _ => 1,
         }
     }

@@ -49,6 +49,11 @@ fn agree(layout: Layout, measured: Measured, numbers: Numbers) {
     ]
     .map(|number| number as usize);
     assert_eq!(numbers.layout, layout);
+    assert_eq!((numbers.racks, numbers.size), (racks, size));
+    assert_eq!(
+        (numbers.dimension, numbers.helpers, numbers.errors),
+        (dimension, helpers, errors)
+    );
     assert_eq!(numbers.trays, racks * size);
     assert_eq!(numbers.checks + dimension, numbers.trays);
     assert_eq!(numbers.whole * size + numbers.part, dimension);
