@@ -37,32 +37,34 @@ impl<S: Symbol> Call<S> {
         Call {
             name: "store",
             before: |f| cleared(f.codeword.len()),
-            run: |version, f, codeword| version.store(f.layout, &f.data, codeword),
+            run: |version, f, codeword| version.store(&f.numbers, &f.data, codeword),
             after: |f| f.codeword.clone(),
         },
         Call {
             name: "test",
             before: |f| f.codeword.clone(),
-            run: |version, f, codeword| assert_eq!(version.test(f.layout, codeword), Tested::Sound),
+            run: |version, f, codeword| {
+                assert_eq!(version.test(&f.numbers, codeword), Tested::Sound)
+            },
             after: |f| f.codeword.clone(),
         },
         Call {
             name: "walk",
             before: |f| f.codeword.clone(),
-            run: |version, f, codeword| assert_eq!(version.walk(f.layout, codeword), 0),
+            run: |version, f, codeword| assert_eq!(version.walk(&f.numbers, codeword), 0),
             after: |f| f.codeword.clone(),
         },
         Call {
             name: "recover-1",
             before: |f| without(f, &[f.lost]),
-            run: |version, f, codeword| assert!(version.recover(f.layout, codeword, &[f.lost])),
+            run: |version, f, codeword| assert!(version.recover(&f.numbers, codeword, &[f.lost])),
             after: |f| f.codeword.clone(),
         },
         Call {
             name: "recover-r",
             before: |f| without(f, &first_trays(f)),
             run: |version, f, codeword| {
-                assert!(version.recover(f.layout, codeword, &first_trays(f)))
+                assert!(version.recover(&f.numbers, codeword, &first_trays(f)))
             },
             after: |f| f.codeword.clone(),
         },
@@ -83,22 +85,22 @@ impl<S: Symbol> Call<S> {
         ),
         Call {
             name: REPAIR,
-            before: |f| cleared(f.layers),
+            before: |f| cleared(f.numbers.layers),
             run: |version, f, spare| {
                 let host = f.rack(f.host);
-                version.repair(f.layout, f.lost, &f.helpers, &f.shares, host, spare);
+                version.repair(&f.numbers, f.lost, &f.helpers, &f.shares, host, spare);
             },
             after: |f| f.tray(f.lost).to_vec(),
         },
         Call {
             name: CORRECTING[0],
-            before: |f| cleared(f.layers),
+            before: |f| cleared(f.numbers.layers),
             run: |version, f, spare| correct(version, f, &f.shares, None, spare),
             after: |f| f.tray(f.lost).to_vec(),
         },
         Call {
             name: CORRECTING[1],
-            before: |f| cleared(f.layers),
+            before: |f| cleared(f.numbers.layers),
             run: |version, f, spare| correct(version, f, &f.with_stale, Some(f.stale), spare),
             after: |f| f.tray(f.lost).to_vec(),
         },
@@ -113,7 +115,7 @@ const fn share_call<S: Symbol>(
 ) -> Call<S> {
     Call {
         name,
-        before: |f| cleared(f.groups),
+        before: |f| cleared(f.numbers.groups),
         run,
         after,
     }
@@ -127,7 +129,7 @@ fn cleared<S: Symbol>(length: usize) -> Vec<S> {
 /// The share of a helper for a host rack. Which layers follow one another in it depends on the host.
 fn share_for<S: Symbol>(version: &dyn Version<S>, filled: &Filled<S>, host: Rack, share: &mut [S]) {
     let helper = filled.helper_of(host);
-    version.share(filled.layout, host, helper, filled.rack(helper), share);
+    version.share(&filled.numbers, host, helper, filled.rack(helper), share);
 }
 
 /// The repair from shares of which one may be wrong, which names this rack.
@@ -138,21 +140,22 @@ fn correct<S: Symbol>(
     rack: Option<Rack>,
     spare: &mut [S],
 ) {
-    let (layout, host) = (filled.layout, filled.rack(filled.host));
-    let named = version.correct(layout, filled.lost, &filled.helpers, shares, host, spare);
+    let (numbers, host) = (&filled.numbers, filled.rack(filled.host));
+    let named = version.correct(numbers, filled.lost, &filled.helpers, shares, host, spare);
     assert_eq!(named, rack);
 }
 
 /// As many trays as may be erased: the first ones.
 fn first_trays<S>(filled: &Filled<S>) -> Vec<Tray> {
-    (0..filled.checks as u32).map(Tray::new).collect()
+    (0..filled.numbers.checks as u32).map(Tray::new).collect()
 }
 
 /// The codeword with some trays cleared.
 fn without<S: Symbol>(filled: &Filled<S>, erased: &[Tray]) -> Vec<S> {
     let mut codeword = filled.codeword.clone();
+    let layers = filled.numbers.layers;
     for tray in erased {
-        codeword[tray.number() as usize * filled.layers..][..filled.layers].fill(S::default());
+        codeword[tray.number() as usize * layers..][..layers].fill(S::default());
     }
     codeword
 }
@@ -169,7 +172,7 @@ impl<S: Symbol> Call<S> {
                 "{} by {} differs in {}",
                 self.name,
                 version.name(),
-                filled.layout
+                filled.numbers.layout
             );
         }
     }

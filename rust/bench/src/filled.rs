@@ -1,15 +1,11 @@
 //! A filled cabinet: what the calls are given.
 
 use crate::symbol::Symbol;
-use gesarumbo::{Layout, Rack, Tested, Tray};
+use gesarumbo::{Layout, Numbers, Rack, Tested, Tray};
 
 /// The inputs of every call for one layout.
 pub struct Filled<S> {
-    pub layout: Layout,
-    pub layers: usize,
-    pub checks: usize,
-    /// The symbols of a share.
-    pub groups: usize,
+    pub numbers: Numbers,
     pub data: Vec<S>,
     pub codeword: Vec<S>,
     pub lost: Tray,
@@ -25,19 +21,14 @@ pub struct Filled<S> {
 impl<S: Symbol> Filled<S> {
     /// A cabinet with data that only look random.
     pub fn new(layout: Layout) -> Filled<S> {
-        let numbers = S::measure(layout).expect("the layout is admissible");
-        let (layers, helpers) = (numbers.layers as usize, layout.helpers as usize);
-        let groups = numbers.traffic as usize / helpers;
-        let data = symbols(layout.dimension as usize * layers);
-        let mut codeword = vec![S::default(); (layout.racks * layout.size) as usize * layers];
-        S::LIBRARY.store(layout, &data, &mut codeword);
-        assert_eq!(S::LIBRARY.test(layout, &codeword), Tested::Sound);
+        let numbers = S::numbers(layout).expect("the layout is admissible");
+        let data = symbols(numbers.data());
+        let mut codeword = vec![S::default(); numbers.codeword()];
+        S::LIBRARY.store(&numbers, &data, &mut codeword);
+        assert_eq!(S::LIBRARY.test(&numbers, &codeword), Tested::Sound);
         let host = Rack::new(layout.racks / 2);
         let mut filled = Filled {
-            layout,
-            layers,
-            checks: numbers.checks as usize,
-            groups,
+            numbers,
             data,
             codeword,
             lost: Tray::new(layout.racks / 2 * layout.size + layout.size / 2),
@@ -45,9 +36,9 @@ impl<S: Symbol> Filled<S> {
             helpers: (0..layout.racks)
                 .map(Rack::new)
                 .filter(|&rack| rack != host)
-                .take(helpers)
+                .take(numbers.helpers)
                 .collect(),
-            shares: vec![S::default(); helpers * groups],
+            shares: vec![S::default(); numbers.traffic],
             stale: host,
             with_stale: vec![],
         };
@@ -61,15 +52,17 @@ impl<S: Symbol> Filled<S> {
         let place = self.helpers.len() / 2;
         self.stale = self.helpers[place];
         self.with_stale = self.shares.clone();
-        for symbol in &mut self.with_stale[place * self.groups..][..self.groups] {
+        let groups = self.numbers.groups;
+        for symbol in &mut self.with_stale[place * groups..][..groups] {
             *symbol = S::of((*symbol).into() + 1);
         }
     }
 
     fn collect_shares(&mut self) {
         let mut shares = std::mem::take(&mut self.shares);
-        for (&helper, part) in self.helpers.iter().zip(shares.chunks_mut(self.groups)) {
-            S::LIBRARY.share(self.layout, self.host, helper, self.rack(helper), part);
+        let parts = shares.chunks_mut(self.numbers.groups);
+        for (&helper, part) in self.helpers.iter().zip(parts) {
+            S::LIBRARY.share(&self.numbers, self.host, helper, self.rack(helper), part);
         }
         self.shares = shares;
     }
@@ -79,7 +72,7 @@ impl<S: Symbol> Filled<S> {
     }
 
     pub fn last_rack(&self) -> Rack {
-        Rack::new(self.layout.racks - 1)
+        Rack::new(self.numbers.layout.racks - 1)
     }
 
     /// A helper of a host rack: the first of the others.
@@ -90,20 +83,21 @@ impl<S: Symbol> Filled<S> {
     /// Its share.
     pub fn share_for(&self, host: Rack) -> Vec<S> {
         let helper = self.helper_of(host);
-        let mut symbols = vec![S::default(); self.groups];
-        S::LIBRARY.share(self.layout, host, helper, self.rack(helper), &mut symbols);
+        let mut symbols = vec![S::default(); self.numbers.groups];
+        S::LIBRARY.share(&self.numbers, host, helper, self.rack(helper), &mut symbols);
         symbols
     }
 
     /// The symbols of a rack's trays.
     pub fn rack(&self, rack: Rack) -> &[S] {
-        let length = self.layout.size as usize * self.layers;
+        let length = self.numbers.rack();
         &self.codeword[rack.number() as usize * length..][..length]
     }
 
     /// The symbols of a tray.
     pub fn tray(&self, tray: Tray) -> &[S] {
-        &self.codeword[tray.number() as usize * self.layers..][..self.layers]
+        let length = self.numbers.layers;
+        &self.codeword[tray.number() as usize * length..][..length]
     }
 }
 

@@ -209,7 +209,7 @@ mod tests {
         let mut codeword = filled.codeword.clone();
         let place = codeword.len() / 2 + 3;
         codeword[place] = S::of(codeword[place].into() + 0x40);
-        (codeword, place % filled.layers)
+        (codeword, place % filled.numbers.layers)
     }
 
     fn all_versions_see_a_damage<S: Symbol>() {
@@ -217,13 +217,14 @@ mod tests {
             let filled = Filled::<S>::new(layout);
             let (codeword, layer) = damaged(&filled);
             for version in S::versions() {
-                let Tested::Bad { layer: bad, check } = version.test(layout, &codeword) else {
+                let Tested::Bad { layer: bad, check } = version.test(&filled.numbers, &codeword)
+                else {
                     panic!("{} takes a damaged codeword for sound", version.name());
                 };
                 assert_eq!((bad.number() as usize, check), (layer, 0));
-                assert_eq!(version.walk(layout, &codeword), 1);
+                assert_eq!(version.walk(&filled.numbers, &codeword), 1);
                 let mut lent = codeword.clone();
-                assert!(!version.recover(layout, &mut lent, &[Tray::new(0)]));
+                assert!(!version.recover(&filled.numbers, &mut lent, &[Tray::new(0)]));
                 assert!(lent == codeword, "{} wrote", version.name());
             }
         }

@@ -4,7 +4,7 @@ use crate::ordinary::bytes::{LogExp, ProductTable};
 use crate::ordinary::prime::{Delayed, Modulo257, Remainder};
 use crate::ordinary::Ordinary;
 use crate::version::{Library, Version};
-use gesarumbo::{field257, Layout, Measured, Refusal};
+use gesarumbo::{field257, Layout, Numbers, Refusal};
 
 /// A symbol of one of the fields.
 pub trait Symbol: Copy + Default + PartialEq + Into<u64> + 'static {
@@ -17,7 +17,7 @@ pub trait Symbol: Copy + Default + PartialEq + Into<u64> + 'static {
     /// A symbol of any number.
     fn of(number: u64) -> Self;
 
-    fn measure(layout: Layout) -> Result<Measured, Refusal>;
+    fn numbers(layout: Layout) -> Result<Numbers, Refusal>;
 
     /// The library, and what it is compared with.
     fn versions() -> [Box<dyn Version<Self>>; 3];
@@ -41,8 +41,8 @@ impl Symbol for u8 {
         number as u8
     }
 
-    fn measure(layout: Layout) -> Result<Measured, Refusal> {
-        gesarumbo::measure(layout)
+    fn numbers(layout: Layout) -> Result<Numbers, Refusal> {
+        gesarumbo::numbers(layout)
     }
 
     fn versions() -> [Box<dyn Version<u8>>; 3] {
@@ -76,8 +76,8 @@ impl Symbol for u16 {
         (number % 257) as u16
     }
 
-    fn measure(layout: Layout) -> Result<Measured, Refusal> {
-        field257::measure(layout)
+    fn numbers(layout: Layout) -> Result<Numbers, Refusal> {
+        field257::numbers(layout)
     }
 
     fn versions() -> [Box<dyn Version<u16>>; 3] {

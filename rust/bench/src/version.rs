@@ -1,21 +1,21 @@
 //! A version of the calls: the library, or ordinary Rust.
 
-use gesarumbo::{field257, Layout, Rack, ScrubRecord, Tested, Tray};
+use gesarumbo::{field257, Numbers, Rack, ScrubRecord, Tested, Tray};
 
 /// The calls that are timed, over inputs that no version refuses, for symbols of one field.
 pub trait Version<S> {
     fn name(&self) -> &'static str;
-    fn store(&self, layout: Layout, data: &[S], codeword: &mut [S]);
-    fn test(&self, layout: Layout, codeword: &[S]) -> Tested;
+    fn store(&self, numbers: &Numbers, data: &[S], codeword: &mut [S]);
+    fn test(&self, numbers: &Numbers, codeword: &[S]) -> Tested;
     /// How many layers are bad, all looked at in one call.
-    fn walk(&self, layout: Layout, codeword: &[S]) -> u32;
+    fn walk(&self, numbers: &Numbers, codeword: &[S]) -> u32;
     /// False where no codeword has the survivors.
-    fn recover(&self, layout: Layout, codeword: &mut [S], erased: &[Tray]) -> bool;
-    fn share(&self, layout: Layout, host: Rack, helper: Rack, rack: &[S], share: &mut [S]);
+    fn recover(&self, numbers: &Numbers, codeword: &mut [S], erased: &[Tray]) -> bool;
+    fn share(&self, numbers: &Numbers, host: Rack, helper: Rack, rack: &[S], share: &mut [S]);
     /// Repairs the whole tray.
     fn repair(
         &self,
-        layout: Layout,
+        numbers: &Numbers,
         lost: Tray,
         helpers: &[Rack],
         shares: &[S],
@@ -25,7 +25,7 @@ pub trait Version<S> {
     /// The same where one share may be wrong; gives the rack whose share is.
     fn correct(
         &self,
-        layout: Layout,
+        numbers: &Numbers,
         lost: Tray,
         helpers: &[Rack],
         shares: &[S],
@@ -47,59 +47,73 @@ macro_rules! library {
                 "library"
             }
 
-            fn store(&self, layout: Layout, data: &[$symbol], codeword: &mut [$symbol]) {
-                $calls::store(layout, data, codeword).expect(RIGHT);
+            fn store(&self, numbers: &Numbers, data: &[$symbol], codeword: &mut [$symbol]) {
+                $calls::store(numbers.layout, data, codeword).expect(RIGHT);
             }
 
-            fn test(&self, layout: Layout, codeword: &[$symbol]) -> Tested {
-                $calls::test(layout, codeword).expect(RIGHT)
+            fn test(&self, numbers: &Numbers, codeword: &[$symbol]) -> Tested {
+                $calls::test(numbers.layout, codeword).expect(RIGHT)
             }
 
-            fn walk(&self, layout: Layout, codeword: &[$symbol]) -> u32 {
+            fn walk(&self, numbers: &Numbers, codeword: &[$symbol]) -> u32 {
                 let mut record = ScrubRecord::new(0, 0, 0);
-                $calls::scrub_reset(layout, &mut record).expect(RIGHT);
-                $calls::scrub(layout, codeword, &mut record, u64::MAX).expect(RIGHT);
+                $calls::scrub_reset(numbers.layout, &mut record).expect(RIGHT);
+                $calls::scrub(numbers.layout, codeword, &mut record, u64::MAX).expect(RIGHT);
                 record.bad
             }
 
-            fn recover(&self, layout: Layout, codeword: &mut [$symbol], erased: &[Tray]) -> bool {
-                $calls::recover(layout, codeword, erased).is_ok()
+            fn recover(
+                &self,
+                numbers: &Numbers,
+                codeword: &mut [$symbol],
+                erased: &[Tray],
+            ) -> bool {
+                $calls::recover(numbers.layout, codeword, erased).is_ok()
             }
 
             fn share(
                 &self,
-                layout: Layout,
+                numbers: &Numbers,
                 host: Rack,
                 helper: Rack,
                 rack: &[$symbol],
                 share: &mut [$symbol],
             ) {
-                $calls::share(layout, host, helper, rack, share).expect(RIGHT);
+                $calls::share(numbers.layout, host, helper, rack, share).expect(RIGHT);
             }
 
             fn repair(
                 &self,
-                layout: Layout,
+                numbers: &Numbers,
                 lost: Tray,
                 helpers: &[Rack],
                 shares: &[$symbol],
                 host: &[$symbol],
                 spare: &mut [$symbol],
             ) {
-                $calls::repair(layout, lost, helpers, shares, host, spare, 0, u64::MAX)
-                    .expect(RIGHT);
+                $calls::repair(
+                    numbers.layout,
+                    lost,
+                    helpers,
+                    shares,
+                    host,
+                    spare,
+                    0,
+                    u64::MAX,
+                )
+                .expect(RIGHT);
             }
 
             fn correct(
                 &self,
-                layout: Layout,
+                numbers: &Numbers,
                 lost: Tray,
                 helpers: &[Rack],
                 shares: &[$symbol],
                 host: &[$symbol],
                 spare: &mut [$symbol],
             ) -> Option<Rack> {
-                $calls::repair_correcting(layout, lost, helpers, shares, host, spare)
+                $calls::repair_correcting(numbers.layout, lost, helpers, shares, host, spare)
                     .expect(RIGHT)
                     .rack
             }

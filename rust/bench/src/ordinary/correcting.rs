@@ -7,21 +7,19 @@
 use super::checks::{Checks, Item};
 use super::field::{Field, Multiply};
 use super::groups::{write, Summed};
-use super::numbers::Numbers;
-use gesarumbo::Layout;
+use gesarumbo::Numbers;
 
 /// Repairs a whole tray, and names the helper whose share is wrong. Not more than one may be.
 pub fn correct<M: Multiply>(
     multiply: &M,
-    layout: Layout,
+    numbers: &Numbers,
     lost: usize,
     helpers: &[usize],
     shares: &[M::Symbol],
     host_rack: &[M::Symbol],
     spare: &mut [M::Symbol],
 ) -> Option<usize> {
-    let numbers = Numbers::of(layout);
-    let summed = Summed::new(multiply, &numbers, lost / numbers.size);
+    let summed = Summed::new(multiply, numbers, lost / numbers.size);
     let mut sums = summed.sums(helpers, shares);
     let unknown = summed.unknown(helpers);
     let left = Left::of(multiply, &summed.checks, &unknown, &sums);
@@ -33,12 +31,12 @@ pub fn correct<M: Multiply>(
         assert!((0..groups).all(|group| left.fits(&rack, group)));
         let added = left.to_be_added(&rack);
         let checks = &summed.checks;
-        checks.add(&rack, &added, 0..numbers.group_checks, &mut sums);
+        checks.add(&rack, &added, 0..numbers.parity_racks, &mut sums);
         M::Symbol::reduce(&mut sums);
         helper
     });
     let host_sums = summed.host_sums(helpers, &sums);
-    write(&numbers, lost, &host_sums, host_rack, spare);
+    write(numbers, lost, &host_sums, host_rack, spare);
     named
 }
 

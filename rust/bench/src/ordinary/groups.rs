@@ -2,8 +2,7 @@
 
 use super::checks::{Checks, Item};
 use super::field::{Field, Multiply};
-use super::numbers::Numbers;
-use gesarumbo::Layout;
+use gesarumbo::Numbers;
 
 /// Groups that follow one another and whose layers with one digit of the host do too.
 struct Run {
@@ -15,24 +14,23 @@ struct Run {
 
 /// All layers, in such runs.
 fn runs(numbers: &Numbers, host: usize) -> impl Iterator<Item = Run> {
-    let (base, groups) = (numbers.base, numbers.layers / numbers.base);
-    let length = base.pow(host as u32);
+    let Numbers { digits, groups, .. } = *numbers;
+    let length = digits.pow(host as u32);
     let run = move |group, digit| Run {
         group,
-        layer: group * base + digit * length,
+        layer: group * digits + digit * length,
         digit,
         length,
     };
     let firsts = (0..groups).step_by(length);
-    firsts.flat_map(move |group| (0..base).map(move |digit| run(group, digit)))
+    firsts.flat_map(move |group| (0..digits).map(move |digit| run(group, digit)))
 }
 
 /// Works out the share of a helper rack. It multiplies nothing.
-pub fn share<S: Field>(layout: Layout, host: usize, rack: &[S], share: &mut [S]) {
-    let numbers = Numbers::of(layout);
+pub fn share<S: Field>(numbers: &Numbers, host: usize, rack: &[S], share: &mut [S]) {
     share.fill(S::default());
     for tray in rack.chunks(numbers.layers) {
-        for run in runs(&numbers, host) {
+        for run in runs(numbers, host) {
             let symbols = &tray[run.layer..][..run.length];
             let sums = &mut share[run.group..][..run.length];
             for (sum, &symbol) in sums.iter_mut().zip(symbols) {
@@ -46,18 +44,17 @@ pub fn share<S: Field>(layout: Layout, host: usize, rack: &[S], share: &mut [S])
 /// Repairs a whole tray.
 pub fn repair<M: Multiply>(
     multiply: &M,
-    layout: Layout,
+    numbers: &Numbers,
     lost: usize,
     helpers: &[usize],
     shares: &[M::Symbol],
     host_rack: &[M::Symbol],
     spare: &mut [M::Symbol],
 ) {
-    let numbers = Numbers::of(layout);
-    let summed = Summed::new(multiply, &numbers, lost / numbers.size);
+    let summed = Summed::new(multiply, numbers, lost / numbers.size);
     let sums = summed.sums(helpers, shares);
     let host_sums = summed.host_sums(helpers, &sums);
-    write(&numbers, lost, &host_sums, host_rack, spare);
+    write(numbers, lost, &host_sums, host_rack, spare);
 }
 
 /// Writes the lost tray: the host rack's sums, digit after digit, less its other trays.
@@ -68,7 +65,7 @@ pub fn write<S: Field>(
     host_rack: &[S],
     spare: &mut [S],
 ) {
-    let groups = numbers.layers / numbers.base;
+    let groups = numbers.groups;
     for run in runs(numbers, lost / numbers.size) {
         let sums = &host_sums[run.digit * groups + run.group..][..run.length];
         spare[run.layer..][..run.length].copy_from_slice(sums);
@@ -92,34 +89,32 @@ pub struct Summed<'a, M> {
 
 impl<'a, M: Multiply> Summed<'a, M> {
     pub fn new(multiply: &'a M, numbers: &'a Numbers, host: usize) -> Summed<'a, M> {
-        let (count, rows) = (numbers.group_checks, numbers.racks - 1);
+        let (count, rows) = (numbers.parity_racks, numbers.racks - 1);
         Summed {
             numbers,
             host,
-            checks: Checks::new(multiply, numbers.base, count, rows),
+            checks: Checks::new(multiply, numbers.digits, count, rows),
         }
     }
 
     /// A rack that is not the host.
     pub fn rack(&self, i: usize) -> Item<M::Symbol> {
-        let Numbers { base, size, .. } = *self.numbers;
+        let Numbers { digits, size, .. } = *self.numbers;
         let row = if i < self.host { i } else { i - 1 };
-        self.checks.item(row, |digit| (i * base + digit) * size)
+        self.checks.item(row, |digit| (i * digits + digit) * size)
     }
 
     /// The helpers' part of every check in every group.
     pub fn sums(&self, helpers: &[usize], shares: &[M::Symbol]) -> Vec<M::Symbol> {
         let Numbers {
-            group_checks,
-            layers,
-            base,
+            parity_racks,
+            groups,
             ..
         } = *self.numbers;
-        let groups = layers / base;
-        let mut sums = vec![M::Symbol::default(); group_checks * groups];
+        let mut sums = vec![M::Symbol::default(); parity_racks * groups];
         for (&helper, share) in helpers.iter().zip(shares.chunks(groups)) {
             let rack = self.rack(helper);
-            self.checks.add(&rack, share, 0..group_checks, &mut sums);
+            self.checks.add(&rack, share, 0..parity_racks, &mut sums);
         }
         M::Symbol::reduce(&mut sums);
         sums
@@ -129,21 +124,24 @@ impl<'a, M: Multiply> Summed<'a, M> {
     /// that do not help.
     pub fn unknown(&self, helpers: &[usize]) -> Vec<Item<M::Symbol>> {
         let Numbers {
-            racks, size, base, ..
+            racks,
+            size,
+            digits,
+            ..
         } = *self.numbers;
         let own = |digit| {
-            let exponent = (self.host * base + digit) * size;
+            let exponent = (self.host * digits + digit) * size;
             self.checks.item(0, move |_| exponent)
         };
         let silent = (0..racks).filter(|i| *i != self.host && !helpers.contains(i));
         let silent = silent.map(|i| self.rack(i));
-        (0..base).map(own).chain(silent).collect()
+        (0..digits).map(own).chain(silent).collect()
     }
 
     /// The host rack's sums in every group, digit after digit.
     pub fn host_sums(&self, helpers: &[usize], sums: &[M::Symbol]) -> Vec<M::Symbol> {
         let unknown = self.unknown(helpers);
         let unknown = Vec::from_iter(&unknown);
-        self.checks.solve(&unknown, self.numbers.base, sums)
+        self.checks.solve(&unknown, self.numbers.digits, sums)
     }
 }

@@ -11,13 +11,12 @@ mod correcting;
 mod field;
 mod groups;
 mod layers;
-pub mod numbers;
 pub mod prime;
 mod system;
 
 use crate::version::Version;
 use field::Multiply;
-use gesarumbo::{Layout, Rack, Tested, Tray};
+use gesarumbo::{Numbers, Rack, Tested, Tray};
 
 /// Ordinary Rust over one way to multiply.
 pub struct Ordinary<M> {
@@ -30,37 +29,37 @@ impl<M: Multiply> Version<M::Symbol> for Ordinary<M> {
         self.name
     }
 
-    fn store(&self, layout: Layout, data: &[M::Symbol], codeword: &mut [M::Symbol]) {
-        layers::store(&self.multiply, layout, data, codeword);
+    fn store(&self, numbers: &Numbers, data: &[M::Symbol], codeword: &mut [M::Symbol]) {
+        layers::store(&self.multiply, numbers, data, codeword);
     }
 
-    fn test(&self, layout: Layout, codeword: &[M::Symbol]) -> Tested {
-        layers::test(&self.multiply, layout, codeword)
+    fn test(&self, numbers: &Numbers, codeword: &[M::Symbol]) -> Tested {
+        layers::test(&self.multiply, numbers, codeword)
     }
 
-    fn walk(&self, layout: Layout, codeword: &[M::Symbol]) -> u32 {
-        layers::walk(&self.multiply, layout, codeword)
+    fn walk(&self, numbers: &Numbers, codeword: &[M::Symbol]) -> u32 {
+        layers::walk(&self.multiply, numbers, codeword)
     }
 
-    fn recover(&self, layout: Layout, codeword: &mut [M::Symbol], erased: &[Tray]) -> bool {
+    fn recover(&self, numbers: &Numbers, codeword: &mut [M::Symbol], erased: &[Tray]) -> bool {
         let erased: Vec<usize> = erased.iter().map(|tray| tray.number() as usize).collect();
-        layers::recover(&self.multiply, layout, codeword, &erased)
+        layers::recover(&self.multiply, numbers, codeword, &erased)
     }
 
     fn share(
         &self,
-        layout: Layout,
+        numbers: &Numbers,
         host: Rack,
         _helper: Rack,
         rack: &[M::Symbol],
         share: &mut [M::Symbol],
     ) {
-        groups::share(layout, host.number() as usize, rack, share);
+        groups::share(numbers, host.number() as usize, rack, share);
     }
 
     fn repair(
         &self,
-        layout: Layout,
+        numbers: &Numbers,
         lost: Tray,
         helpers: &[Rack],
         shares: &[M::Symbol],
@@ -69,12 +68,12 @@ impl<M: Multiply> Version<M::Symbol> for Ordinary<M> {
     ) {
         let lost = lost.number() as usize;
         let helpers: Vec<usize> = helpers.iter().map(|rack| rack.number() as usize).collect();
-        groups::repair(&self.multiply, layout, lost, &helpers, shares, host, spare);
+        groups::repair(&self.multiply, numbers, lost, &helpers, shares, host, spare);
     }
 
     fn correct(
         &self,
-        layout: Layout,
+        numbers: &Numbers,
         lost: Tray,
         helpers: &[Rack],
         shares: &[M::Symbol],
@@ -83,7 +82,7 @@ impl<M: Multiply> Version<M::Symbol> for Ordinary<M> {
     ) -> Option<Rack> {
         let lost = lost.number() as usize;
         let helpers: Vec<usize> = helpers.iter().map(|rack| rack.number() as usize).collect();
-        correcting::correct(&self.multiply, layout, lost, &helpers, shares, host, spare)
+        correcting::correct(&self.multiply, numbers, lost, &helpers, shares, host, spare)
             .map(|rack| Rack::new(rack as u32))
     }
 }
