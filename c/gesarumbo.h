@@ -65,6 +65,31 @@
 extern "C" {
 #endif
 
+/* What a refusal's number means, in words; "done" for 0. */
+static inline const char *gesarumbo_refusal_words(uint32_t refusal)
+{
+    static const char *const words[] = {
+        "done",
+        "the layout is not admissible, or not one that the call is for",
+        "a buffer is not exactly the length its rule gives",
+        "a tray, rack, state, volume, layer or group number or a symbol is outside its values, "
+        "or a scrub record breaks its rules",
+        "a list is not strictly rising",
+        "too many trays are erased, or the helpers are not as many as the layout says",
+        "the host rack is a helper",
+        "the first group is above the number of groups",
+        "no codeword has these survivors",
+        "the image is malformed",
+        "the image is marked demonstration",
+        "the image is of another layout or volume",
+        "there is no lost tray, or there are more of one rack than shares can repair",
+        "a layer asked for is not yet repaired in the spare",
+        "more than one helper's share is wrong: no change of one makes them agree",
+        "the card does not give the host rack's sums of every codeword",
+    };
+    return refusal < sizeof words / sizeof *words ? words[refusal] : "no ground of refusal";
+}
+
 /* B, u, k, d and E: any values, each call says whether they are admissible. */
 typedef struct {
     uint32_t racks, size, dimension, helpers, errors;

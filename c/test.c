@@ -1,0 +1,531 @@
+/*
+ * Every call from C: data are stored, a reset tray is refused, a lost tray is repaired in pieces and
+ * by a card and read meanwhile, the codeword is tested some layers at a time, two erased trays are
+ * recovered. In a cabinet with less data, two lost trays of one rack are repaired. In one that
+ * allows for a wrong share, a lost tray is repaired although one rack's share is stale. Racks of
+ * four trays are had in the second field, where a tray is stored, repaired and imaged.
+ *
+ * No byte beside a buffer may be written: see guards.h.
+ */
+#include "gesarumbo.h"
+#include "guards.h"
+
+/* The cabinet: four racks of three trays, eight trays' worth of data, three helpers. */
+enum { RACKS = 4, SIZE = 3, TRAYS = RACKS * SIZE, DATA = 8, HELPERS = 3 };
+/* What follows from it. */
+enum { LAYERS = 16, GROUPS = 8, IMAGE = 24 + LAYERS, CARD = HELPERS * (LAYERS / GROUPS) };
+/* The lengths of its buffers. */
+enum { DATA_LENGTH = DATA * LAYERS, CODEWORD_LENGTH = TRAYS * LAYERS };
+enum { RACK_LENGTH = SIZE * LAYERS, SHARES_LENGTH = HELPERS * GROUPS };
+
+/* The same cabinet with less data, and so many trays of a rack lost together. */
+enum { LESS_DATA = 6, LOST = 2 };
+
+/* A cabinet of five racks in which one of four helpers may send a wrong share, and what follows. */
+enum { WARY_RACKS = 5, WARY_TRAYS = WARY_RACKS * SIZE, WARY_DATA = 4, WARY_HELPERS = 4, ERRORS = 1 };
+enum { WARY_LAYERS = 32, WARY_GROUPS = 16, WARY_RACK = SIZE * WARY_LAYERS };
+enum { WARY_SHARES = WARY_HELPERS * WARY_GROUPS };
+
+/* A cabinet of the second field: five racks of four trays, fifteen trays' worth of data. */
+enum { RACKS_4 = 5, SIZE_4 = 4, TRAYS_4 = RACKS_4 * SIZE_4, DATA_4 = 15, HELPERS_4 = 4 };
+enum { LAYERS_4 = 32, GROUPS_4 = 16, IMAGE_4 = 24 + 2 * LAYERS_4 };
+
+enum { ABSENT = 0, LIVE = 1, DEMONSTRATION = 2, VOLUME = 7 };
+
+static const gesarumbo_layout layout = { RACKS, SIZE, DATA, HELPERS, 0 };
+static const gesarumbo_layout less = { RACKS, SIZE, LESS_DATA, HELPERS, 0 };
+static const gesarumbo_layout wary = { WARY_RACKS, SIZE, WARY_DATA, WARY_HELPERS, ERRORS };
+static const gesarumbo_layout fours = { RACKS_4, SIZE_4, DATA_4, HELPERS_4, 0 };
+
+/* What the cabinet works with, all of it lent from the pool. */
+static uint8_t *data, *codeword, *images, *shares, *spare, *states, *shares_of_two, *two_spares;
+static uint8_t *card;
+static uint8_t *wary_codeword, *wary_shares, *wary_spare;
+static uint32_t *helpers, *erased, *lost, *wary_helpers;
+/* The same for the second field. */
+static uint16_t *data_4, *codeword_4, *shares_4, *spare_4;
+static uint8_t *image_4;
+static uint32_t *helpers_4;
+
+static void lend_all(void)
+{
+    clear_pool();
+    data = lend(DATA_LENGTH);
+    codeword = lend(CODEWORD_LENGTH);
+    images = lend(TRAYS * IMAGE);
+    shares = lend(SHARES_LENGTH);
+    spare = lend(LAYERS);
+    states = lend(TRAYS);
+    helpers = lend(HELPERS * sizeof *helpers);
+    erased = lend(2 * sizeof *erased);
+    lost = lend(LOST * sizeof *lost);
+    shares_of_two = lend(LOST * SHARES_LENGTH);
+    two_spares = lend(LOST * LAYERS);
+    card = lend(CARD);
+    wary_codeword = lend(WARY_TRAYS * WARY_LAYERS);
+    wary_shares = lend(WARY_SHARES);
+    wary_spare = lend(WARY_LAYERS);
+    wary_helpers = lend(WARY_HELPERS * sizeof *wary_helpers);
+    data_4 = lend(DATA_4 * LAYERS_4 * sizeof *data_4);
+    codeword_4 = lend(TRAYS_4 * LAYERS_4 * sizeof *codeword_4);
+    shares_4 = lend(HELPERS_4 * GROUPS_4 * sizeof *shares_4);
+    spare_4 = lend(LAYERS_4 * sizeof *spare_4);
+    image_4 = lend(IMAGE_4);
+    helpers_4 = lend(HELPERS_4 * sizeof *helpers_4);
+}
+
+static uint8_t *tray_at(size_t tray)
+{
+    return codeword + tray * LAYERS;
+}
+
+static uint8_t *rack_at(size_t rack)
+{
+    return codeword + rack * RACK_LENGTH;
+}
+
+static uint8_t *image_at(size_t tray)
+{
+    return images + tray * IMAGE;
+}
+
+static void print_bytes(const char *name, const uint8_t *bytes, size_t count)
+{
+    printf("%s", name);
+    for (size_t i = 0; i < count; i++)
+        printf(" %02X", bytes[i]);
+    printf("\n");
+}
+
+static void measure(void)
+{
+    gesarumbo_measured m = gesarumbo_measure(layout);
+    must(m.refusal == 0 && m.layers == LAYERS, "the layout is admissible");
+    printf("layers %u, checks %u, traffic of a repair %u\n", m.layers, m.checks, m.traffic);
+
+    gesarumbo_layout even = { 4, 4, 8, 3, 0 };
+    printf("racks of four trays: refused %u\n", gesarumbo_measure(even).refusal);
+}
+
+static void store(void)
+{
+    for (size_t i = 0; i < DATA_LENGTH; i++)
+        data[i] = (uint8_t)(7 * i + 3);
+    must(gesarumbo_store(layout, data, DATA_LENGTH, codeword, CODEWORD_LENGTH) == 0,
+         "data are stored");
+    must(memcmp(codeword, data, DATA_LENGTH) == 0, "the first trays are the data");
+    print_bytes("tray 8:", tray_at(8), LAYERS);
+    print_bytes("tray 11:", tray_at(11), LAYERS);
+}
+
+static void write_image(uint32_t tray, uint32_t state, uint32_t volume, const uint8_t *symbols)
+{
+    must(gesarumbo_write_image(layout, tray, state, volume, symbols, LAYERS,
+                               image_at(tray), IMAGE) == 0,
+         "an image is written");
+}
+
+static void write_images(void)
+{
+    for (uint32_t x = 0; x < TRAYS; x++)
+        write_image(x, LIVE, VOLUME, tray_at(x));
+    print_bytes("header of tray 5:", image_at(5), IMAGE - LAYERS);
+}
+
+/* Tray 5 has been changed for one that was reset: it must not be taken for a live one. */
+static void refuse_demonstration(void)
+{
+    memset(spare, 0, LAYERS);
+    write_image(5, DEMONSTRATION, VOLUME + 1, spare);
+    for (uint32_t x = 0; x < TRAYS; x++) {
+        gesarumbo_image read = gesarumbo_read_image(layout, VOLUME, image_at(x), IMAGE);
+        if (read.refusal != 0) {
+            printf("tray %u: refused %u, %zu symbols handed out\n", x, read.refusal, read.length);
+            continue;
+        }
+        must(read.tray == x && read.length == LAYERS, "an image is its tray's");
+        must(memcmp(image_at(x) + read.offset, tray_at(x), LAYERS) == 0,
+             "an image holds its tray's symbols");
+    }
+}
+
+/* Racks 0, 2 and 3 each send a share for rack 1, which has lost tray 5. */
+static void collect_shares(void)
+{
+    static const uint32_t others[HELPERS] = { 0, 2, 3 };
+    memcpy(helpers, others, sizeof others);
+    for (size_t i = 0; i < HELPERS; i++)
+        must(gesarumbo_share(layout, 1, helpers[i], rack_at(helpers[i]), RACK_LENGTH,
+                             shares + i * GROUPS, GROUPS) == 0,
+             "a share is worked out");
+    uint8_t built[GROUPS] = { 0 };
+    for (uint32_t x = 3; x-- > 0;)
+        must(gesarumbo_share_add(layout, 1, x, tray_at(x), LAYERS, built, GROUPS) == 0,
+             "a tray's part is added");
+    must(memcmp(built, shares, GROUPS) == 0, "a share built up tray by tray is the rack's");
+    print_bytes("share of rack 0:", shares, GROUPS);
+}
+
+static gesarumbo_repaired repair_piece(size_t helpers_count, uint64_t first, uint64_t budget)
+{
+    return gesarumbo_repair(layout, 5, helpers_count == 0 ? NULL : helpers, helpers_count,
+                            shares, SHARES_LENGTH, rack_at(1), RACK_LENGTH, spare, LAYERS,
+                            first, budget);
+}
+
+/* Reads layers of tray 5 from its spare while it is being repaired. */
+static void read_layers(uint64_t groups, uint32_t first, uint32_t end)
+{
+    gesarumbo_part part = gesarumbo_read_part(layout, codeword, CODEWORD_LENGTH, spare, LAYERS, 5,
+                                              groups, 5, first, end);
+    if (part.refusal != 0) {
+        printf("layers %u to %u: refused %u\n", first, end - 1, part.refusal);
+        return;
+    }
+    must(part.source == 2 && part.length == end - first, "the lost tray is read from the spare");
+    print_bytes("read:", spare + part.offset, part.length);
+}
+
+static void repair_in_pieces(void)
+{
+    uint8_t kept[LAYERS];
+    memcpy(kept, tray_at(5), LAYERS);
+    memset(tray_at(5), 0xFF, LAYERS);
+    memset(spare, 0xEE, LAYERS);
+    uint64_t done = 0, crossed = 0;
+    while (done < GROUPS) {
+        gesarumbo_repaired piece = repair_piece(HELPERS, done, 3);
+        must(piece.refusal == 0 && piece.groups > 0, "a piece is done");
+        done += piece.groups;
+        crossed += piece.crossed;
+        printf("groups %u of %u, crossed %u, still to come %u\n", (unsigned)done, GROUPS,
+               (unsigned)crossed, (unsigned)piece.remaining);
+        print_bytes("spare:", spare, LAYERS);
+        read_layers(done, 1, 4);
+        read_layers(done, 4, 6);
+    }
+    printf("from group %u: refused %u\n", GROUPS + 1, repair_piece(HELPERS, GROUPS + 1, 0).refusal);
+    printf("tray 5 is %s\n", memcmp(spare, kept, LAYERS) == 0 ? "as it was" : "wrong");
+    memcpy(tray_at(5), spare, LAYERS);
+}
+
+/* The works print a card for group 3 of the same repair; at first one multiplier is wrong. */
+static void repair_by_card(void)
+{
+    must(gesarumbo_card(layout, 5, helpers, HELPERS, 3, card, CARD) == 0, "a card is printed");
+    print_bytes("card of group 3:", card, CARD);
+    card[4] ^= 1;
+    printf("a wrong card: refused %u\n",
+           gesarumbo_card_test(layout, 5, helpers, HELPERS, card, CARD, 3));
+    card[4] ^= 1;
+    must(gesarumbo_card_test(layout, 5, helpers, HELPERS, card, CARD, 3) == 0,
+         "the card that was printed is right");
+    memset(spare, 0xEE, LAYERS);
+    gesarumbo_repaired done = gesarumbo_card_repair(layout, 5, helpers, HELPERS, card, CARD, shares,
+                                                    SHARES_LENGTH, rack_at(1), RACK_LENGTH, spare,
+                                                    LAYERS, 3);
+    must(done.refusal == 0 && done.groups == 1, "a group is repaired by its card");
+    printf("by card: crossed %u, still to come %u\n", (unsigned)done.crossed,
+           (unsigned)done.remaining);
+    print_bytes("spare:", spare, LAYERS);
+}
+
+static void print_test(void)
+{
+    gesarumbo_tested t = gesarumbo_test(layout, codeword, CODEWORD_LENGTH);
+    must(t.refusal == 0, "a codeword is tested");
+    if (t.verdict == 1)
+        printf("test: sound\n");
+    else
+        printf("test: layer %u, check %u\n", t.layer, t.check);
+}
+
+static void test(void)
+{
+    print_test();
+    tray_at(2)[6] ^= 1;
+    tray_at(9)[11] ^= 1;
+    print_test();
+    tray_at(2)[6] ^= 1;
+    tray_at(9)[11] ^= 1;
+}
+
+/* The night check: seven layers a call, over a codeword with two bad layers. */
+static void scrub(void)
+{
+    static const char *const reports[] = { "none", "unfinished", "sound", "bad" };
+    gesarumbo_scrub_record any = { 99, 99, 99 };
+    tray_at(2)[6] ^= 1;
+    tray_at(9)[11] ^= 1;
+    gesarumbo_scrubbed s = gesarumbo_scrub_reset(layout, any);
+    must(s.refusal == 0 && s.report == 0, "a walk begins");
+    do {
+        s = gesarumbo_scrub(layout, codeword, CODEWORD_LENGTH, s.record, 7);
+        must(s.refusal == 0, "a call of the walk is done");
+        printf("scrub: %s, %u of %u layers seen, %u bad, the first is %u\n", reports[s.report],
+               s.record.next, LAYERS, s.record.bad, s.record.first);
+    } while (s.report == 1);
+    tray_at(2)[6] ^= 1;
+    tray_at(9)[11] ^= 1;
+    s = gesarumbo_scrub(layout, codeword, CODEWORD_LENGTH, any, 7);
+    must(s.record.next == 99 && s.record.bad == 99 && s.record.first == 99,
+         "a refused call hands back the record as it came");
+    printf("scrub with another record: refused %u\n", s.refusal);
+}
+
+static void recover(void)
+{
+    uint8_t kept[CODEWORD_LENGTH], damaged[CODEWORD_LENGTH];
+    memcpy(kept, codeword, CODEWORD_LENGTH);
+    erased[0] = 1;
+    erased[1] = 10;
+    memset(tray_at(1), 0, LAYERS);
+    memset(tray_at(10), 0, LAYERS);
+    tray_at(4)[15] ^= 1;
+    memcpy(damaged, codeword, CODEWORD_LENGTH);
+    printf("two erased, one damaged: refused %u\n",
+           gesarumbo_recover(layout, codeword, CODEWORD_LENGTH, erased, 2));
+    must(memcmp(codeword, damaged, CODEWORD_LENGTH) == 0, "a refusal changes nothing");
+    tray_at(4)[15] ^= 1;
+    must(gesarumbo_recover(layout, codeword, CODEWORD_LENGTH, erased, 2) == 0,
+         "two trays are recovered");
+    printf("two erased: all trays %s\n",
+           memcmp(codeword, kept, CODEWORD_LENGTH) == 0 ? "as they were" : "wrong");
+}
+
+static void margin(void)
+{
+    memset(states, LIVE, TRAYS);
+    gesarumbo_margin_result all = gesarumbo_margin(layout, states, TRAYS);
+    memset(states, ABSENT, 5);
+    gesarumbo_margin_result seven = gesarumbo_margin(layout, states, TRAYS);
+    must(all.refusal == 0 && seven.refusal == 0, "a margin below zero is an answer");
+    printf("margin with 12 trays %d, with 7 trays %d\n", all.margin, seven.margin);
+}
+
+/* A buffer of length 0 may be NULL: an empty list, or a length that is refused. */
+static void lend_nothing(void)
+{
+    gesarumbo_scrub_record nothing_seen = { 0, 0, LAYERS };
+    printf("nothing lent: test %u", gesarumbo_test(layout, NULL, 0).refusal);
+    printf(", store %u", gesarumbo_store(layout, NULL, 0, NULL, 0));
+    printf(", recover %u", gesarumbo_recover(layout, NULL, 0, NULL, 0));
+    printf(", share %u", gesarumbo_share(layout, 1, 0, NULL, 0, NULL, 0));
+    printf(", repair %u",
+           gesarumbo_repair(layout, 5, NULL, 0, NULL, 0, NULL, 0, NULL, 0, 0, 1).refusal);
+    printf(", of many %u %u", gesarumbo_share_many(layout, 1, 1, 0, NULL, 0, NULL, 0),
+           gesarumbo_repair_many(layout, NULL, 0, NULL, 0, NULL, 0, NULL, 0, NULL, 0, 0, 1)
+               .refusal);
+    printf(", correcting %u",
+           gesarumbo_repair_correcting(wary, 5, NULL, 0, NULL, 0, NULL, 0, NULL, 0).refusal);
+    printf(", cards %u %u %u", gesarumbo_card(layout, 5, NULL, 0, 0, NULL, 0),
+           gesarumbo_card_test(layout, 5, NULL, 0, NULL, 0, 0),
+           gesarumbo_card_repair(layout, 5, NULL, 0, NULL, 0, NULL, 0, NULL, 0, NULL, 0, 0)
+               .refusal);
+    printf(", part %u",
+           gesarumbo_read_part(layout, NULL, 0, NULL, 0, 5, 0, 5, 0, 0).refusal);
+    printf(", write %u", gesarumbo_write_image(layout, 5, LIVE, VOLUME, NULL, 0, NULL, 0));
+    printf(", read %u", gesarumbo_read_image(layout, VOLUME, NULL, 0).refusal);
+    printf(", margin %u", gesarumbo_margin(layout, NULL, 0).refusal);
+    printf(", scrub %u\n", gesarumbo_scrub(layout, NULL, 0, nothing_seen, 1).refusal);
+    printf("no tray erased: %u, no helpers: %u, no tray lost: %u\n",
+           gesarumbo_recover(layout, codeword, CODEWORD_LENGTH, NULL, 0),
+           repair_piece(0, 0, 1).refusal,
+           gesarumbo_repair_many(layout, NULL, 0, helpers, HELPERS, NULL, 0, rack_at(1),
+                                 RACK_LENGTH, NULL, 0, 0, 1).refusal);
+}
+
+/* Racks 0, 2 and 3 each send two shares for rack 1, which has lost trays 3 and 5. */
+static void collect_shares_of_two(void)
+{
+    enum { EACH = LOST * GROUPS };
+    for (size_t i = 0; i < HELPERS; i++)
+        must(gesarumbo_share_many(less, LOST, 1, helpers[i], rack_at(helpers[i]), RACK_LENGTH,
+                                  shares_of_two + i * EACH, EACH) == 0,
+             "a rack's shares are worked out");
+    uint8_t built[EACH] = { 0 };
+    for (uint32_t x = 3; x-- > 0;)
+        must(gesarumbo_share_add_many(less, LOST, 1, x, tray_at(x), LAYERS, built, EACH) == 0,
+             "a tray's part is added");
+    must(memcmp(built, shares_of_two, EACH) == 0, "shares built up tray by tray are the rack's");
+    print_bytes("shares of rack 0:", shares_of_two, EACH);
+}
+
+static gesarumbo_repaired repair_two(gesarumbo_layout of, uint64_t first, uint64_t budget)
+{
+    return gesarumbo_repair_many(of, lost, LOST, helpers, HELPERS,
+                                 shares_of_two, LOST * SHARES_LENGTH, rack_at(1), RACK_LENGTH,
+                                 two_spares, LOST * LAYERS, first, budget);
+}
+
+/* A power strip takes trays 3 and 5. With more data they could be recovered, but not repaired. */
+static void repair_two_in_pieces(void)
+{
+    uint8_t kept[LOST * LAYERS], noise[LOST * LAYERS];
+    must(gesarumbo_store(less, data, LESS_DATA * LAYERS, codeword, CODEWORD_LENGTH) == 0,
+         "less data are stored");
+    collect_shares_of_two();
+    memset(noise, 0xEE, sizeof noise);
+    memcpy(two_spares, noise, sizeof noise);
+    for (uint32_t i = 0; i < LOST; i++) {
+        lost[i] = 3 + 2 * i;
+        memcpy(kept + i * LAYERS, tray_at(lost[i]), LAYERS);
+        memset(tray_at(lost[i]), 0xFF, LAYERS);
+    }
+    printf("two lost of one rack, with more data: refused %u\n", repair_two(layout, 0, 5).refusal);
+    must(memcmp(two_spares, noise, sizeof noise) == 0, "a refusal changes nothing");
+    for (uint64_t done = 0; done < GROUPS; done += 5) {
+        gesarumbo_repaired piece = repair_two(less, done, 5);
+        must(piece.refusal == 0, "a piece is done");
+        printf("two lost of one rack: crossed %u, still to come %u\n", (unsigned)piece.crossed,
+               (unsigned)piece.remaining);
+    }
+    printf("trays 3 and 5 are %s\n",
+           memcmp(two_spares, kept, sizeof kept) == 0 ? "as they were" : "wrong");
+}
+
+/* Racks 0, 2, 3 and 4 each send a share for rack 1, which has lost tray 4. */
+static void collect_wary_shares(void)
+{
+    static const uint32_t others[WARY_HELPERS] = { 0, 2, 3, 4 };
+    memcpy(wary_helpers, others, sizeof others);
+    for (size_t i = 0; i < WARY_HELPERS; i++)
+        must(gesarumbo_share(wary, 1, others[i], wary_codeword + others[i] * WARY_RACK, WARY_RACK,
+                             wary_shares + i * WARY_GROUPS, WARY_GROUPS) == 0,
+             "a share is worked out");
+}
+
+static gesarumbo_corrected repair_correcting(gesarumbo_layout of)
+{
+    return gesarumbo_repair_correcting(of, 4, wary_helpers, WARY_HELPERS, wary_shares, WARY_SHARES,
+                                       wary_codeword + WARY_RACK, WARY_RACK, wary_spare,
+                                       WARY_LAYERS);
+}
+
+/* Rack 3 sends a share of what it held last year; then rack 4 sends a wrong symbol besides. */
+static void correct_a_share(void)
+{
+    const uint8_t *tray = wary_codeword + 4 * WARY_LAYERS;
+    must(gesarumbo_store(wary, data, WARY_DATA * WARY_LAYERS, wary_codeword,
+                         WARY_TRAYS * WARY_LAYERS) == 0,
+         "data are stored where a share may be wrong");
+    collect_wary_shares();
+    gesarumbo_corrected all = repair_correcting(wary);
+    must(all.refusal == 0 && all.rack == WARY_RACKS, "true shares name no rack");
+    must(memcmp(wary_spare, tray, WARY_LAYERS) == 0, "the tray comes back");
+
+    for (size_t p = 0; p < WARY_GROUPS; p++)
+        wary_shares[2 * WARY_GROUPS + p] ^= (uint8_t)(p % 3);
+    memset(wary_spare, 0xEE, WARY_LAYERS);
+    gesarumbo_corrected one = repair_correcting(wary);
+    printf("a stale share: rack %u named, crossed %u, tray 4 is %s\n", one.rack,
+           (unsigned)one.crossed,
+           memcmp(wary_spare, tray, WARY_LAYERS) == 0 ? "as it was" : "wrong");
+
+    wary_shares[3 * WARY_GROUPS] ^= 1;
+    gesarumbo_corrected two = repair_correcting(wary);
+    printf("two wrong shares: refused %u; in pieces: refused %u; with E = 0: refused %u\n",
+           two.refusal,
+           gesarumbo_repair(wary, 4, wary_helpers, WARY_HELPERS, wary_shares, WARY_SHARES,
+                            wary_codeword + WARY_RACK, WARY_RACK, wary_spare, WARY_LAYERS, 0, 1)
+               .refusal,
+           repair_correcting(layout).refusal);
+    must(two.rack == 0 && two.crossed == 0, "a refusal's other numbers are 0");
+    must(memcmp(wary_spare, tray, WARY_LAYERS) == 0, "a refusal changes nothing");
+}
+
+static void print_symbols(const char *name, const uint16_t *symbols, size_t count)
+{
+    printf("%s", name);
+    for (size_t i = 0; i < count; i++)
+        printf(" %u", symbols[i]);
+    printf("\n");
+}
+
+/* Four does not divide 255, but it divides 256: racks of four are had modulo 257. */
+static void store_fours(void)
+{
+    enum { LENGTH = TRAYS_4 * LAYERS_4 };
+    gesarumbo_measured m = gesarumbo257_measure(fours);
+    must(m.refusal == 0 && m.layers == LAYERS_4, "the layout is admissible in the second field");
+    printf("racks of four modulo 257: layers %u, checks %u, traffic of a repair %u\n", m.layers,
+           m.checks, m.traffic);
+    for (uint32_t i = 0; i < DATA_4 * LAYERS_4; i++)
+        data_4[i] = (uint16_t)((11 * i + 250) % 257);
+    must(gesarumbo257_store(fours, data_4, DATA_4 * LAYERS_4, codeword_4, LENGTH) == 0,
+         "data are stored");
+    print_symbols("tray 0:", codeword_4, 8);
+    print_symbols("tray 15:", codeword_4 + 15 * LAYERS_4, 8);
+    gesarumbo_tested t = gesarumbo257_test(fours, codeword_4, LENGTH);
+    must(t.refusal == 0 && t.verdict == 1, "what is stored is a codeword");
+    codeword_4[LENGTH - 1] += 257;
+    printf("test with a number above 256: refused %u\n",
+           gesarumbo257_test(fours, codeword_4, LENGTH).refusal);
+    codeword_4[LENGTH - 1] -= 257;
+}
+
+/* Rack 1 has lost tray 6, whose old symbols are not looked at; the other racks help. */
+static void repair_fours(void)
+{
+    enum { RACK_LENGTH_4 = SIZE_4 * LAYERS_4, LENGTH = HELPERS_4 * GROUPS_4 };
+    static const uint32_t others[HELPERS_4] = { 0, 2, 3, 4 };
+    uint16_t kept[LAYERS_4];
+    memcpy(helpers_4, others, sizeof others);
+    for (size_t i = 0; i < HELPERS_4; i++)
+        must(gesarumbo257_share(fours, 1, helpers_4[i], codeword_4 + helpers_4[i] * RACK_LENGTH_4,
+                                RACK_LENGTH_4, shares_4 + i * GROUPS_4, GROUPS_4) == 0,
+             "a share is worked out");
+    print_symbols("share of rack 0:", shares_4, 8);
+    memcpy(kept, codeword_4 + 6 * LAYERS_4, sizeof kept);
+    memset(codeword_4 + 6 * LAYERS_4, 0xFF, sizeof kept);
+    for (uint64_t done = 0; done < GROUPS_4; done += 8) {
+        gesarumbo_repaired piece = gesarumbo257_repair(
+            fours, 6, helpers_4, HELPERS_4, shares_4, LENGTH, codeword_4 + RACK_LENGTH_4,
+            RACK_LENGTH_4, spare_4, LAYERS_4, done, 8);
+        must(piece.refusal == 0, "a piece is done");
+        printf("modulo 257: crossed %u, still to come %u\n", (unsigned)piece.crossed,
+               (unsigned)piece.remaining);
+    }
+    printf("tray 6 is %s\n", memcmp(spare_4, kept, sizeof kept) == 0 ? "as it was" : "wrong");
+}
+
+/* An image of edition 2: the first field's reader takes it for malformed. */
+static void image_fours(void)
+{
+    uint16_t kept[LAYERS_4];
+    memcpy(kept, spare_4, sizeof kept);
+    must(gesarumbo257_write_image(fours, 6, LIVE, VOLUME, spare_4, LAYERS_4, image_4, IMAGE_4) == 0,
+         "an image is written");
+    print_bytes("header of tray 6:", image_4, IMAGE_4 - 2 * LAYERS_4);
+    printf("read as edition 1: refused %u\n",
+           gesarumbo_read_image(layout, VOLUME, image_4, IMAGE_4).refusal);
+    memset(spare_4, 0xFF, sizeof kept);
+    gesarumbo257_image read = gesarumbo257_read_image(fours, VOLUME, image_4, IMAGE_4, spare_4,
+                                                      LAYERS_4);
+    must(read.refusal == 0 && read.tray == 6, "an image is its tray's");
+    must(memcmp(spare_4, kept, sizeof kept) == 0, "reading copies the tray's symbols");
+}
+
+int main(void)
+{
+    lend_all();
+    measure();
+    store();
+    write_images();
+    refuse_demonstration();
+    collect_shares();
+    repair_in_pieces();
+    repair_by_card();
+    test();
+    scrub();
+    recover();
+    margin();
+    lend_nothing();
+    repair_two_in_pieces();
+    correct_a_share();
+    store_fours();
+    repair_fours();
+    image_fours();
+    must(guards_untouched(), "no byte beside a buffer is written");
+    return 0;
+}
