@@ -5,7 +5,7 @@ use crate::layout;
 use gesarumbo::Layout;
 use std::fmt;
 
-const MOST_TRAYS: u64 = 60;
+pub const MOST_TRAYS: u64 = 60;
 const MOST_LAYERS: u64 = 4096;
 
 /// Whether a condition holds. It is unknown where another condition's failure leaves a number in

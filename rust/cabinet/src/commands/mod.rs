@@ -7,6 +7,7 @@ use crate::screen::Screen;
 use std::ffi::{OsStr, OsString};
 
 mod card;
+mod choose;
 mod demo;
 mod inspect;
 mod margin;
@@ -36,6 +37,7 @@ pub struct Command {
 /// All commands, in the order in which help lists them.
 pub const COMMANDS: &[Command] = &[
     demo::COMMAND,
+    choose::COMMAND,
     plan::COMMAND,
     store::COMMAND,
     test::COMMAND,

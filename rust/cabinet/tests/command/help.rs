@@ -2,9 +2,9 @@
 
 use crate::bench::{assert_readable, Bench};
 
-const COMMANDS: [&str; 13] = [
-    "demo", "plan", "store", "test", "scrub", "recover", "share", "repair", "card", "read",
-    "margin", "inspect", "box",
+const COMMANDS: [&str; 14] = [
+    "demo", "choose", "plan", "store", "test", "scrub", "recover", "share", "repair", "card",
+    "read", "margin", "inspect", "box",
 ];
 
 #[test]

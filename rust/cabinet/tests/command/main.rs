@@ -2,6 +2,7 @@
 
 mod bench;
 mod card;
+mod choose;
 mod demo;
 mod field257;
 mod files;
