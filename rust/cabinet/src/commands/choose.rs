@@ -5,6 +5,7 @@ use crate::arguments::{needed, Arguments, Setting};
 use crate::conditions::MOST_TRAYS;
 use crate::failure::Failure;
 use crate::field::Field;
+use crate::folder::HEADER;
 use crate::screen::Screen;
 use crate::traffic::percent;
 use crate::words::{count, grouped};
@@ -223,17 +224,16 @@ impl Choice {
 
     /// What so many bytes of data take in it.
     fn taken(&self, size: u64) -> String {
-        const HEADER: u64 = 24;
-        let Numbers {
-            layers, traffic, ..
-        } = self.numbers;
-        let [layers, traffic] = [layers, traffic].map(|symbols| (symbols * self.width()) as u64);
         let stripes = size.div_ceil(self.numbers.data() as u64).max(1);
-        let [file, crossing] =
-            [HEADER + layers, traffic].map(|bytes| bytes.saturating_mul(stripes));
-        let [stripes, file, crossing] =
-            [stripes, file, crossing].map(|number| grouped(number as usize));
-        format!("{stripes} stripes, {file} bytes a tray, {crossing} in its repair")
+        if stripes > u32::MAX.into() {
+            return "too much: more stripes than there are volume numbers".to_string();
+        }
+        let of_stripes = |bytes: usize| grouped(stripes as usize * bytes);
+        let symbols = |count: usize| count * self.width();
+        let file = of_stripes(HEADER + symbols(self.numbers.layers));
+        let crossing = of_stripes(symbols(self.numbers.traffic));
+        let stripes = count(stripes as usize, "stripe");
+        format!("{stripes}, {file} bytes a tray, {crossing} in its repair")
     }
 }
 

@@ -159,7 +159,29 @@ fn a_size_says_stripes_files_and_traffic() {
         text.contains(&format!("13.3 %        1\n      {wanted}\n")),
         "{text}"
     );
-    bench.done("choose --trays 30 --survive 6 --size 18446744073709551615");
+    let text = bench.done("choose --trays 20 --survive 5 --rack 4 --size 1");
+    assert!(
+        text.contains("\n      1 stripe, 88 bytes a tray, 128 in its repair\n"),
+        "{text}"
+    );
+    // A stripe has a volume number of its own, of 32 bits.
+    let most = (1u64 << 32) * 480 - 480;
+    for (size, fits) in [(most, true), (most + 1, false), (u64::MAX, false)] {
+        let text = bench.done(&format!(
+            "choose --trays 20 --survive 5 --rack 4 --size {size}"
+        ));
+        let first = text.lines().nth(3).unwrap_or_default();
+        assert_eq!(
+            first.starts_with("      4,294,967,295 stripes, "),
+            fits,
+            "{first}"
+        );
+        assert_eq!(
+            first.starts_with("      too much: more stripes"),
+            !fits,
+            "{first}"
+        );
+    }
 }
 
 #[test]
