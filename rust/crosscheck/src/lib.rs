@@ -8,6 +8,7 @@
 //!
 //! - [`calls`]: the calls, a file and an entry each;
 //! - [`vectors`]: the replay of the vector files;
+//! - [`writing`]: the vector files as the second program writes them;
 //! - [`sweeps`]: cases gone through one after another;
 //! - [`draws`]: random cases, and claims about lists of calls;
 //! - [`spoil`]: how a good case is made a refused or a boundary one.
@@ -32,3 +33,4 @@ pub mod source;
 pub mod spoil;
 pub mod sweeps;
 pub mod vectors;
+pub mod writing;

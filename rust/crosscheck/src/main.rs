@@ -2,6 +2,7 @@
 
 use crosscheck::crosscheck::{Crosscheck, Effort};
 use crosscheck::options::{Options, HELP};
+use crosscheck::writing;
 use std::process::ExitCode;
 
 fn main() -> ExitCode {
@@ -10,7 +11,17 @@ fn main() -> ExitCode {
             println!("{HELP}");
             ExitCode::SUCCESS
         }
-        Ok(options) => run(&options),
+        Ok(options) => match &options.write {
+            Some(folder) => done(writing::write(&options.vectors, folder)),
+            None => run(&options),
+        },
+        Err(words) => done(Err(words)),
+    }
+}
+
+fn done(outcome: Result<(), String>) -> ExitCode {
+    match outcome {
+        Ok(()) => ExitCode::SUCCESS,
         Err(words) => {
             eprintln!("{words}");
             ExitCode::FAILURE

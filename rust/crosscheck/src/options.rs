@@ -7,6 +7,7 @@ Compares the library with the second program and with the vectors.
 
 crosscheck                 the gate's bounded run
 crosscheck --long N        N random cases
+crosscheck --write DIR     writes the vectors as the second program answers them
            --seed S        the random generator's seed
            --vectors DIR   the vectors' folder (tests/vectors of the repository)
            --help          this text
@@ -18,6 +19,8 @@ pub struct Options {
     pub help: bool,
     /// A long run of so many random cases, in place of the bounded one.
     pub long: Option<u64>,
+    /// The folder to write the vectors to, in place of a comparison.
+    pub write: Option<PathBuf>,
     pub seed: u64,
     pub vectors: PathBuf,
 }
@@ -28,6 +31,7 @@ impl Default for Options {
         Options {
             help: false,
             long: None,
+            write: None,
             seed: 1,
             vectors: root.join("tests/vectors"),
         }
@@ -42,6 +46,7 @@ impl Options {
             match word.as_str() {
                 "--help" => options.help = true,
                 "--long" => options.long = Some(number(&value()?)?),
+                "--write" => options.write = Some(value()?.into()),
                 "--seed" => options.seed = number(&value()?)?,
                 "--vectors" => options.vectors = value()?.into(),
                 _ => return Err(format!("{word} is not known; see --help")),
@@ -69,11 +74,13 @@ mod tests {
         let all = parse(&["--long", "5", "--seed", "7", "--vectors", "here", "--help"]).unwrap();
         assert_eq!((all.long, all.seed, all.help), (Some(5), 7, true));
         assert_eq!(all.vectors, Path::new("here"));
+        let write = parse(&["--write", "there"]).unwrap().write;
+        assert_eq!(write.as_deref(), Some(Path::new("there")));
     }
 
     #[test]
     fn other_words_are_not() {
-        let wrong = [&["--fast"][..], &["--long"], &["--seed", "x"]];
+        let wrong = [&["--fast"][..], &["--long"], &["--write"], &["--seed", "x"]];
         assert!(wrong.iter().all(|words| parse(words).is_err()));
     }
 }

@@ -174,7 +174,7 @@ impl Run {
 }
 
 /// The answers that a call must have given, each with a number E.
-fn due(group: &Group, call: &Call) -> Vec<(u32, u32)> {
+pub fn due(group: &Group, call: &Call) -> Vec<(u32, u32)> {
     let grounds = call.grounds_in(group.field);
     let of_errors = |&errors: &u32| {
         let own = [0].iter().chain(&grounds);

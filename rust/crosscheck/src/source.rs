@@ -1,8 +1,11 @@
 //! Where cases come from: the random numbers and the layouts.
 
 use crate::cabinet::Cabinet;
+use crate::calls::{sixteen, Call};
 use crate::field::{Field, FIELDS};
+use crate::inputs::Inputs;
 use crate::random::Random;
+use crate::spoil::spoil;
 
 /// Codewords up to this length are small.
 const SMALL: usize = 1024;
@@ -13,6 +16,8 @@ const LARGE_ONE_IN: usize = 300;
 
 /// The numbers E that layouts are drawn with.
 pub const EITHER: &[u32] = &[0, 1];
+/// One case in so many is with either E, whichever the call is for.
+const ANY_ERRORS_ONE_IN: usize = 12;
 
 pub struct Source {
     pub random: Random,
@@ -62,6 +67,20 @@ impl Source {
 
     fn with_errors(&self, errors: u32) -> impl Iterator<Item = &Layouts> {
         self.layouts.iter().filter(move |of| of.errors == errors)
+    }
+
+    /// Random inputs of a call over any layout, good or spoilt in up to three places.
+    pub fn inputs(&mut self, field: Field, call: &Call) -> Inputs {
+        let any = self.random.one_in(ANY_ERRORS_ONE_IN);
+        let errors = if any { EITHER } else { call.errors };
+        let cabinet = match call.has_layout() {
+            true => self.cabinet_of(field, errors),
+            false => sixteen::NUMBERS,
+        };
+        let mut inputs = (call.example)(self, &cabinet);
+        let times = self.random.pick(&[0, 0, 0, 0, 1, 1, 1, 2, 2, 3]);
+        spoil(self, &cabinet, &mut inputs, times);
+        inputs
     }
 
     /// A random layout of either field with one of these E.

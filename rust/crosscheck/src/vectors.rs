@@ -1,6 +1,6 @@
 //! The replay of the vector files.
 
-use crate::calls::groups;
+use crate::calls::{groups, Call};
 use crate::field::{Field, FIELDS};
 use crate::inputs::Inputs;
 use crate::run::Run;
@@ -38,7 +38,8 @@ pub fn replay(run: &mut Run, folder: &Path) {
     );
 }
 
-fn files(folder: &Path) -> io::Result<Vec<PathBuf>> {
+/// The vector files of a folder, by their names.
+pub fn files(folder: &Path) -> io::Result<Vec<PathBuf>> {
     let entries = fs::read_dir(folder)?.collect::<io::Result<Vec<fs::DirEntry>>>()?;
     let mut files: Vec<PathBuf> = entries.iter().map(fs::DirEntry::path).collect();
     files.retain(|file| file.extension().is_some_and(|extension| extension == "txt"));
@@ -56,21 +57,12 @@ fn replay_file(run: &mut Run, replayed: &mut Replayed, file: &Path) {
 /// Replays the cases of a file, those that the landed requests leave as they
 /// are. A file whose rules are not all in force yet is left out.
 fn replay_text(run: &mut Run, replayed: &mut Replayed, name: &str, text: &str, landed: &[&str]) {
-    let Some(rules) = text
-        .lines()
-        .next()
-        .and_then(|line| line.strip_prefix("# rules: "))
-    else {
-        return run.require(false, || format!("{name} names no rules"));
+    let (rules, field) = match rules_of(text) {
+        Ok(rules) => rules,
+        Err(words) => return run.require(false, || format!("{name} {words}")),
     };
     let in_force = rules.split(' ').all(|rule| holds(rule, landed));
-    let Some(field) = field_of(rules) else {
-        return run.require(false, || format!("{name} names no field"));
-    };
-    for line in text
-        .lines()
-        .filter(|line| !line.is_empty() && !line.starts_with('#'))
-    {
+    for line in text.lines().filter(|line| is_case(line)) {
         if !in_force || superseded(line, landed) {
             replayed.skipped += 1;
             continue;
@@ -82,13 +74,21 @@ fn replay_text(run: &mut Run, replayed: &mut Replayed, name: &str, text: &str, l
     }
 }
 
-/// The field that a file's first line names.
-fn field_of(rules: &str) -> Option<Field> {
-    let number = rules
-        .split(' ')
-        .find_map(|rule| rule.strip_prefix("field="))?;
-    let mut fields = FIELDS.into_iter();
-    fields.find(|field| field.symbols().to_string() == number)
+/// The rules that a file's first line names, and the field among them.
+pub fn rules_of(text: &str) -> Result<(&str, Field), &'static str> {
+    let first = text.lines().next().unwrap_or_default();
+    let rules = first.strip_prefix("# rules: ").ok_or("names no rules")?;
+    let named = |field: &Field| {
+        let rule = format!("field={}", field.symbols());
+        rules.split(' ').any(|word| word == rule)
+    };
+    let field = FIELDS.into_iter().find(named).ok_or("names no field")?;
+    Ok((rules, field))
+}
+
+/// Whether a line of a file is a case.
+pub fn is_case(line: &str) -> bool {
+    !line.is_empty() && !line.starts_with('#')
 }
 
 /// Whether a rule of a file's first line is in force: the first field, the second
@@ -104,13 +104,20 @@ fn holds(rule: &str, landed: &[&str]) -> bool {
 }
 
 /// Whether a request that has landed changes the answer of a case.
-fn superseded(line: &str, landed: &[&str]) -> bool {
+pub fn superseded(line: &str, landed: &[&str]) -> bool {
     let until = line.split(' ').nth(2).unwrap_or("-");
     until.split(',').any(|request| landed.contains(&request))
 }
 
 fn replay_line(run: &mut Run, field: Field, line: &str) -> Result<(), String> {
     let (case, expected) = line.split_once(" > ").ok_or("no answer")?;
+    let (call, inputs) = parse_case(field, case)?;
+    run.replay(call, &inputs, expected);
+    Ok(())
+}
+
+/// The call of a case, which stands before the answer, and its inputs.
+pub fn parse_case(field: Field, case: &str) -> Result<(&'static Call, Inputs), String> {
     let words: Vec<&str> = case.split(' ').collect();
     let groups = groups().into_iter().filter(|group| group.field == field);
     let call = groups
@@ -118,8 +125,7 @@ fn replay_line(run: &mut Run, field: Field, line: &str) -> Result<(), String> {
         .find(|call| call.name == words[0])
         .ok_or("an unknown call")?;
     let inputs = Inputs::parse(field, call.shape, words.get(3..).ok_or("no inputs")?)?;
-    run.replay(call, &inputs, expected);
-    Ok(())
+    Ok((call, inputs))
 }
 
 #[cfg(test)]

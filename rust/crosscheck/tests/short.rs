@@ -6,6 +6,7 @@ use crosscheck::field::{Field, FIELDS};
 use crosscheck::inputs::{Inputs, Value};
 use crosscheck::options::Options;
 use crosscheck::run::Run;
+use crosscheck::{vectors, writing};
 
 #[test]
 fn nothing_differs() {
@@ -102,7 +103,20 @@ fn a_wrong_answer_is_seen() {
 fn a_folder_without_vectors_fails() {
     let mut crosscheck = Crosscheck::new(3);
     let folder = std::path::Path::new(env!("CARGO_MANIFEST_DIR")).join("src");
-    crosscheck::vectors::replay(&mut crosscheck.run, &folder);
-    crosscheck::vectors::replay(&mut crosscheck.run, &folder.join("absent"));
+    vectors::replay(&mut crosscheck.run, &folder);
+    vectors::replay(&mut crosscheck.run, &folder.join("absent"));
     assert_eq!(crosscheck.run.differing, 2);
+}
+
+/// Every vector file but those from outside is what the second program writes today.
+#[test]
+fn the_vectors_are_what_is_written() {
+    let folder = Options::default().vectors;
+    let written = writing::texts(&folder).unwrap();
+    let all = vectors::files(&folder).unwrap();
+    assert_eq!(all.len(), written.len() + writing::OUTSIDE.len());
+    for (name, text) in written {
+        let held = std::fs::read_to_string(folder.join(&name)).unwrap();
+        assert!(held == text, "{name}");
+    }
 }

@@ -97,6 +97,11 @@ const COMMON: [&Call; 19] = [
 ];
 
 impl Call {
+    /// Whether it is over a layout, as all are but those of the box.
+    pub fn has_layout(&self) -> bool {
+        self.shape.first() == Some(&Kind::Layout)
+    }
+
     /// Whether symbols are lent to it.
     pub fn has_symbols(&self) -> bool {
         self.shape.contains(&Kind::Symbols)

@@ -2,9 +2,8 @@
 //! places.
 
 use super::Draw;
-use crate::calls::sixteen::{CALLS, NUMBERS};
+use crate::calls::sixteen::{CALLS, FIELD};
 use crate::crosscheck::Crosscheck;
-use crate::spoil::spoil;
 
 pub const DRAW: Draw = Draw {
     name: "box calls",
@@ -15,8 +14,6 @@ pub const DRAW: Draw = Draw {
 
 fn case(all: &mut Crosscheck) {
     let call = all.source.random.pick(&CALLS);
-    let mut inputs = (call.example)(&mut all.source, &NUMBERS);
-    let times = all.source.random.pick(&[0, 0, 1, 1, 1, 2, 2, 3]);
-    spoil(&mut all.source, &NUMBERS, &mut inputs, times);
+    let inputs = all.source.inputs(FIELD, call);
     all.run.compare(call, &inputs);
 }
