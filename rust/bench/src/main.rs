@@ -1,8 +1,9 @@
-//! The library's calls timed against ordinary Rust by tables, over the same data.
+//! The library's calls timed against ordinary Rust by tables over the same data, and storing against ISA-L.
 
 mod calls;
 mod filled;
 mod instructions;
+mod isal;
 mod machine;
 mod options;
 mod ordinary;
@@ -58,9 +59,14 @@ fn answer_in<S: Symbol>(asked: &Options) -> Result<(), String> {
         None => S::LAYOUTS,
     };
     match &asked.what {
+        What::Times if asked.isal => return isal::print_times(layouts, asked.rounds),
         What::Times => print_times(layouts, &versions, asked.rounds),
+        What::Instructions if asked.isal => return isal::print_instructions(layouts),
         What::Instructions if asked.quick => return quick_count(layouts[0], &versions),
         What::Instructions => return print_instructions(layouts, &versions),
+        What::Count(_, form) if isal::NAMES[1..].contains(&form.as_str()) => {
+            return isal::count(layouts[0], form);
+        }
         What::Count(call, version) => {
             let call = Call::named(call);
             let version = versions.iter().find(|known| known.name() == version);
@@ -78,13 +84,13 @@ fn print_conditions(rounds: usize) {
     println!("Processor: {}.", machine::processor());
     println!("Build: {}.", machine::build());
     println!("Least / median of {rounds} rounds; the versions take turns in each round.");
-    println!("Buffers to be written were cleared before each turn; all versions wrote the same.");
 }
 
 /// Times every call of every layout.
 fn print_times<S: Symbol>(layouts: &[Layout], versions: &[Box<dyn Version<S>>], rounds: usize) {
+    println!("Buffers to be written were cleared before each turn; all versions wrote the same.");
     println!();
-    table::heading(versions, ", µs");
+    table::heading(&names(versions), ", µs");
     for &layout in layouts {
         let filled = Filled::new(layout);
         for call in Call::of(layout) {
@@ -123,7 +129,7 @@ fn print_instructions<S: Symbol>(
     versions: &[Box<dyn Version<S>>],
 ) -> Result<(), String> {
     println!();
-    table::heading(versions, "");
+    table::heading(&names(versions), "");
     for &layout in layouts {
         for call in Call::of(layout) {
             table::counts(
@@ -141,7 +147,7 @@ fn quick_count<S: Symbol>(layout: Layout, versions: &[Box<dyn Version<S>>]) -> R
     let store = &Call::ALL[0];
     let all = instructions_of(layout, store, versions)?;
     println!();
-    table::heading(versions, "");
+    table::heading(&names(versions), "");
     table::counts(layout, store.name, &all);
     match all[1..].iter().find(|&&ordinary| all[0] > LIMIT * ordinary) {
         Some(_) => Err(format!(
@@ -151,13 +157,17 @@ fn quick_count<S: Symbol>(layout: Layout, versions: &[Box<dyn Version<S>>]) -> R
     }
 }
 
+fn names<S>(versions: &[Box<dyn Version<S>>]) -> Vec<&'static str> {
+    versions.iter().map(|version| version.name()).collect()
+}
+
 /// The instructions of a call by each version.
 fn instructions_of<S: Symbol>(
     layout: Layout,
     call: &Call<S>,
     versions: &[Box<dyn Version<S>>],
 ) -> Result<Vec<u64>, String> {
-    let names = versions.iter().map(|version| version.name());
+    let names = names(versions).into_iter();
     names
         .map(|name| instructions::of(S::COUNT, layout, call.name, name))
         .collect()

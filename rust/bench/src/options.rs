@@ -10,6 +10,9 @@ usage: bench [--rounds N] [--quick]
            counts the instructions of every call by every version with valgrind, and prints a
            table for each field; quick: of storing the first layout, and fails above twice the
            ordinary version's
+       bench --isal [--instructions] [--rounds N]
+           the same for storing in the field of 256 by the library and by Intel's ISA-L, where that
+           is installed: plain Reed-Solomon, another code of as many trays and bytes
        bench --count CALL VERSION [--rounds N]
            does one call N times and prints nothing
 each for one field only: --field 256 or --field 257
@@ -17,7 +20,8 @@ and for one layout only, in the field of 256 if none is named: --layout B u k d,
 where one share may be wrong
 calls: store, test, walk, recover-1, recover-r, share-first, share-middle, share-last, repair; with
 --errors 1 correct-right and correct-wrong in place of repair
-versions in the field of 256: library, log-exp, product-table
+versions in the field of 256: library, log-exp, product-table; isal-portable and isal-dispatched of
+store alone
 versions in the field of 257: library, remainder, delayed";
 
 /// The word that asks for one call only.
@@ -35,6 +39,8 @@ pub struct Options {
     pub layout: Option<Layout>,
     pub rounds: usize,
     pub quick: bool,
+    /// ISA-L in place of ordinary Rust.
+    pub isal: bool,
     pub what: What,
 }
 
@@ -52,11 +58,12 @@ const COUNT_ROUNDS: usize = 10;
 /// Reads the words of the command line; none where they make no sense.
 pub fn read(mut words: impl Iterator<Item = String>) -> Option<Options> {
     let (mut field, mut layout, mut errors) = (None, None, 0);
-    let (mut rounds, mut quick, mut what) = (None, false, What::Times);
+    let (mut rounds, mut quick, mut isal, mut what) = (None, false, false, What::Times);
     while let Some(word) = words.next() {
         match word.as_str() {
             "--rounds" => rounds = Some(words.next()?.parse().ok().filter(|&n| n > 0)?),
             "--quick" => quick = true,
+            "--isal" => isal = true,
             "--instructions" => what = What::Instructions,
             COUNT => what = What::Count(words.next()?, words.next()?),
             FIELD => field = Some(words.next()?.parse().ok().filter(is_field)?),
@@ -70,12 +77,17 @@ pub fn read(mut words: impl Iterator<Item = String>) -> Option<Options> {
         _ if quick => QUICK_ROUNDS,
         _ => ROUNDS,
     };
-    let one = layout.is_some() || matches!(what, What::Count(..));
+    let one = layout.is_some() || isal || matches!(what, What::Count(..));
+    let field = field.or(one.then_some(u8::COUNT));
+    if isal && field != Some(u8::COUNT) {
+        return None;
+    }
     Some(Options {
-        field: field.or(one.then_some(u8::COUNT)),
+        field,
         layout: layout.map(|layout| Layout { errors, ..layout }),
         rounds: rounds.unwrap_or(usual),
         quick,
+        isal,
         what,
     })
 }

@@ -23,8 +23,8 @@ pub trait Symbol: Copy + Default + PartialEq + Into<u64> + 'static {
     fn versions() -> [Box<dyn Version<Self>>; 3];
 }
 
-/// The layout that W9 names, the usual one, one with three digits, and one with racks of five; then
-/// two in which one share may be wrong.
+/// The layout that W9 names, the usual one, one with three digits, and one with racks of five; the two
+/// that W4 admits; then two in which one share may be wrong.
 impl Symbol for u8 {
     const COUNT: u32 = 256;
     const LAYOUTS: &'static [Layout] = &[
@@ -32,6 +32,8 @@ impl Symbol for u8 {
         Layout::new(4, 3, 8, 3),
         Layout::new(5, 3, 4, 3),
         Layout::new(9, 5, 35, 8),
+        Layout::new(7, 5, 24, 6),
+        Layout::new(11, 3, 27, 10),
         Layout::with_errors(10, 3, 18, 9, 1),
         Layout::with_errors(6, 3, 5, 4, 1),
     ];

@@ -1,16 +1,14 @@
 //! The tables of times and of instructions, in markdown.
 
 use crate::timing::Times;
-use crate::version::Version;
 use gesarumbo::Layout;
 
 /// Prints the heading: the figures of each version, and the first against each of the others.
-pub fn heading<S>(versions: &[Box<dyn Version<S>>], unit: &str) {
-    let times = versions.iter().map(|v| format!("{}{unit}", v.name()));
-    let first = versions[0].name();
-    let ratios = versions[1..]
+pub fn heading(names: &[&str], unit: &str) {
+    let times = names.iter().map(|name| format!("{name}{unit}"));
+    let ratios = names[1..]
         .iter()
-        .map(|v| format!("{first} / {}", v.name()));
+        .map(|name| format!("{} / {name}", names[0]));
     let titles: Vec<String> = times.chain(ratios).collect();
     line("layout", "call", &titles);
     line("---", "---", &vec!["---:".to_string(); titles.len()]);

@@ -24,24 +24,30 @@ pub fn time<S: Symbol>(
 ) -> Vec<Times> {
     let before = (call.before)(filled);
     let mut buffer = before.clone();
-    let mut turn = |version: &dyn Version<S>, repeats: u32| {
+    in_turns(versions.len(), rounds, |place, repeats| {
         buffer.copy_from_slice(&before);
+        let version = versions[place].as_ref();
         let start = Instant::now();
         for _ in 0..repeats {
             (call.run)(version, filled, std::hint::black_box(&mut buffer));
         }
         start.elapsed()
-    };
-    let fastest = versions
-        .iter()
-        .map(|version| turn(version.as_ref(), 1))
-        .min();
+    })
+}
+
+/// Times so many versions in rounds: a turn does one of them some times and says how long that took.
+pub fn in_turns(
+    count: usize,
+    rounds: usize,
+    mut turn: impl FnMut(usize, u32) -> Duration,
+) -> Vec<Times> {
+    let fastest = (0..count).map(|place| turn(place, 1)).min();
     let repeats = repeats(fastest.unwrap_or(LEAST));
-    let mut all = vec![Vec::with_capacity(rounds); versions.len()];
+    let mut all = vec![Vec::with_capacity(rounds); count];
     for round in 0..rounds {
-        for step in 0..versions.len() {
-            let place = (round + step) % versions.len();
-            let taken = turn(versions[place].as_ref(), repeats);
+        for step in 0..count {
+            let place = (round + step) % count;
+            let taken = turn(place, repeats);
             all[place].push(taken.as_secs_f64() * 1e6 / f64::from(repeats));
         }
     }

@@ -17,7 +17,7 @@ pub fn card<F: Field>(
     places: &[F::Symbol],
 ) -> Result<Vec<F::Symbol>, Refusal> {
     let numbers = layout.numbers_with(0)?;
-    refuse_card::<F>(&numbers, lost, helpers, group, places.len(), true)?;
+    refuse_card(&numbers, lost, helpers, group, places.len(), true)?;
     let host = lost.0 as usize / numbers.size;
     let given = GivenMany {
         lost: &[lost],
@@ -41,7 +41,7 @@ pub fn card_test<F: Field>(
 ) -> Result<(), Refusal> {
     let numbers = layout.numbers_with(0)?;
     let in_range = F::are_symbols(card);
-    refuse_card::<F>(&numbers, lost, helpers, group, card.len(), in_range)?;
+    refuse_card(&numbers, lost, helpers, group, card.len(), in_range)?;
     let right = is_right::<F>(&numbers, lost, helpers, card, group as usize);
     refuse(&[(Refusal::Card, !right)])
 }
@@ -118,7 +118,7 @@ fn card_length(numbers: &Numbers) -> usize {
 }
 
 /// The grounds of the calls that take a card alone, past the layout's.
-fn refuse_card<F: Field>(
+fn refuse_card(
     numbers: &Numbers,
     lost: Tray,
     helpers: &[Rack],

@@ -15,7 +15,7 @@ pub mod prime;
 mod system;
 
 use crate::version::Version;
-use field::Multiply;
+pub use field::Multiply;
 use gesarumbo::{Numbers, Rack, Tested, Tray};
 
 /// Ordinary Rust over one way to multiply.
