@@ -46,11 +46,12 @@ pub fn texts(kept: &Path) -> Result<Texts, String> {
     let mut texts = Texts::new();
     for file in files(kept).map_err(|error| format!("{}: {error}", kept.display()))? {
         let name = file.file_name().unwrap_or_default().to_string_lossy();
-        if !name.starts_with(DRAWN) && !OUTSIDE.contains(&&*name) {
-            let text = fs::read_to_string(&file).map_err(|error| format!("{name}: {error}"))?;
-            let text = answered(&text).map_err(|words| format!("{name}: {words}"))?;
-            texts.insert(name.into_owned(), text);
+        if name.starts_with(DRAWN) || OUTSIDE.contains(&name.as_ref()) {
+            continue;
         }
+        let text = fs::read_to_string(&file).map_err(|error| format!("{name}: {error}"))?;
+        let text = answered(&text).map_err(|words| format!("{name}: {words}"))?;
+        texts.insert(name.into_owned(), text);
     }
     let mut source = Source::new(0);
     let drawn = groups().map(|group| drawn(&mut source, &group));
@@ -85,10 +86,9 @@ fn drawn(source: &mut Source, group: &Group) -> (String, String) {
     let symbols = group.field.symbols();
     let mut lines = vec![format!("# rules: field={symbols} w2=1 w4=1 w5=1 w12=1")];
     for call in &group.calls {
-        for case in cases(source, group, call) {
-            let number = lines.len();
-            lines.push(format!("{} {name}-{number} - {case}", call.name));
-        }
+        let of_call = cases(source, group, call).into_iter().zip(1..);
+        let line = |(case, number)| format!("{0} {name}-{0}-{number} - {case}", call.name);
+        lines.extend(of_call.map(line));
     }
     (format!("{name}.txt"), joined(&lines))
 }
