@@ -17,7 +17,8 @@ pub fn of(field: u32, layout: Layout, call: &str, version: &str) -> Result<u64, 
         .output()
         .map_err(|error| format!("valgrind: {error}"))?;
     let said = String::from_utf8_lossy(&output.stderr);
-    collected(&said).ok_or(format!("valgrind counted nothing:\n{said}"))
+    let counted = collected(&said).filter(|_| output.status.success());
+    counted.ok_or(format!("valgrind counted nothing:\n{said}"))
 }
 
 /// The number after "Collected :".

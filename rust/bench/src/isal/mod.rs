@@ -159,6 +159,7 @@ pub fn print_times(layouts: &[Layout], rounds: usize) -> Result<(), String> {
 
 /// Counts the instructions of the same.
 pub fn print_instructions(layouts: &[Layout]) -> Result<(), String> {
+    Loaded::new().ok_or(MISSING)?;
     println!();
     table::heading(&NAMES, "");
     for &layout in layouts {
@@ -172,8 +173,7 @@ pub fn print_instructions(layouts: &[Layout]) -> Result<(), String> {
 /// Stores once by a form of ISA-L.
 pub fn count(layout: Layout, name: &str) -> Result<(), String> {
     let isal = Loaded::new().ok_or(MISSING)?;
-    let forms = NAMES[1..].iter();
-    let form = forms.into_iter().position(|form| *form == name);
+    let form = NAMES[1..].iter().position(|form| *form == name);
     Peer::new(&isal, layout).counted(form.ok_or(MISSING)?);
     Ok(())
 }
