@@ -55,6 +55,21 @@ impl Failure {
         move |error| Failure::File(format!("{}: {error}", path.display()))
     }
 
+    /// The same failure, with the place where it happened in front.
+    pub fn at(self, place: &str) -> Failure {
+        let placed = |words: String| format!("{place}{words}");
+        match self {
+            Failure::Refused { about, refusal } => Failure::Refused {
+                about: placed(about),
+                refusal,
+            },
+            Failure::Usage(words) => Failure::Usage(placed(words)),
+            Failure::Contents(words) => Failure::Contents(placed(words)),
+            Failure::Internal(words) => Failure::Internal(placed(words)),
+            Failure::File(words) => Failure::File(placed(words)),
+        }
+    }
+
     /// The exit status: the refusal's number, or one above them all.
     pub fn status(&self) -> u8 {
         match self {

@@ -5,48 +5,20 @@
 
 #![forbid(unsafe_code)]
 
-mod arguments;
-mod card;
+mod code;
 mod commands;
-mod conditions;
-mod correcting;
-mod dump;
+mod drawing;
 mod failure;
-mod field;
 mod files;
-mod fingerprint;
-mod folder;
-mod frame;
-mod header;
-mod help;
-mod label;
-mod layer_map;
-mod layer_picture;
-mod layout;
-mod map;
-mod mending;
-mod numbers;
-mod picture;
-mod plate;
-mod progress;
-mod reading;
-mod runs;
-mod screen;
-mod seen;
-mod sixteen;
-mod spare;
-mod svg;
-mod symbol;
-mod task;
-mod traffic;
-mod walk;
-mod words;
+mod repair;
+mod scrub;
+mod terminal;
 
-use screen::Screen;
 use std::env;
 use std::ffi::OsString;
 use std::io::{self, Write};
 use std::process::ExitCode;
+use terminal::screen::Screen;
 
 fn main() -> ExitCode {
     let line: Vec<OsString> = env::args_os().skip(1).collect();

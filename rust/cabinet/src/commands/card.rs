@@ -1,14 +1,14 @@
 //! `cabinet card`: the ready multipliers of one group of a repair.
 
 use super::Command;
-use crate::arguments::{needed, Arguments, Setting};
-use crate::card;
+use crate::code::field::{in_field, Field, FIELD};
+use crate::code::numbers::Numbers;
+use crate::code::symbol::Symbol;
 use crate::failure::Failure;
-use crate::field::{in_field, Field, FIELD};
 use crate::files;
-use crate::numbers::Numbers;
-use crate::screen::{Paint, Screen};
-use crate::symbol::Symbol;
+use crate::repair::card;
+use crate::terminal::arguments::{needed, Arguments, Setting};
+use crate::terminal::screen::{Paint, Screen};
 use gesarumbo::{Rack, Tray};
 use std::path::Path;
 
@@ -37,7 +37,8 @@ print    writes the one right card to OUT
 test     says whether the card in FILE is right, whoever has printed it; one
          that does not give the sums of every codeword is refused (15)
 
-cabinet repair --card repairs a group by a card.
+cabinet repair --card repairs a group by a card. A card is the same for every
+stripe.
 ";
 
 /// What a card is for.
@@ -103,7 +104,7 @@ fn print<S: Symbol>(place: &Place, path: &Path, screen: &mut Screen) -> Result<(
     lines
         .iter()
         .for_each(|line| screen.line(format!("  {line}")));
-    files::write_one(path, (lines.join("\n") + "\n").into_bytes())
+    files::write_one(path, (lines.join("\n") + "\n").as_bytes())
 }
 
 fn test<S: Symbol>(place: &Place, path: &Path, screen: &mut Screen) -> Result<(), Failure> {

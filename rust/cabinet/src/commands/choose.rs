@@ -1,14 +1,14 @@
 //! `cabinet choose`: the layouts that do for so many trays and so many lost ones.
 
 use super::Command;
-use crate::arguments::{needed, Arguments, Setting};
-use crate::conditions::MOST_TRAYS;
+use crate::code::conditions::MOST_TRAYS;
+use crate::code::field::Field;
 use crate::failure::Failure;
-use crate::field::Field;
-use crate::folder::HEADER;
-use crate::screen::Screen;
-use crate::traffic::percent;
-use crate::words::{count, grouped};
+use crate::files::cabinet::HEADER;
+use crate::terminal::arguments::{needed, Arguments, Setting};
+use crate::terminal::screen::Screen;
+use crate::terminal::traffic::percent;
+use crate::terminal::words::{count, grouped};
 use gesarumbo::{field257, Layout, Numbers, Refusal};
 use std::cmp::Ordering;
 
@@ -149,10 +149,7 @@ impl Choice {
 
     /// The bytes of a symbol on a tray.
     fn width(&self) -> usize {
-        match self.field {
-            Field::Of256 => 1,
-            Field::Of257 => 2,
-        }
+        self.field.width()
     }
 
     /// Whether it has more data in the bytes of its trays than another of as many trays.

@@ -2,21 +2,23 @@
 //! share.
 
 use super::{racks_of_four, stale_rack, store, Command};
-use crate::arguments::{Arguments, Setting};
+use crate::code::field::Field;
+use crate::code::numbers::Numbers;
 use crate::failure::Failure;
-use crate::field::Field;
 use crate::files;
-use crate::folder::{self, Folder, Found};
-use crate::map;
-use crate::mending;
-use crate::numbers::Numbers;
-use crate::plate::Plate;
-use crate::screen::{Paint, Screen};
-use crate::spare::Spare;
-use crate::task::{judge, Task};
-use crate::traffic;
+use crate::files::cabinet::Cabinet;
+use crate::files::description::Description;
+use crate::files::stripe::{Found, Stripe};
+use crate::files::survey;
+use crate::repair::in_groups::GroupRepair;
+use crate::repair::shares::Shares;
+use crate::repair::stripe_repair::judge;
+use crate::repair::{spare_path, Repair};
+use crate::terminal::arguments::{Arguments, Setting};
+use crate::terminal::screen::{Paint, Screen};
+use crate::terminal::{cabinet_map, traffic};
 use gesarumbo::{Layout, Rack, Tray, DEMONSTRATION};
-use std::path::{Path, PathBuf};
+use std::path::Path;
 use std::{env, fs, process};
 
 const KEEP: Setting = Setting::with(
@@ -43,10 +45,12 @@ it repairs a tray of a cabinet with racks of four, in the field of 257, and one
 although a rack sends a stale share, and names that rack.
 ";
 
-const PLATE: Plate = Plate {
+const DESCRIPTION: Description = Description {
     layout: Layout::new(4, 3, 8, 3),
-    volume: 7,
     field: Field::Of256,
+    volume: 7,
+    stripes: 1,
+    length: Some(128),
 };
 const LOST: Tray = Tray::new(4);
 const HELPERS: [Rack; 3] = [Rack::new(0), Rack::new(2), Rack::new(3)];
@@ -83,16 +87,16 @@ fn run(arguments: &Arguments, screen: &mut Screen) -> Result<(), Failure> {
 
 /// The eight steps.
 fn tell(path: &Path, screen: &mut Screen) -> Result<(), Failure> {
-    let numbers = Numbers::of(PLATE.layout, PLATE.field)?;
-    introduce(&numbers, screen);
-    let stored = store_records(path, screen)?;
-    lose_a_tray(path, screen)?;
-    meet_a_reset_tray(path, screen)?;
-    repair_in_pieces(path, screen)?;
-    compare(path, &stored, screen)?;
+    let cabinet = Cabinet::new(path, DESCRIPTION)?;
+    introduce(&cabinet.numbers, screen);
+    let stored = store_records(&cabinet, screen)?;
+    lose_a_tray(&cabinet, screen)?;
+    meet_a_reset_tray(&cabinet, screen)?;
+    repair_in_pieces(&cabinet, screen)?;
+    compare(&cabinet, &stored, screen)?;
     screen.gap();
     screen.heading("6. Traffic of the repair");
-    traffic::print(&numbers, screen);
+    traffic::print(&cabinet.numbers, screen);
     screen.gap();
     racks_of_four::tell(screen)?;
     screen.gap();
@@ -111,21 +115,24 @@ fn introduce(numbers: &Numbers, screen: &mut Screen) {
     screen.gap();
 }
 
-fn store_records(path: &Path, screen: &mut Screen) -> Result<Folder<u8>, Failure> {
+fn store_records(cabinet: &Cabinet, screen: &mut Screen) -> Result<Vec<u8>, Failure> {
     screen.heading("1. Store eight records, one to a tray");
     for (tray, record) in RECORDS.iter().enumerate() {
         print_record(tray, record, screen);
     }
-    let pages = store::pages::<u8>(path, PLATE, &RECORDS.concat(), "records")?;
-    store::write(path, &pages, false)?;
-    let folder = Folder::<u8>::read(path, PLATE)?;
+    store::store::<u8>(cabinet, &RECORDS.concat()[..], false, screen)?;
     screen.line(format!(
         "  {}: {} tray images are written",
-        PLATE.words(),
-        folder.numbers.trays
+        cabinet.description.words(),
+        cabinet.numbers.trays
     ));
     screen.gap();
-    Ok(folder)
+    stripe(cabinet)?.codeword()
+}
+
+/// The only stripe.
+fn stripe(cabinet: &Cabinet) -> Result<Stripe<'_, u8>, Failure> {
+    cabinet.stripe(0)
 }
 
 fn print_record(tray: usize, record: &[u8], screen: &mut Screen) {
@@ -135,13 +142,12 @@ fn print_record(tray: usize, record: &[u8], screen: &mut Screen) {
     ));
 }
 
-fn lose_a_tray(path: &Path, screen: &mut Screen) -> Result<(), Failure> {
+fn lose_a_tray(cabinet: &Cabinet, screen: &mut Screen) -> Result<(), Failure> {
     screen.heading(format!("2. Lose tray {LOST}"));
-    files::remove(&folder::image_path(path, LOST))?;
-    let folder = Folder::<u8>::read(path, PLATE)?;
-    map::print(&folder, screen);
-    let margin = gesarumbo::margin(PLATE.layout, &folder.states());
-    let margin = margin.map_err(Failure::refused("margin"))?;
+    files::remove(&cabinet.image_path(LOST))?;
+    let kinds = stripe(cabinet)?.kinds();
+    cabinet_map::print(&cabinet.numbers, &kinds, screen);
+    let margin = survey::margin::<u8>(cabinet, &kinds)?;
     screen.line(format!(
         "  margin {margin}: any {margin} trays more may be lost"
     ));
@@ -149,16 +155,16 @@ fn lose_a_tray(path: &Path, screen: &mut Screen) -> Result<(), Failure> {
     Ok(())
 }
 
-fn meet_a_reset_tray(path: &Path, screen: &mut Screen) -> Result<(), Failure> {
+fn meet_a_reset_tray(cabinet: &Cabinet, screen: &mut Screen) -> Result<(), Failure> {
     screen.heading("3. Meet a factory-reset tray");
-    let (image_path, image) = folder::image(path, PLATE, LOST, DEMONSTRATION, RESET)?;
-    files::write_one(&image_path, image)?;
+    let image = cabinet.image_as(DEMONSTRATION, 0, LOST, RESET)?;
+    files::write_one(&cabinet.image_path(LOST), &image)?;
     screen.line(format!(
         "  A new tray stands in for tray {LOST}. It comes up with demonstration contents:"
     ));
     print_record(LOST.number() as usize, RESET, screen);
-    let folder = Folder::<u8>::read(path, PLATE)?;
-    let Some(why) = folder.found(LOST).why_not() else {
+    let stripe = stripe(cabinet)?;
+    let Some(why) = stripe.found(LOST).why_not() else {
         return Err(Failure::Internal(
             "a demonstration tray was handed out".to_string(),
         ));
@@ -166,46 +172,41 @@ fn meet_a_reset_tray(path: &Path, screen: &mut Screen) -> Result<(), Failure> {
     let why = screen.paint(Paint::Warning, &why);
     screen.line(format!("  {why}"));
     screen.line("  Its symbols are not handed out: no record and no repair sees them.");
-    map::print(&folder, screen);
+    cabinet_map::print(&cabinet.numbers, &stripe.kinds(), screen);
     screen.gap();
     Ok(())
 }
 
-fn repair_in_pieces(path: &Path, screen: &mut Screen) -> Result<(), Failure> {
+fn repair_in_pieces(cabinet: &Cabinet, screen: &mut Screen) -> Result<(), Failure> {
     screen.heading(format!("4. Repair tray {LOST} in pieces"));
-    let folder = Folder::<u8>::read(path, PLATE)?;
-    judge::<u8>(&folder.numbers, &[LOST], &HELPERS, 0)?;
-    let shares = mending::shares(&folder, &[LOST], &HELPERS)?;
+    let repair = Repair {
+        lost: vec![LOST],
+        helpers: HELPERS.to_vec(),
+    };
+    judge::<u8>(&cabinet.numbers, &repair, 0)?;
     screen.line(format!(
         "  Racks 0, 2 and 3 send {} symbols each to rack {}.",
-        folder.numbers.groups(),
-        folder.numbers.rack_of(LOST)
+        cabinet.numbers.groups(),
+        repair.host(cabinet)
     ));
-    let task = Task::new(&folder, vec![LOST], HELPERS.to_vec(), shares)?;
-    let place: PathBuf = mending::spare_path(&folder, &[LOST]);
-    mending::work(
-        &task,
-        &mut Spare::open(&place, &task)?,
-        0,
-        BROKEN_OFF,
-        screen,
-    )?;
+    let open = || GroupRepair::<u8>::open(cabinet, &repair, spare_path(cabinet, &repair.lost));
+    open()?.work(&mut Shares::OfTrays, &[], 0..BROKEN_OFF, screen)?;
     screen.line("  The power fails here; the spare is kept, and the repair goes on from it.");
-    let mut spare = Spare::open(&place, &task)?;
-    let first = spare.done;
-    mending::work(&task, &mut spare, first, u64::MAX, screen)?;
-    mending::finish(&folder, &[LOST], spare, screen)?;
+    let mut work = open()?;
+    let rest = work.position()..cabinet.numbers.groups() as u64;
+    work.work(&mut Shares::OfTrays, &[], rest, screen)?;
+    work.finish(screen)?;
     screen.gap();
     Ok(())
 }
 
-fn compare(path: &Path, stored: &Folder<u8>, screen: &mut Screen) -> Result<(), Failure> {
+fn compare(cabinet: &Cabinet, stored: &[u8], screen: &mut Screen) -> Result<(), Failure> {
     screen.heading("5. Compare with what was stored");
-    let folder = Folder::<u8>::read(path, PLATE)?;
-    if let Found::Live(symbols) = folder.found(LOST) {
+    let stripe = stripe(cabinet)?;
+    if let Found::Live(symbols) = stripe.found(LOST) {
         print_record(LOST.number() as usize, symbols, screen);
     }
-    if folder.codeword()? != stored.codeword()? {
+    if stripe.codeword()? != stored {
         return Err(Failure::Internal(
             "the repaired cabinet differs from the stored one".to_string(),
         ));
@@ -213,7 +214,7 @@ fn compare(path: &Path, stored: &Folder<u8>, screen: &mut Screen) -> Result<(), 
     let same = screen.paint(Paint::Good, "the same");
     screen.line(format!(
         "  All {} trays are {same}, symbol by symbol.",
-        folder.numbers.trays
+        cabinet.numbers.trays
     ));
     Ok(())
 }

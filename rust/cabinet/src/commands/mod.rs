@@ -1,14 +1,15 @@
 //! The table of commands: one entry each, one file each.
 
-use crate::arguments::{Arguments, Setting};
 use crate::failure::Failure;
-use crate::help;
-use crate::screen::Screen;
+use crate::terminal::arguments::{Arguments, Setting};
+use crate::terminal::help;
+use crate::terminal::screen::Screen;
 use std::ffi::{OsStr, OsString};
 
 mod card;
 mod choose;
 mod demo;
+mod get;
 mod inspect;
 mod margin;
 mod plan;
@@ -40,6 +41,7 @@ pub const COMMANDS: &[Command] = &[
     choose::COMMAND,
     plan::COMMAND,
     store::COMMAND,
+    get::COMMAND,
     test::COMMAND,
     scrub::COMMAND,
     recover::COMMAND,

@@ -1,16 +1,16 @@
 //! `cabinet plan`: a layout's numbers, what it survives and what a repair costs.
 
 use super::Command;
-use crate::arguments::{Arguments, Setting};
-use crate::conditions::{conditions, Verdict};
+use crate::code::conditions::{conditions, Verdict};
+use crate::code::field::{Field, FIELD};
+use crate::code::numbers::Numbers;
+use crate::drawing::layout_picture;
 use crate::failure::Failure;
-use crate::field::{Field, FIELD};
 use crate::files;
-use crate::numbers::Numbers;
-use crate::picture;
-use crate::screen::{Paint, Screen};
-use crate::traffic::{self, percent};
-use crate::words::{count, grouped};
+use crate::terminal::arguments::{Arguments, Setting};
+use crate::terminal::screen::{Paint, Screen};
+use crate::terminal::traffic::{self, percent};
+use crate::terminal::words::{count, grouped};
 use gesarumbo::Layout;
 use std::path::Path;
 
@@ -44,7 +44,7 @@ fn run(arguments: &Arguments, screen: &mut Screen) -> Result<(), Failure> {
     print_traffic(&numbers, screen);
     if let Some(path) = arguments.value(SVG) {
         let path = Path::new(path);
-        files::write_one(path, picture::draw(&numbers).into_bytes())?;
+        files::write_one(path, layout_picture::draw(&numbers).as_bytes())?;
         screen.gap();
         screen.line(format!("Drawn in {}", path.display()));
     }

@@ -1,12 +1,12 @@
 //! The demonstration's seventh step: a cabinet with racks of four, in the field of 257.
 
 use super::demo::RECORDS;
+use crate::code::field::Field;
+use crate::code::numbers::Numbers;
+use crate::code::symbol::{from_data, Symbol};
 use crate::failure::Failure;
-use crate::field::Field;
-use crate::numbers::Numbers;
-use crate::screen::{Paint, Screen};
-use crate::symbol::{from_data, Symbol};
-use crate::words::count;
+use crate::terminal::screen::{Paint, Screen};
+use crate::terminal::words::count;
 use gesarumbo::{Layout, Rack, Tray};
 
 const LAYOUT: Layout = Layout::new(5, 4, 15, 4);

@@ -1,20 +1,20 @@
 //! `cabinet read`: some layers of a tray, also of one under repair.
 
 use super::Command;
-use crate::arguments::{needed, Arguments, Setting};
-use crate::dump;
+use crate::code::field::in_field;
+use crate::code::symbol::Symbol;
 use crate::failure::Failure;
-use crate::field::in_field;
 use crate::files;
-use crate::folder::{Folder, Place};
-use crate::mending::{self, SPARE};
-use crate::plate;
-use crate::progress;
-use crate::reading::{Origin, Reading, Source};
-use crate::runs;
-use crate::screen::{Paint, Screen};
-use crate::symbol::Symbol;
-use crate::words::{count, hanging};
+use crate::files::cabinet::Cabinet;
+use crate::files::description;
+use crate::files::stripe::Stripe;
+use crate::files::survey::introduce;
+use crate::repair::reading::{Origin, Reading, Source};
+use crate::repair::{checkpoint_path, SPARE};
+use crate::terminal::arguments::{needed, Arguments, Setting};
+use crate::terminal::screen::{Paint, Screen};
+use crate::terminal::words::{count, hanging};
+use crate::terminal::{dump, progress, runs};
 use gesarumbo::{Refusal, Tray};
 use std::ops::Range;
 use std::path::Path;
@@ -26,6 +26,7 @@ const LOST: Setting = Setting::with(
     "X",
     "the tray under repair; its own image is not looked at",
 );
+const STRIPE: Setting = Setting::with("--stripe", "I", "the stripe to read, 0 if not given");
 const OUT: Setting = Setting::with(
     "--out",
     "FILE",
@@ -42,24 +43,28 @@ pub const COMMAND: Command = Command {
         LAYERS,
         LOST,
         SPARE,
+        STRIPE,
         OUT,
-        plate::LAYOUT,
-        plate::VOLUME,
-        plate::FIELD,
+        description::LAYOUT,
+        description::VOLUME,
+        description::FIELD,
+        description::STRIPES,
     ],
     run,
 };
 
 const HELP: &str = "\
-cabinet read DIR --tray Y --layers A..B [--lost X [--spare FILE]] [--out FILE]
+cabinet read DIR --tray Y --layers A..B [--stripe I] [--lost X [--spare FILE]]
+             [--out FILE]
 
-Prints symbols of tray Y, and whether they lie in the store (all trays one after
-another) or in the spare, and at which place. While tray X is under repair, its
-own layers are read from the spare, each as soon as its group is done, and else
-refused (13). Any other tray is read from the store and must be live.
+Prints symbols of tray Y, and whether they lie in the store (all trays of a
+stripe one after another) or in the spare, and at which place. While tray X is
+under repair, its own layers are read from the spare, each as soon as its group
+is done, and else refused (13). Any other tray is read from the store and must
+be live.
 
-Nothing is handed out (65) of a work file of another cabinet, of another tray or
-of several, nor where the trays of DIR are not those that the spare was made
+Nothing is handed out (65) of a checkpoint of another cabinet, of another tray
+or of several, nor where the trays of DIR are not those that the spare was made
 from, nor of layers that do not fit to the other trays. Where trays are missing
 for this, it says so. Cabinets with E = 1 are not read so (1): their repairs
 have no pieces.
@@ -70,6 +75,7 @@ struct Asked {
     tray: Tray,
     layers: Range<u32>,
     lost: Option<Tray>,
+    stripe: u32,
 }
 
 impl Asked {
@@ -84,6 +90,7 @@ impl Asked {
             tray: Tray::new(needed(TRAY, arguments.number(TRAY)?)?),
             layers,
             lost: lost.map(Tray::new),
+            stripe: arguments.number(STRIPE)?.unwrap_or(0),
         })
     }
 }
@@ -91,28 +98,32 @@ impl Asked {
 fn run(arguments: &Arguments, screen: &mut Screen) -> Result<(), Failure> {
     let [folder] = arguments.words(["DIR"])?;
     let asked = Asked::read(arguments)?;
-    let place = Place::find(folder, arguments)?;
-    in_field!(place.plate.field, read(&place, &asked, arguments, screen))
+    let cabinet = Cabinet::find(folder, arguments)?;
+    in_field!(
+        cabinet.description.field,
+        read(&cabinet, &asked, arguments, screen)
+    )
 }
 
 fn read<S: Symbol>(
-    place: &Place,
+    cabinet: &Cabinet,
     asked: &Asked,
     arguments: &Arguments,
     screen: &mut Screen,
 ) -> Result<(), Failure> {
-    let folder = Folder::<S>::open(place)?;
-    folder.introduce(screen);
+    let stripe = cabinet.stripe::<S>(asked.stripe)?;
+    introduce(&stripe, screen);
     let reading = match asked.lost {
-        None => Reading::of_store(&folder, asked.tray),
-        Some(lost) => under_repair(&folder, lost, arguments, screen)?,
+        None => Reading::of_store(&stripe, asked.tray),
+        Some(lost) => under_repair(&stripe, lost, arguments, screen)?,
     };
     let (part, source) = reading
         .read(asked.tray, asked.layers.clone())
-        .inspect_err(|failure| say_readable(failure, &reading, screen))?;
-    say_place(asked, part, source, &folder, screen);
+        .inspect_err(|failure| say_readable(failure, &reading, screen))
+        .map_err(stripe.named())?;
+    say_place(asked, part, source, cabinet, screen);
     match arguments.value(OUT) {
-        Some(path) => files::write_one(Path::new(path), S::to_bytes(part)),
+        Some(path) => files::write_one(Path::new(path), &S::to_bytes(part)),
         None => {
             let lines = dump::lines(asked.layers.start, part);
             lines.iter().for_each(|line| screen.line(line));
@@ -123,20 +134,20 @@ fn read<S: Symbol>(
 
 /// Opens the spare of a lost tray, and says how far its repair is and what was not compared.
 fn under_repair<'a, S: Symbol>(
-    folder: &'a Folder<S>,
+    stripe: &'a Stripe<'a, S>,
     lost: Tray,
     arguments: &Arguments,
     screen: &mut Screen,
 ) -> Result<Reading<'a, S>, Failure> {
-    let path = mending::work_file(arguments, folder, &[lost]);
-    let (reading, origin) = Reading::open(folder, lost, &path)?;
-    let (done, groups) = (reading.spare.done, folder.numbers.groups());
+    let path = checkpoint_path(arguments, stripe.cabinet, &[lost]);
+    let (reading, origin) = Reading::open(stripe, lost, &path)?;
+    let (done, groups) = (reading.done, stripe.cabinet.numbers.groups());
     screen.line(format!(
         "  tray {lost} is under repair: {done} of {groups} groups are done"
     ));
     match origin {
-        Origin::Compared => {}
-        Origin::NoFile => screen.line(format!("  there is no work file {}", path.display())),
+        Origin::Known => {}
+        Origin::NoFile => screen.line(format!("  there is no checkpoint {}", path.display())),
         Origin::NotCompared => {
             let words = screen.paint(Paint::Warning, "not compared");
             screen.line(format!(
@@ -152,15 +163,16 @@ fn say_place<S: Symbol>(
     asked: &Asked,
     part: &[S],
     source: Source,
-    folder: &Folder<S>,
+    cabinet: &Cabinet,
     screen: &mut Screen,
 ) {
     let unit = S::FIELD.unit();
     let Range { start: first, end } = asked.layers;
     let layers = progress::run("layer", first.into(), end.into());
     let (tray, symbols) = (asked.tray, count(part.len(), unit));
-    let what = format!("  {layers} of tray {tray}: {symbols}");
-    let in_store = tray.number() as usize * folder.numbers.layers + first as usize;
+    let place = cabinet.place(asked.stripe);
+    let what = format!("  {place}{layers} of tray {tray}: {symbols}");
+    let in_store = tray.number() as usize * cabinet.numbers.layers + first as usize;
     match source {
         _ if part.is_empty() => screen.line(what),
         Source::Store => screen.line(format!("{what} of the store, from {unit} {in_store} on")),
@@ -182,7 +194,7 @@ fn say_readable<S: Symbol>(failure: &Failure, reading: &Reading<S>, screen: &mut
         ..
     } = failure
     {
-        let layers = runs::named(&reading.readable());
+        let layers = runs::named(&runs::of(&reading.readable()));
         screen.line(hanging("  layers that can be read: ", &layers));
     }
 }

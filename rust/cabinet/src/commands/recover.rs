@@ -1,28 +1,26 @@
 //! `cabinet recover`: trays back from those that are left.
 
 use super::Command;
-use crate::arguments::{Arguments, Setting};
+use crate::code::field::in_field;
+use crate::code::symbol::Symbol;
 use crate::failure::Failure;
-use crate::field::in_field;
-use crate::files::{self, Page};
-use crate::folder::{Folder, Place};
-use crate::plate;
-use crate::screen::{Paint, Screen};
-use crate::symbol::{to_data, Symbol};
+use crate::files::cabinet::Cabinet;
+use crate::files::checkpoint::Checkpoint;
+use crate::files::description;
+use crate::files::rebuild::{Rebuild, Rebuilding};
+use crate::files::survey::Survey;
+use crate::terminal::arguments::{Arguments, Setting};
+use crate::terminal::progress;
+use crate::terminal::screen::{Paint, Screen};
+use crate::terminal::words::trays;
 use gesarumbo::Tray;
-use std::path::PathBuf;
+use std::path::Path;
 
 const ERASE: Setting = Setting::with(
     "--erase",
     "a,b,..",
     "bring back these trays too, live or not",
 );
-const DATA: Setting = Setting::with(
-    "--data",
-    "FILE",
-    "write the data to FILE, zeros at its end included",
-);
-const LENGTH: Setting = Setting::with("--length", "N", "write only its first N bytes");
 
 pub const COMMAND: Command = Command {
     name: "recover",
@@ -30,113 +28,109 @@ pub const COMMAND: Command = Command {
     help: HELP,
     settings: &[
         ERASE,
-        DATA,
-        LENGTH,
-        plate::LAYOUT,
-        plate::VOLUME,
-        plate::FIELD,
+        description::LAYOUT,
+        description::VOLUME,
+        description::FIELD,
+        description::STRIPES,
     ],
     run,
 };
 
 const HELP: &str = "\
-cabinet recover DIR [--erase a,b,..] [--data FILE [--length N]]
+cabinet recover DIR [--erase a,b,..]
 
 Brings back every tray of DIR that is absent, unreadable, refused (malformed,
 demonstration, of another layout or volume) or of another place, from the live
-ones, and writes live images of them. Any k live trays will do; more are held
+ones, and writes live images of them. A tray that is not live in some stripes
+still serves in the others. Any k live trays of a stripe will do; more are held
 against one another, and nothing is written if they do not fit together (8).
 With no tray to bring back it is a test.
 
-Data with a symbol that is no byte, 256 in the field of 257, are not written
-(65).
+The new files stand beside the old ones until they are whole. A checkpoint,
+recover.txt, lets a recovery that was cut go on where it ended. cabinet get
+gives the data back.
 ";
+
+/// The checkpoint's file in a cabinet's folder.
+const NAME: &str = "recover.txt";
+
+/// What the work is called in the names of work files.
+const WORK: &str = "recover";
 
 fn run(arguments: &Arguments, screen: &mut Screen) -> Result<(), Failure> {
     let [folder] = arguments.words(["DIR"])?;
-    let place = Place::find(folder, arguments)?;
-    in_field!(place.plate.field, recover(&place, arguments, screen))
+    let named = arguments.list(ERASE)?.unwrap_or_default();
+    let named: Vec<Tray> = named.into_iter().map(Tray::new).collect();
+    let cabinet = Cabinet::find(folder, arguments)?;
+    in_field!(cabinet.description.field, recover(&cabinet, &named, screen))
 }
 
 fn recover<S: Symbol>(
-    place: &Place,
-    arguments: &Arguments,
+    cabinet: &Cabinet,
+    named: &[Tray],
     screen: &mut Screen,
 ) -> Result<(), Failure> {
-    let folder = Folder::<S>::open(place)?;
-    let erased = erased(&folder, arguments.list(ERASE)?.unwrap_or_default());
-    folder.introduce(screen);
-    let mut codeword = folder.remains();
-    let about = format!("recovery of {} trays", erased.len());
-    (S::CALLS.recover)(folder.plate.layout, &mut codeword, &erased)
-        .map_err(Failure::refused(about))?;
-    let mut pages = images(&folder, &erased, &codeword)?;
-    pages.extend(data(arguments, &codeword[..folder.numbers.data()])?);
-    files::write(&pages)?;
+    let survey = Survey::of::<S>(cabinet, screen)?;
+    let mut erased = survey.damaged();
+    erased.extend(named);
+    erased.sort();
+    erased.dedup();
+    judge::<S>(cabinet, named)?;
+    let mut rebuild = open::<S>(cabinet, &erased, screen)?;
+    let (layers, stripes) = (cabinet.numbers.layers, cabinet.description.stripes);
+    for stripe in cabinet.stripes::<S>(rebuild.next) {
+        let codeword = stripe.recovered(named).map_err(stripe.named())?;
+        let symbols = |tray: &Tray| &codeword[tray.number() as usize * layers..][..layers];
+        rebuild.write(erased.iter().map(symbols))?;
+        progress::stripes(rebuild.next, stripes, screen);
+        if rebuild.is_due() && !erased.is_empty() {
+            rebuild.save(0, 0, Vec::new())?;
+        }
+    }
+    rebuild.publish()?;
     report(&erased, screen);
     Ok(())
 }
 
-/// The trays that are not live and those named, rising.
-fn erased<S: Symbol>(folder: &Folder<S>, named: Vec<u32>) -> Vec<Tray> {
-    let mut erased = folder.missing();
-    erased.extend(named.into_iter().map(Tray::new));
-    erased.sort();
-    erased.dedup();
-    erased
+/// Lets the library judge the trays that are named: a recovery of these alone, of zeros.
+fn judge<S: Symbol>(cabinet: &Cabinet, named: &[Tray]) -> Result<(), Failure> {
+    let mut named = named.to_vec();
+    named.sort();
+    named.dedup();
+    let mut zeros = vec![S::default(); cabinet.numbers.codeword()];
+    let about = format!("recovery of {} trays", named.len());
+    (S::CALLS.recover)(cabinet.description.layout, &mut zeros, &named)
+        .map_err(Failure::refused(about))
 }
 
-fn images<S: Symbol>(
-    folder: &Folder<S>,
+/// The recovery as its checkpoint has it; a new one if there is none, or it is of another.
+fn open<'a, S: Symbol>(
+    cabinet: &'a Cabinet,
     erased: &[Tray],
-    codeword: &[S],
-) -> Result<Vec<Page>, Failure> {
-    let trays = folder
-        .numbers
-        .all_trays()
-        .zip(codeword.chunks(folder.numbers.layers));
-    trays
-        .filter(|(tray, _)| erased.contains(tray))
-        .map(|(tray, symbols)| folder.page(tray, symbols))
-        .collect()
-}
-
-/// The file of the data, if one is asked for.
-fn data<S: Symbol>(arguments: &Arguments, data: &[S]) -> Result<Option<Page>, Failure> {
-    let length = arguments.number(LENGTH)?.unwrap_or(data.len());
-    let Some(part) = data.get(..length) else {
-        let words = format!(
-            "{}: there are only {} bytes of data",
-            LENGTH.name,
-            data.len()
-        );
-        return Err(Failure::Usage(words));
+    screen: &mut Screen,
+) -> Result<Rebuild<'a>, Failure> {
+    let (names, key) = (trays(erased), cabinet.description.key());
+    let what = || Rebuilding {
+        trays: erased.to_vec(),
+        work: WORK,
+        task: format!("recovery of {names} of {key}"),
+        path: cabinet.file(NAME),
     };
-    match arguments.value(DATA) {
-        None if arguments.has(LENGTH) => Err(Failure::Usage(format!(
-            "{} needs {}",
-            LENGTH.name, DATA.name
-        ))),
-        None => Ok(None),
-        Some(path) => Ok(Some((PathBuf::from(path), bytes(part)?))),
+    let of_another = |_: &Path| Failure::Contents(String::new());
+    let found = Checkpoint::read(&what().path, |task| task == what().task, of_another);
+    if let Ok(Some(checkpoint)) = found {
+        if let Some(rebuild) = Rebuild::go_on::<S>(cabinet, what(), checkpoint.stripe)? {
+            screen.line(format!("  goes on with stripe {}", rebuild.next));
+            return Ok(rebuild);
+        }
     }
-}
-
-/// Symbols of data as bytes; a symbol of 256 is none.
-fn bytes<S: Symbol>(data: &[S]) -> Result<Vec<u8>, Failure> {
-    let no_byte = |place| format!("the data's symbol {place} is 256, which is no byte of a file");
-    to_data(data).map_err(|place| Failure::Contents(no_byte(place)))
+    Rebuild::begin(cabinet, what())
 }
 
 fn report(erased: &[Tray], screen: &mut Screen) {
     let sound = screen.paint(Paint::Good, "sound");
-    if erased.is_empty() {
-        screen.line(format!("  no tray to bring back; all are {sound}"));
-        return;
-    }
-    let names: Vec<String> = erased.iter().map(Tray::to_string).collect();
-    screen.line(format!(
-        "  brought back: tray {}; all are {sound}",
-        names.join(", ")
-    ));
+    screen.line(match erased {
+        [] => format!("  no tray to bring back; all are {sound}"),
+        _ => format!("  brought back: {}; all are {sound}", trays(erased)),
+    });
 }

@@ -1,22 +1,19 @@
-//! `cabinet repair`: lost trays of one rack from shares, in pieces; one tray at once where a share may
-//! be wrong.
+//! `cabinet repair`: lost trays of one rack from shares, in pieces; one tray, a stripe at a time,
+//! where a share may be wrong.
 
 use super::Command;
-use crate::arguments::{needed, Arguments, Setting};
-use crate::card;
-use crate::correcting;
+use crate::code::field::in_field;
+use crate::code::symbol::Symbol;
 use crate::failure::Failure;
-use crate::field::in_field;
-use crate::files;
-use crate::folder::{Folder, Place};
-use crate::mending::{self, SPARE};
-use crate::plate;
-use crate::screen::Screen;
-use crate::spare::Spare;
-use crate::symbol::Symbol;
-use crate::task::{judge, Task};
-use gesarumbo::{Rack, Refusal, Tray};
-use std::ffi::OsStr;
+use crate::files::cabinet::Cabinet;
+use crate::files::description;
+use crate::repair::in_groups::{is_full_set, GroupRepair};
+use crate::repair::shares::Shares;
+use crate::repair::stripe_repair::judge;
+use crate::repair::{card, checkpoint_path, correcting, Repair, SPARE};
+use crate::terminal::arguments::{needed, Arguments, Setting};
+use crate::terminal::screen::Screen;
+use gesarumbo::{Rack, Tray};
 use std::path::Path;
 
 const LOST: Setting = Setting::with(
@@ -35,13 +32,15 @@ const SHARE: Setting = Setting::with(
 const FIRST: Setting = Setting::with(
     "--first",
     "G",
-    "begin with group G, at most the groups done; without it, go on where the work file ends",
+    "begin with group G of those of all stripes, in the stripe under repair and at most the groups \
+     done; without it, go on where the checkpoint ends",
 );
 const BUDGET: Setting = Setting::with("--budget", "N", "do at most N groups now");
 const CARD: Setting = Setting::with(
     "--card",
     "FILE",
-    "do the next group by this card, from cabinet card: once for each group, in their order",
+    "do the next group by this card, from cabinet card: once for each group, in their order; with \
+     cards for all groups of a stripe all stripes are repaired",
 )
 .repeated();
 
@@ -57,9 +56,10 @@ pub const COMMAND: Command = Command {
         BUDGET,
         CARD,
         SPARE,
-        plate::LAYOUT,
-        plate::VOLUME,
-        plate::FIELD,
+        description::LAYOUT,
+        description::VOLUME,
+        description::FIELD,
+        description::STRIPES,
     ],
     run,
 };
@@ -69,24 +69,26 @@ cabinet repair DIR --lost X,Y,.. --helpers a,b,.. [--share FILE]..
                [--first G] [--budget N] [--card FILE].. [--spare FILE]
 
 Brings back tray X, or up to u - v trays of one rack, from the shares of d
-helper racks and the other trays of their rack, some groups at a time. After
-each piece the spare is kept in a work file that names the repair and the groups
-done, so a repair that is broken off goes on where it ended. When all groups are
-done, the trays are tested with the others, if all are there, their live images
-are written and the work file removed. If they do not fit together no image is
-written (65). A group of one lost tray can be done by a card, whoever has
-printed it: a card that is not right for the group is refused (15).
+helper racks and the other trays of their rack, some groups at a time, stripe
+after stripe. From time to time, and where the budget ends, a checkpoint keeps
+the spare of the stripe under repair and the groups done, so a repair that is
+broken off goes on where it ended. When all groups of a stripe are done, the
+trays are tested with the others, if all are there, and their live images
+written beside the old files. When all stripes are done, the new files take the
+old ones' places and the checkpoint is removed. If the trays of a stripe do not
+fit together no file is replaced (65). A group of one lost tray can be done by a
+card, whoever has printed it: a card that is not right for the group is refused
+(15).
 
 In a cabinet with E = 1 one of the d shares may be wrong. One tray is brought
-back, all groups at once and without a work file: the tray is right all the
-same, and the rack whose share is wrong is named. If no single share can be the
-wrong one, the repair is refused (14).
+back, all groups of a stripe at once: the tray is right all the same, and the
+rack whose share is wrong is named. If no single share can be the wrong one, the
+repair is refused (14).
 ";
 
 /// What the command line asks for.
 struct Asked {
-    lost: Vec<Tray>,
-    helpers: Vec<Rack>,
+    repair: Repair,
     first: Option<u64>,
     budget: u64,
 }
@@ -96,8 +98,10 @@ impl Asked {
         let lost = needed(LOST, arguments.list(LOST)?)?;
         let helpers = needed(HELPERS, arguments.list(HELPERS)?)?;
         Ok(Asked {
-            lost: lost.into_iter().map(Tray::new).collect(),
-            helpers: helpers.into_iter().map(Rack::new).collect(),
+            repair: Repair {
+                lost: lost.into_iter().map(Tray::new).collect(),
+                helpers: helpers.into_iter().map(Rack::new).collect(),
+            },
             first: arguments.number(FIRST)?,
             budget: arguments.number(BUDGET)?.unwrap_or(u64::MAX),
         })
@@ -107,28 +111,30 @@ impl Asked {
 fn run(arguments: &Arguments, screen: &mut Screen) -> Result<(), Failure> {
     let [folder] = arguments.words(["DIR"])?;
     let asked = Asked::read(arguments)?;
-    let place = Place::find(folder, arguments)?;
-    in_field!(place.plate.field, repair(&place, asked, arguments, screen))
+    let cabinet = Cabinet::find(folder, arguments)?;
+    in_field!(
+        cabinet.description.field,
+        repair(&cabinet, &asked, arguments, screen)
+    )
 }
 
 fn repair<S: Symbol>(
-    place: &Place,
-    asked: Asked,
+    cabinet: &Cabinet,
+    asked: &Asked,
     arguments: &Arguments,
     screen: &mut Screen,
 ) -> Result<(), Failure> {
-    let folder = Folder::<S>::open(place)?;
-    match asked.lost[..] {
-        [lost] if folder.numbers.errors > 0 && !arguments.has(CARD) => {
-            at_once(&folder, lost, &asked, arguments, screen)
+    match asked.repair.lost[..] {
+        [lost] if cabinet.numbers.errors > 0 && !arguments.has(CARD) => {
+            at_once::<S>(cabinet, lost, asked, arguments, screen)
         }
-        _ => in_pieces(&folder, asked, arguments, screen),
+        _ => in_groups::<S>(cabinet, asked, arguments, screen),
     }
 }
 
 /// One tray, though a share may be wrong.
 fn at_once<S: Symbol>(
-    folder: &Folder<S>,
+    cabinet: &Cabinet,
     lost: Tray,
     asked: &Asked,
     arguments: &Arguments,
@@ -138,60 +144,55 @@ fn at_once<S: Symbol>(
         let words = format!("{}: with E = 1 all groups are done at once", setting.name);
         return Err(Failure::Usage(words));
     }
-    correcting::judge::<S>(&folder.numbers, lost, &asked.helpers)?;
-    let shares = shares(folder, asked, arguments)?;
-    folder.introduce(screen);
-    correcting::repair(folder, lost, &asked.helpers, &shares, screen)
+    correcting::judge::<S>(&cabinet.numbers, lost, &asked.repair.helpers)?;
+    let shares = Shares::open::<S>(cabinet, &asked.repair, &arguments.values(SHARE))?;
+    correcting::repair::<S>(cabinet, &asked.repair, shares, screen)
 }
 
-/// The helpers' shares: those of the files that are named, else from the folder's own trays.
-fn shares<S: Symbol>(
-    folder: &Folder<S>,
+fn in_groups<S: Symbol>(
+    cabinet: &Cabinet,
     asked: &Asked,
-    arguments: &Arguments,
-) -> Result<Vec<S>, Failure> {
-    let files = arguments.values(SHARE);
-    if files.is_empty() {
-        return mending::shares(folder, &asked.lost, &asked.helpers);
-    }
-    let wanted = asked.lost.len() * folder.numbers.groups();
-    read_shares(wanted, &files, asked.helpers.len())
-}
-
-fn in_pieces<S: Symbol>(
-    folder: &Folder<S>,
-    asked: Asked,
     arguments: &Arguments,
     screen: &mut Screen,
 ) -> Result<(), Failure> {
-    let first = asked.first.unwrap_or(0);
-    judge::<S>(&folder.numbers, &asked.lost, &asked.helpers, first)?;
-    let cards = cards(&asked, arguments)?;
-    let shares = shares(folder, &asked, arguments)?;
-    let lost = asked.lost;
-    let task = Task::new(folder, lost.clone(), asked.helpers, shares)?;
-    let path = mending::work_file(arguments, folder, &lost);
-    let mut spare = Spare::open(&path, &task)?;
-    let first = start(asked.first, &spare)?;
-    folder.introduce(screen);
-    match cards.is_empty() {
-        true => mending::work(&task, &mut spare, first, asked.budget, screen)?,
-        false => mending::work_by_cards(&task, &mut spare, first, &cards, screen)?,
+    let Asked {
+        repair,
+        first,
+        budget,
+    } = asked;
+    let total = u64::from(cabinet.description.stripes) * cabinet.numbers.groups() as u64;
+    // Within all stripes a first group is never too large for the library, past them it always is.
+    let past = first.filter(|first| *first > total).unwrap_or(0);
+    judge::<S>(&cabinet.numbers, repair, past)?;
+    let cards = cards::<S>(repair, arguments)?;
+    let mut shares = Shares::open::<S>(cabinet, repair, &arguments.values(SHARE))?;
+    let path = checkpoint_path(arguments, cabinet, &repair.lost);
+    let mut work = GroupRepair::<S>::open(cabinet, repair, path)?;
+    let first = start(*first, &work)?;
+    let budget = match cards.len() as u64 {
+        0 => *budget,
+        _ if is_full_set(cabinet, &cards, work.groups_done()) => u64::MAX,
+        cards => cards,
+    };
+    let end = match cards.is_empty() || budget == u64::MAX {
+        true => first.saturating_add(budget).min(total),
+        false => first + budget,
+    };
+    work.work(&mut shares, &cards, first..end, screen)?;
+    if work.is_whole() {
+        return work.finish(screen);
     }
-    if spare.done < task.groups() {
-        let place = path.display();
-        screen.line(format!(
-            "  the spare is kept in {place}; repair goes on with it"
-        ));
-        return Ok(());
-    }
-    mending::finish(folder, &lost, spare, screen)
+    let place = work.path().display();
+    screen.line(format!(
+        "  the spare is kept in {place}; repair goes on with it"
+    ));
+    Ok(())
 }
 
 /// The cards that are named, each of one group.
-fn cards<S: Symbol>(asked: &Asked, arguments: &Arguments) -> Result<Vec<Vec<S>>, Failure> {
+fn cards<S: Symbol>(repair: &Repair, arguments: &Arguments) -> Result<Vec<Vec<S>>, Failure> {
     let files = arguments.values(CARD);
-    let but = match asked.lost.len() {
+    let but = match repair.lost.len() {
         _ if files.is_empty() => None,
         1 if arguments.has(BUDGET) => Some(format!("there is no {} with it", BUDGET.name)),
         1 => None,
@@ -206,39 +207,20 @@ fn cards<S: Symbol>(asked: &Asked, arguments: &Arguments) -> Result<Vec<Vec<S>>,
     }
 }
 
-/// All helpers' shares, from files, each of the wanted length.
-fn read_shares<S: Symbol>(
-    wanted: usize,
-    files: &[&OsStr],
-    helpers: usize,
-) -> Result<Vec<S>, Failure> {
-    if files.len() != helpers {
-        let words = format!("{} shares are given for {helpers} helpers", files.len());
-        return Err(Failure::Usage(words));
-    }
-    let mut shares = Vec::new();
-    for path in files.iter().map(Path::new) {
-        let share = files::read_existing(path)?;
-        let symbols = S::from_bytes(&share).filter(|symbols| symbols.len() == wanted);
-        shares.extend(symbols.ok_or_else(|| {
-            let (found, wanted) = (files::length(&share), wanted * S::WIDTH);
-            let about = format!("{}: {found}, a share has {wanted}", path.display());
-            Failure::refused(about)(Refusal::Length)
-        })?);
-    }
-    Ok(shares)
-}
-
-/// The group to begin with: no group may be left out.
-fn start<S: Symbol>(asked: Option<u64>, spare: &Spare<S>) -> Result<u64, Failure> {
-    match asked {
-        Some(first) if first > spare.done => Err(Failure::Contents(format!(
-            "{}: only {} groups are done, {} {first} would leave some out",
-            spare.path().display(),
-            spare.done,
+/// The group to begin with: no group may be left out, and stripes that are whole stay so.
+fn start<S: Symbol>(asked: Option<u64>, work: &GroupRepair<S>) -> Result<u64, Failure> {
+    let (done, whole) = (work.position(), work.position() - work.groups_done());
+    let but = match asked {
+        Some(first) if first > done => format!(
+            "only {done} groups are done, {} {first} would leave some out",
             FIRST.name
-        ))),
-        Some(first) => Ok(first),
-        None => Ok(spare.done),
-    }
+        ),
+        Some(first) if first < whole => format!(
+            "the groups below {whole} are of stripes that are whole, {} {first} is one of them",
+            FIRST.name
+        ),
+        first => return Ok(first.unwrap_or(done)),
+    };
+    let place = work.path().display();
+    Err(Failure::Contents(format!("{place}: {but}")))
 }

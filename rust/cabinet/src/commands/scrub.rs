@@ -1,22 +1,17 @@
-//! `cabinet scrub`: whether a cabinet's trays are a codeword, some layers at a time.
+//! `cabinet scrub`: whether a cabinet's trays are codewords, some layers at a time.
 
 use super::Command;
-use crate::arguments::{Arguments, Setting};
+use crate::code::field::in_field;
+use crate::code::symbol::Symbol;
+use crate::drawing::scrub_picture;
 use crate::failure::Failure;
-use crate::field::in_field;
 use crate::files;
-use crate::folder::{Folder, Place};
-use crate::layer_map;
-use crate::layer_picture;
-use crate::numbers::Numbers;
-use crate::plate::{self, Plate};
-use crate::progress;
-use crate::screen::{Paint, Screen};
-use crate::seen::Seen;
-use crate::symbol::Symbol;
-use crate::walk::{self, Walk};
-use crate::words::count;
-use gesarumbo::{ScrubRecord, Scrubbed};
+use crate::files::cabinet::Cabinet;
+use crate::files::description;
+use crate::scrub::{self, Scrub};
+use crate::terminal::arguments::{Arguments, Setting};
+use crate::terminal::screen::{Paint, Screen};
+use crate::terminal::scrub_map;
 use std::path::{Path, PathBuf};
 
 const BUDGET: Setting = Setting::with(
@@ -24,14 +19,17 @@ const BUDGET: Setting = Setting::with(
     "N",
     "look at no more than N layers now; without it, at all that are left",
 );
-const RESET: Setting = Setting::plain("--reset", "start a new walk, whatever the file holds");
+const RESET: Setting = Setting::plain("--reset", "start anew, whatever the checkpoint holds");
 const RECORD: Setting = Setting::with(
     "--record",
     "FILE",
-    "where the record is kept, DIR/scrub.txt if not given",
+    "the checkpoint, DIR/scrub.txt if not given",
 );
-const MAP: Setting = Setting::plain("--map", "print the map of the layers, bad ones or none");
-const SVG: Setting = Setting::with("--svg", "FILE", "draw the layers, one cell each");
+const MAP: Setting = Setting::plain(
+    "--map",
+    "print the map of the layers or stripes, bad ones or none",
+);
+const SVG: Setting = Setting::with("--svg", "FILE", "draw the layers or stripes");
 
 pub const COMMAND: Command = Command {
     name: "scrub",
@@ -43,9 +41,10 @@ pub const COMMAND: Command = Command {
         RECORD,
         MAP,
         SVG,
-        plate::LAYOUT,
-        plate::VOLUME,
-        plate::FIELD,
+        description::LAYOUT,
+        description::VOLUME,
+        description::FIELD,
+        description::STRIPES,
     ],
     run,
 };
@@ -53,13 +52,14 @@ pub const COMMAND: Command = Command {
 const HELP: &str = "\
 cabinet scrub DIR [--budget N] [--reset] [--record FILE] [--map] [--svg FILE]
 
-Tests whether the trays of DIR meet every parity check, some layers at a time.
-Between two calls a small file keeps the next layer, how many layers before it
-are bad, and which. It also knows the trays by their contents: if one is
-changed, what was seen no longer holds, and the walk must be begun anew (65).
-At the end the file is removed. Bad layers are an answer, with exit status 65
-when all layers have been seen. As soon as one has been seen, a map shows where
-they lie.
+Tests whether the trays of DIR meet every parity check, some layers at a time,
+stripe after stripe. Between two calls, and from time to time within one, a
+checkpoint keeps how far it is and what is bad, so that a scrub that was cut
+goes on where it ended. It knows the trays of the stripe under test by their
+contents: if one is changed, it must be begun anew (65). At the end the file is
+removed. Bad layers are an answer, with exit status 65 when all layers have been
+seen. As soon as one has been seen, a map shows where they lie: a cell for each
+layer, or where there are several stripes, for each of these.
 ";
 
 fn run(arguments: &Arguments, screen: &mut Screen) -> Result<(), Failure> {
@@ -67,108 +67,69 @@ fn run(arguments: &Arguments, screen: &mut Screen) -> Result<(), Failure> {
     let budget = arguments.number(BUDGET)?.unwrap_or(u64::MAX);
     let path = match arguments.value(RECORD) {
         Some(file) => PathBuf::from(file),
-        None => Path::new(folder).join(walk::NAME),
+        None => Path::new(folder).join(scrub::NAME),
     };
-    let place = Place::find(folder, arguments)?;
+    let cabinet = Cabinet::find(folder, arguments)?;
     in_field!(
-        place.plate.field,
-        scrub(&place, budget, path, arguments, screen)
+        cabinet.description.field,
+        scrub(&cabinet, budget, path, arguments, screen)
     )
 }
 
 fn scrub<S: Symbol>(
-    place: &Place,
+    cabinet: &Cabinet,
     budget: u64,
     path: PathBuf,
     arguments: &Arguments,
     screen: &mut Screen,
 ) -> Result<(), Failure> {
-    let folder = Folder::<S>::open(place)?;
-    folder.introduce(screen);
-    let codeword = folder.codeword()?;
-    let start = match arguments.has(RESET) {
-        true => Walk::begin::<S>,
-        false => Walk::go_on::<S>,
+    let mut scrub = match arguments.has(RESET) {
+        true => Scrub::begin(cabinet, path),
+        false => Scrub::go_on::<S>(cabinet, path)?,
     };
-    let mut walk = start(path, &folder, &codeword)?;
-    let layers = folder.numbers.layers;
-    let scrubbed = look(&mut walk, &codeword, budget, layers, screen)?;
-    show(arguments, folder.plate, &Seen::of(&walk, layers), screen)?;
-    match scrubbed {
-        Scrubbed::Unfinished => {
-            walk.save()?;
-            let place = walk.path().display();
-            screen.line(format!(
-                "  the record is kept in {place}; scrub goes on with it"
-            ));
-            Ok(())
-        }
-        ended => {
-            let record = walk.record;
-            walk.discard()?;
-            conclude(ended, &record, &folder.numbers, screen)
-        }
+    scrub.work::<S>(budget, screen)?;
+    show(arguments, cabinet, &scrub, screen)?;
+    if scrub.is_over() {
+        scrub.discard()?;
+        return conclude(&scrub, cabinet, screen);
     }
-}
-
-/// Looks at the next layers, piece by piece, as far as the budget goes.
-fn look<S: Symbol>(
-    walk: &mut Walk,
-    codeword: &[S],
-    budget: u64,
-    layers: usize,
-    screen: &mut Screen,
-) -> Result<Scrubbed, Failure> {
-    let size = progress::piece_size(layers as u64);
-    let mut left = budget;
-    loop {
-        let before = walk.record;
-        let report = walk.look(codeword, size.min(left))?;
-        left = left.saturating_sub(size);
-        screen.line(progress::layers(&before, &walk.record, layers));
-        if left == 0 || report != Scrubbed::Unfinished {
-            return Ok(report);
-        }
-    }
+    scrub.save()?;
+    let place = scrub.path().display();
+    screen.line(format!(
+        "  the checkpoint is kept in {place}; scrub goes on with it"
+    ));
+    Ok(())
 }
 
 /// Where the bad layers lie: on the screen if there are any, and as it is asked for.
 fn show(
     arguments: &Arguments,
-    plate: Plate,
-    seen: &Seen,
+    cabinet: &Cabinet,
+    scrub: &Scrub,
     screen: &mut Screen,
 ) -> Result<(), Failure> {
-    if arguments.has(MAP) || !seen.bad.is_empty() {
-        layer_map::print(seen, screen);
+    let findings = &scrub.findings;
+    if arguments.has(MAP) || !findings.is_sound() {
+        scrub_map::print(findings, screen);
     }
     if let Some(path) = arguments.value(SVG).map(Path::new) {
-        let picture = layer_picture::draw(plate, seen);
-        files::write_one(path, picture.into_bytes())?;
+        let picture = scrub_picture::draw(&cabinet.description, findings);
+        files::write_one(path, picture.as_bytes())?;
         screen.line(format!("  drawn in {}", path.display()));
     }
     Ok(())
 }
 
-/// What a walk over all layers has found.
-fn conclude(
-    ended: Scrubbed,
-    record: &ScrubRecord,
-    numbers: &Numbers,
-    screen: &mut Screen,
-) -> Result<(), Failure> {
-    let layers = numbers.layers;
-    if ended == Scrubbed::Sound {
-        let sound = screen.paint(Paint::Good, "sound");
-        let checks = numbers.checks;
-        screen.line(format!(
-            "  {sound}: each of {layers} layers meets all {checks} checks"
-        ));
-        return Ok(());
+/// What a scrub of all layers has found.
+fn conclude(scrub: &Scrub, cabinet: &Cabinet, screen: &mut Screen) -> Result<(), Failure> {
+    let findings = &scrub.findings;
+    if !findings.is_sound() {
+        return Err(Failure::Contents(findings.conclusion()));
     }
-    let bad = count(record.bad as usize, "layer");
-    Err(Failure::Contents(format!(
-        "bad: {bad} of {layers} broken, layer {} is the first",
-        record.first
-    )))
+    let sound = screen.paint(Paint::Good, "sound");
+    let (layers, checks) = (findings.layer_count(), cabinet.numbers.checks);
+    screen.line(format!(
+        "  {sound}: each of {layers} layers meets all {checks} checks"
+    ));
+    Ok(())
 }

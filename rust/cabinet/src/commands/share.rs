@@ -1,14 +1,16 @@
 //! `cabinet share`: what a helper rack sends.
 
 use super::Command;
-use crate::arguments::{needed, Arguments, Setting};
+use crate::code::field::in_field;
+use crate::code::symbol::Symbol;
 use crate::failure::Failure;
-use crate::field::in_field;
-use crate::files;
-use crate::folder::{Folder, Place};
-use crate::plate;
-use crate::screen::Screen;
-use crate::symbol::Symbol;
+use crate::files::cabinet::Cabinet;
+use crate::files::description;
+use crate::files::draft::{self, Draft};
+use crate::files::stripe::TrayFiles;
+use crate::terminal::arguments::{needed, Arguments, Setting};
+use crate::terminal::progress;
+use crate::terminal::screen::Screen;
 use gesarumbo::Rack;
 use std::path::Path;
 
@@ -24,9 +26,10 @@ pub const COMMAND: Command = Command {
         HOST,
         HELPER,
         COUNT,
-        plate::LAYOUT,
-        plate::VOLUME,
-        plate::FIELD,
+        description::LAYOUT,
+        description::VOLUME,
+        description::FIELD,
+        description::STRIPES,
     ],
     run,
 };
@@ -37,8 +40,8 @@ cabinet share DIR --host H --helper I [--count N] OUT
 Works out the share of rack I for a repair in rack H, from the trays of rack I
 alone, and writes its L/s symbols to OUT, one byte each and nothing else; in the
 field of 257 two bytes each, low byte first. For a repair of N trays at once it
-is N shares, one after another. The file does not say whose share it is: let its
-name say so.
+is N shares, one after another. Those of all stripes follow one another. The
+file does not say whose share it is: let its name say so.
 ";
 
 fn run(arguments: &Arguments, screen: &mut Screen) -> Result<(), Failure> {
@@ -46,27 +49,33 @@ fn run(arguments: &Arguments, screen: &mut Screen) -> Result<(), Failure> {
     let host = Rack::new(needed(HOST, arguments.number(HOST)?)?);
     let helper = Rack::new(needed(HELPER, arguments.number(HELPER)?)?);
     let count = arguments.number(COUNT)?.unwrap_or(1);
-    let (place, out) = (Place::find(folder, arguments)?, Path::new(out));
+    let (cabinet, out) = (Cabinet::find(folder, arguments)?, Path::new(out));
     in_field!(
-        place.plate.field,
-        share(&place, count, [host, helper], out, screen)
+        cabinet.description.field,
+        share(&cabinet, count, [host, helper], out, screen)
     )
 }
 
 fn share<S: Symbol>(
-    place: &Place,
+    cabinet: &Cabinet,
     count: u32,
     [host, helper]: [Rack; 2],
     out: &Path,
     screen: &mut Screen,
 ) -> Result<(), Failure> {
-    let folder = Folder::<S>::open(place)?;
-    let share = folder.share(count, host, helper)?;
-    screen.heading(folder.plate.words());
+    let (numbers, stripes) = (&cabinet.numbers, cabinet.description.stripes);
+    let mut draft = Draft::begin(out, "share")?;
+    let mut sent = 0;
+    for stripe in TrayFiles::<S>::open(cabinet, |tray| numbers.rack_of(tray) == helper, 0) {
+        let share = stripe.share(count, host, helper).map_err(stripe.named())?;
+        draft.write(&S::to_bytes(&share))?;
+        sent += share.len();
+        progress::stripes(stripe.number + 1, stripes, screen);
+    }
+    screen.heading(cabinet.description.words());
     screen.line(format!(
-        "  rack {helper} sends {} symbols to rack {host}, {} are in its trays",
-        share.len(),
-        folder.numbers.size * folder.numbers.layers
+        "  rack {helper} sends {sent} symbols to rack {host}, {} are in its trays",
+        numbers.size * numbers.layers * stripes as usize
     ));
-    files::write_one(out, S::to_bytes(&share))
+    draft::publish(vec![draft])
 }

@@ -1,11 +1,11 @@
 //! `cabinet box`: the sixteen-tray box, one symbol a tray.
 
 use super::Command;
-use crate::arguments::{needed, Arguments, Setting};
+use crate::code::sixteen::{digits, read, Written, SIZE};
 use crate::failure::Failure;
-use crate::screen::{Paint, Screen};
-use crate::sixteen::{digits, read, Written, SIZE};
-use crate::words;
+use crate::terminal::arguments::{needed, Arguments, Setting};
+use crate::terminal::screen::{Paint, Screen};
+use crate::terminal::words;
 use gesarumbo::{sixteen, Rack, Refusal, Tray};
 use std::ffi::OsString;
 

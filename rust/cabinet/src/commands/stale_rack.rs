@@ -1,11 +1,11 @@
 //! The demonstration's last step: a cabinet in which a rack may send a wrong share.
 
 use super::demo::RECORDS;
+use crate::code::field::Field;
+use crate::code::numbers::Numbers;
 use crate::failure::Failure;
-use crate::field::Field;
-use crate::numbers::Numbers;
-use crate::screen::{Paint, Screen};
-use crate::words::count;
+use crate::terminal::screen::{Paint, Screen};
+use crate::terminal::words::count;
 use gesarumbo::{repair_correcting, share, store, Layout, Rack, Tray};
 
 const LAYOUT: Layout = Layout::with_errors(5, 3, 4, 4, 1);

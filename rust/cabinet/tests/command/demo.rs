@@ -63,9 +63,9 @@ fn what_is_kept_is_a_sound_cabinet() {
     assert_eq!(
         bench.snapshot("c").len(),
         13,
-        "twelve images and the name plate"
+        "twelve images and the description"
     );
-    bench.done("recover c --data records --erase 4");
+    bench.done("get c records --erase 4");
     let records = bench.read("records");
     assert_eq!(&records[..32], b"Mo 06:00 Cl 0.6\nMo 18:00 Cl 0.7\n");
     bench.fails(74, "demo --keep c");

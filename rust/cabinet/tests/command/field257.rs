@@ -34,8 +34,8 @@ fn images_have_edition_2_and_two_bytes_a_symbol() {
         0x18, 0, 2, 1, 2, 1, 1, 1, 1, 0, 0, 0, 7, 0, 0, 0, 0x18, 0, 0, 0, 1, 0, 0, 0, 0, 1,
     ];
     assert_eq!(bench.read("c/tray-01.img"), image);
-    let plate = b"layout 2 1 1 1\nvolume 7\nfield 257\n";
-    assert_eq!(bench.read("c/cabinet.txt"), plate);
+    let description = b"layout 2 1 1 1\nvolume 7\nfield 257\nstripes 1\nlength 1\n";
+    assert_eq!(bench.read("c/cabinet.txt"), description);
 }
 
 #[test]
@@ -60,7 +60,8 @@ fn data_come_back_from_any_fifteen_trays() {
     for first in 0..20 {
         for step in [1, 3] {
             (0..5).for_each(|place| bench.remove(&image((first + place * step) % 20)));
-            bench.done("recover c --data back");
+            bench.done("get c back");
+            bench.done("recover c");
             assert!(before == bench.snapshot("c"), "first {first}, step {step}");
             assert_eq!(bench.read("back"), data(480));
         }
@@ -130,7 +131,6 @@ fn shares_come_from_files() {
     bench.poke("share-2", 31, 2);
     bench.fails(3, &line);
     assert!(!bench.exists(&image(6)));
-    bench.remove("c/tray-06.spare");
     bench.write("share-2", &share);
     bench.done(&line);
     assert_eq!(bench.read(&image(6)), before);
@@ -184,8 +184,8 @@ fn a_walk_in_pieces() {
     let symbol = symbols(&bench, &image(9), 24)[20];
     bench.done("scrub c --budget 10");
     let text = String::from_utf8(bench.read("c/scrub.txt")).expect("the record is text");
-    assert!(text.starts_with("scrub of (5, 4, 15, 4) modulo 257 volume 7 over "));
-    assert!(text.contains("next 10 bad 0 first 32"));
+    assert!(text.starts_with("scrub of (5, 4, 15, 4) modulo 257 volume 7 stripes 1\n"));
+    assert!(text.contains("\nstripe 0 step 10 over "));
     assert!(bench.done("scrub c").contains("sound"));
     change(&bench, 9, 20, (symbol + 1) % 257);
     let message = bench.fails(65, "scrub c --svg picture.svg");
@@ -327,10 +327,10 @@ fn data_that_are_no_bytes_are_not_written() {
     change(&bench, 1, 0, 1);
     bench.done("test c");
     bench.done("recover c");
-    let message = bench.fails(65, "recover c --data out");
+    let message = bench.fails(65, "get c out");
     assert!(message.contains("symbol 0 is 256"), "{message}");
     assert!(!bench.exists("out"));
-    bench.done("recover c --data out --length 0");
+    bench.done("get c out --length 0");
     assert_eq!(bench.read("out"), b"");
 }
 
@@ -349,8 +349,8 @@ fn the_field_can_be_given() {
         "field 257 257",
         "field 257\nmore",
     ] {
-        let plate = format!("layout 5 4 15 4\nvolume 7\n{line}\n");
-        bench.write("c/cabinet.txt", plate.as_bytes());
+        let text = format!("layout 5 4 15 4\nvolume 7\n{line}\n");
+        bench.write("c/cabinet.txt", text.as_bytes());
         match line {
             "field 256" => drop(bench.refused(1, "test c")),
             _ => drop(bench.fails(65, "test c")),
@@ -370,9 +370,10 @@ fn a_large_cabinet() {
     assert_readable(&out);
     assert!(out.contains("4608 crossed,    0 to come"), "{out}");
     bench.remove(&image(0));
-    bench.done("recover c --data back");
+    bench.done("get c back");
+    bench.done("recover c");
     assert!(before == bench.snapshot("c"));
     assert_eq!(bench.read("back"), data(32_768));
     bench.write("long", &data(32_769));
-    bench.refused(2, "store 10 4 32 9 --volume 7 --field 257 long d");
+    bench.refused(2, "store 10 4 32 9 --volume 7 --field 257 --exact long d");
 }

@@ -16,7 +16,8 @@ fn images_are_those_of_document_01() {
         0x18, 0, 1, 1, 2, 1, 1, 1, 1, 0, 0, 0, 7, 0, 0, 0, 0x18, 0, 0, 0, 1, 0, 0, 0, 0xA7,
     ];
     assert_eq!(bench.read("c/tray-01.img"), image);
-    assert_eq!(bench.read("c/cabinet.txt"), b"layout 2 1 1 1\nvolume 7\n");
+    let description = b"layout 2 1 1 1\nvolume 7\nstripes 1\nlength 1\n";
+    assert_eq!(bench.read("c/cabinet.txt"), description);
 }
 
 #[test]
@@ -58,15 +59,24 @@ fn a_short_file_is_filled_up_with_zeros() {
         out.contains("100 bytes stored, 128 fit: 28 zeros added"),
         "{out}"
     );
-    bench.done("recover c --data whole");
+    bench.done("get c back");
+    assert_eq!(bench.read("back"), data(100));
     let mut filled = data(100);
     filled.resize(128, 0);
+    bench.done("get c whole --length 128");
     assert_eq!(bench.read("whole"), filled);
-    bench.done("recover c --data part --length 100");
-    assert_eq!(bench.read("part"), data(100));
+    bench.write("c/cabinet.txt", b"layout 4 3 8 3\nvolume 7\n");
+    bench.done("get c whole");
+    assert_eq!(
+        bench.read("whole"),
+        filled,
+        "nothing says how long they are"
+    );
     bench.write("empty", b"");
     bench.done("store 4 3 8 3 --volume 7 empty e");
     bench.done("test e");
+    bench.done("get e back");
+    assert_eq!(bench.read("back"), b"");
 }
 
 #[test]
@@ -117,7 +127,7 @@ fn trays_come_back_whatever_became_of_them() {
         "tray  4 is not used: refused (9)",
         "tray  7 is not used: refused (10)",
         "tray 11 is not used: the file holds tray 10",
-        "brought back: tray 0, 4, 7, 11",
+        "brought back: trays 0, 4, 7, 11",
     ] {
         assert!(out.contains(why), "{why} is missing in\n{out}");
     }
@@ -201,13 +211,17 @@ fn expected_numbers_can_be_given() {
     bench.write("c/cabinet.txt", b"layout 4 3 8 3\nvolume 8\n");
     bench.refused(11, "test c");
     bench.done("test c --volume 7");
-    for plate in [
+    for text in [
         "",
         "layout 4 3 8\nvolume 7\n",
         "layout 4 3 8 3\nvolume 7\nmore\n",
         "volume 7\n",
+        "layout 4 3 8 3\nvolume 7\nstripes 1\n",
+        "layout 4 3 8 3\nvolume 7\nstripes 0\nlength 0\n",
+        "layout 4 3 8 3\nvolume 4294967295\nstripes 2\nlength 200\n",
+        "layout 4 3 8 3\nvolume 7\nlength 128\nstripes 1\n",
     ] {
-        bench.write("c/cabinet.txt", plate.as_bytes());
+        bench.write("c/cabinet.txt", text.as_bytes());
         bench.fails(65, "test c");
     }
 }

@@ -2,9 +2,9 @@
 
 use crate::bench::{assert_readable, Bench};
 
-const COMMANDS: [&str; 14] = [
-    "demo", "choose", "plan", "store", "test", "scrub", "recover", "share", "repair", "card",
-    "read", "margin", "inspect", "box",
+const COMMANDS: [&str; 15] = [
+    "demo", "choose", "plan", "store", "get", "test", "scrub", "recover", "share", "repair",
+    "card", "read", "margin", "inspect", "box",
 ];
 
 #[test]
@@ -110,7 +110,12 @@ fn senseless_lines_are_usage_errors() {
         "read c --tray 4 --layers -1..1",
         "read c --tray 4 --layers 0..1 --spare s",
         "recover c --length 5",
-        "recover c --data out --length 129",
+        "get c",
+        "get c out --length 129",
+        "get c out --length all",
+        "test c --stripes 0",
+        "test c --stripes 4294967290",
+        "read c --tray 4 --layers 0..1 --stripe 1",
         "inspect",
     ];
     for line in lines {

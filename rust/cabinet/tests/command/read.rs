@@ -198,12 +198,12 @@ fn a_changed_tray_or_file_is_noticed() {
     let whole = bench.read("c/tray-04.spare");
     let text = String::from_utf8_lossy(&whole);
     for (word, broken) in [
-        ("done 7", "done 9"),
-        ("done 7", "done -1"),
+        ("step 7", "step 9"),
+        ("step 7", "step -1"),
         ("racks 0 2 3", "racks 0 1 3"),
         ("racks 0 2 3", "racks 0 2"),
         ("racks 0 2 3", "racks 0 2 3 4"),
-        (", groups done 7", ""),
+        (" step 7", ""),
     ] {
         bench.write("c/tray-04.spare", text.replace(word, broken).as_bytes());
         bench.fails(65, &line);
@@ -260,7 +260,7 @@ fn without_a_work_file_no_group_is_done() {
     let ended = bench.run(&format!("{READ} 0..1"));
     assert_eq!(ended.status, 13);
     assert!(
-        ended.out.contains("there is no work file c/tray-04.spare"),
+        ended.out.contains("there is no checkpoint c/tray-04.spare"),
         "{}",
         ended.out
     );

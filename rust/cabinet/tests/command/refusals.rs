@@ -18,10 +18,9 @@ fn wrong_length() {
     bench.write("short", &data(127));
     bench.write("long", &data(129));
     bench.refused(2, "store 4 3 8 3 --volume 7 --exact short d");
-    bench.refused(2, "store 4 3 8 3 --volume 7 --exact long d");
-    let message = bench.refused(2, "store 4 3 8 3 --volume 7 long d");
+    let message = bench.refused(2, "store 4 3 8 3 --volume 7 --exact long d");
     assert!(
-        message.contains("long: 129 bytes, the cabinet takes 128"),
+        message.contains("long: 129 bytes, a stripe takes 128"),
         "{message}"
     );
     bench.done("store 4 3 8 3 --volume 7 --exact data d");
@@ -121,7 +120,7 @@ fn survivors_of_no_codeword() {
     bench.poke("c/tray-02.img", 24, byte ^ 1);
     bench.refused(8, "recover c");
     bench.remove("c/tray-07.img");
-    bench.refused(8, "recover c --data out");
+    bench.refused(8, "get c out");
     assert!(!bench.exists("out"));
 }
 

@@ -134,7 +134,7 @@ fn a_broken_work_file_is_noticed() {
     }
     bench.write("c/tray-04.spare", &whole[..whole.len() - 1]);
     bench.refused(2, LINE);
-    let text = String::from_utf8_lossy(&whole).replace("groups done 3", "groups done 9");
+    let text = String::from_utf8_lossy(&whole).replace("step 3", "step 9");
     bench.write("c/tray-04.spare", text.as_bytes());
     bench.fails(65, LINE);
 }

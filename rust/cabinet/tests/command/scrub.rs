@@ -14,10 +14,12 @@ fn record_file(bench: &Bench) -> String {
     String::from_utf8(bench.read("c/scrub.txt")).expect("the record is text")
 }
 
+/// The next layer and the counts of a checkpoint.
 fn record(bench: &Bench) -> String {
     let text = record_file(bench);
-    let line = text.lines().nth(1);
-    line.expect("the record is the second line").to_string()
+    let lines: Vec<&str> = text.lines().collect();
+    let (place, _) = lines[1].split_once(" over ").expect("a fingerprint");
+    format!("{place}, {}", lines[2])
 }
 
 /// The rows of the map of layers: a layer's number, then cells.
@@ -51,7 +53,10 @@ fn a_sound_cabinet_in_pieces() {
         let out = bench.done(&format!("scrub c {line}"));
         assert_readable(&out);
         assert!(out.contains(&format!("{end} of 16: none bad")), "{out}");
-        assert_eq!(record(&bench), format!("next {end} bad 0 first 16"));
+        assert_eq!(
+            record(&bench),
+            format!("stripe 0 step {end}, bad 0 first 0 0")
+        );
     }
     let out = bench.done("scrub c");
     assert!(out.contains("layer 15"), "{out}");
@@ -69,9 +74,9 @@ fn bad_layers_are_counted_and_the_first_is_named() {
     damage(&bench, 2, 3);
     damage(&bench, 7, 3);
     for (budget, expected) in [
-        (3, "next 3 bad 0 first 16"),
-        (1, "next 4 bad 1 first 3"),
-        (11, "next 15 bad 2 first 3"),
+        (3, "stripe 0 step 3, bad 0 first 0 0"),
+        (1, "stripe 0 step 4, bad 1 first 0 3"),
+        (11, "stripe 0 step 15, bad 2 first 0 3"),
     ] {
         bench.done(&format!("scrub c --budget {budget}"));
         assert_eq!(record(&bench), expected);
@@ -106,9 +111,9 @@ fn a_map_shows_the_bad_layers() {
     assert_eq!(rows(&out), ["     0 ...#.--- --------"]);
     assert!(out.contains("# bad"), "{out}");
     bench.done("scrub c --budget 6");
-    assert!(record_file(&bench).ends_with("\nnext 11 bad 1 first 3\nlayers 3\n"));
+    assert!(record_file(&bench).ends_with("\nbad 1 first 0 3\ncells 3\n"));
     bench.done("scrub c --budget 1");
-    assert!(record_file(&bench).ends_with("\nnext 12 bad 2 first 3\nlayers 3 11\n"));
+    assert!(record_file(&bench).ends_with("\nbad 2 first 0 3\ncells 3 11\n"));
     let ended = bench.run("scrub c");
     assert_eq!(ended.status, 65);
     assert_eq!(rows(&ended.out), ["     0 ...#.... ...#...."]);
@@ -193,23 +198,20 @@ fn a_list_of_layers_that_disagrees_is_no_record() {
     let text = record_file(&bench);
     let broken = [
         "",
-        "layers\n",
-        "layers 3\n",
-        "layers 4 11\n",
-        "layers 3 13\n",
-        "layers 3 3\n",
-        "layers 3 2\n",
-        "layers 3 11 12\n",
-        "layers 3 11 \n",
-        "layers 3 many\n",
-        "bad 3 11\n",
-        "layers 3 11\nmore\n",
+        "cells\n",
+        "cells 3\n",
+        "cells 4 11\n",
+        "cells 3 13\n",
+        "cells 3 3\n",
+        "cells 3 2\n",
+        "cells 3 11 12\n",
+        "cells 3 11 \n",
+        "cells 3 many\n",
+        "layers 3 11\n",
+        "cells 3 11\nmore\n",
     ];
     for line in broken {
-        bench.write(
-            "c/scrub.txt",
-            text.replace("layers 3 11\n", line).as_bytes(),
-        );
+        bench.write("c/scrub.txt", text.replace("cells 3 11\n", line).as_bytes());
         let before = bench.snapshot(".");
         assert!(bench.fails(65, "scrub c").contains("--reset"), "{line}");
         assert!(before == bench.snapshot("."), "{line}: nothing is changed");
@@ -238,20 +240,24 @@ fn a_changed_tray_ends_the_walk() {
 fn a_record_that_breaks_a_rule_is_refused() {
     let bench = Bench::with_cabinet();
     bench.done("scrub c --budget 5");
-    let good = record(&bench);
     let text = record_file(&bench);
-    for numbers in [
-        "next 17 bad 0 first 16",
-        "next 5 bad 6 first 0",
-        "next 5 bad 0 first 4",
-        "next 5 bad 1 first 5",
-    ] {
-        bench.write("c/scrub.txt", text.replace(&good, numbers).as_bytes());
+    for step in ["17", "4294967295", "18446744073709551615"] {
+        let other = text.replace("step 5", &format!("step {step}"));
+        bench.write("c/scrub.txt", other.as_bytes());
         bench.refused(3, "scrub c");
     }
-    for numbers in ["", "next 5 bad 0", "next 5 bad 0 first many"] {
-        bench.write("c/scrub.txt", text.replace(&good, numbers).as_bytes());
-        assert!(bench.fails(65, "scrub c").contains("--reset"));
+    for (words, other) in [
+        ("stripe 0", "stripe 1"),
+        ("step 5", "step many"),
+        ("step 5", "step 6 7"),
+        ("bad 0 first 0 0", "bad 0"),
+        ("bad 0 first 0 0", "bad 6 first 0 0"),
+        ("bad 0 first 0 0", "bad 1 first 0 5"),
+        ("bad 0 first 0 0", "bad 0 first 0 4"),
+        ("cells", "cells 4"),
+    ] {
+        bench.write("c/scrub.txt", text.replace(words, other).as_bytes());
+        assert!(bench.fails(65, "scrub c").contains("--reset"), "{other}");
     }
     assert!(bench.done("scrub c --reset").contains("sound"));
 }

@@ -13,7 +13,10 @@ fn change(bench: &Bench, name: &str, at: usize) {
 #[test]
 fn the_fifth_number_is_kept() {
     let bench = Bench::with_a_stale_rack();
-    assert_eq!(bench.read("c/cabinet.txt"), b"layout 6 3 5 4 1\nvolume 7\n");
+    assert_eq!(
+        bench.read("c/cabinet.txt"),
+        b"layout 6 3 5 4 1\nvolume 7\nstripes 1\nlength 320\n"
+    );
     assert_eq!(bench.read("c/tray-04.img")[4..12], [6, 3, 5, 4, 4, 1, 0, 0]);
     assert!(bench.done("test c").contains("sound"));
     let shown = bench.done("inspect c/tray-04.img");
@@ -153,8 +156,8 @@ fn in_the_field_of_257_too() {
     let bench = Bench::new();
     bench.write("data", &data(7 * 64));
     bench.done("store 6 4 7 4 1 --volume 7 --field 257 data c");
-    let plate = b"layout 6 4 7 4 1\nvolume 7\nfield 257\n";
-    assert_eq!(bench.read("c/cabinet.txt"), plate);
+    let description = b"layout 6 4 7 4 1\nvolume 7\nfield 257\nstripes 1\nlength 448\n";
+    assert_eq!(bench.read("c/cabinet.txt"), description);
     let tray = bench.read("c/tray-05.img");
     bench.remove("c/tray-05.img");
     change(&bench, "c/tray-12.img", 26);

@@ -1,0 +1,171 @@
+//! The repair of a lost tray where one helper's share may be wrong: a stripe at a time, with the
+//! rack of the wrong share named, and a test at the end of each.
+
+use super::shares::Shares;
+use super::tally::Tally;
+use super::{foreign, spare_path, Repair};
+use crate::code::numbers::Numbers;
+use crate::code::symbol::Symbol;
+use crate::failure::Failure;
+use crate::files::cabinet::Cabinet;
+use crate::files::checkpoint::Checkpoint;
+use crate::files::rebuild::Rebuild;
+use crate::files::stripe::Stripe;
+use crate::files::survey::Unused;
+use crate::terminal::progress;
+use crate::terminal::screen::{Paint, Screen};
+use crate::terminal::words::{count, hanging};
+use gesarumbo::{Corrected, Rack, Tested, Tray};
+
+/// Lets the library judge the numbers of a repair before any share is needed: a repair over zeros,
+/// which meet the checks.
+pub fn judge<S: Symbol>(numbers: &Numbers, lost: Tray, helpers: &[Rack]) -> Result<(), Failure> {
+    let shares = vec![S::default(); numbers.traffic()];
+    let host = vec![S::default(); numbers.size * numbers.layers];
+    let mut spare = vec![S::default(); numbers.layers];
+    (S::CALLS.repair_correcting)(numbers.layout, lost, helpers, &shares, &host, &mut spare)
+        .map(|_| ())
+        .map_err(Failure::refused(format!("repair of tray {lost}")))
+}
+
+/// The repair of one tray by these shares, of numbers already judged: the tray's file is written,
+/// unless it does not fit to the others.
+pub fn repair<S: Symbol>(
+    cabinet: &Cabinet,
+    repair: &Repair,
+    mut shares: Shares,
+    screen: &mut Screen,
+) -> Result<(), Failure> {
+    let stripes = cabinet.description.stripes;
+    let (mut rebuild, mut tally) = open::<S>(cabinet, repair)?;
+    let mut unused = None;
+    shares.skip_to::<S>(cabinet, repair, rebuild.next)?;
+    for stripe in cabinet.stripes::<S>(rebuild.next) {
+        let lost = repair_stripe(&stripe, repair, &mut shares, &mut tally);
+        let lost = lost.map_err(stripe.named())?;
+        Unused::begin_or_say(&mut unused, &stripe, screen);
+        rebuild.write([&lost[..]].into_iter())?;
+        progress::stripes(rebuild.next, stripes, screen);
+        if rebuild.is_due() {
+            rebuild.save(0, 0, tally.line().into_bytes())?;
+        }
+    }
+    say_shares(cabinet, repair, &tally, screen);
+    say_fit(&tally, repair.lost[0], screen);
+    rebuild.publish()
+}
+
+/// The repair as its checkpoint has it; a new one if there is none.
+fn open<'a, S: Symbol>(
+    cabinet: &'a Cabinet,
+    repair: &Repair,
+) -> Result<(Rebuild<'a>, Tally), Failure> {
+    let path = spare_path(cabinet, &repair.lost);
+    let task = repair.task(cabinet);
+    let found = Checkpoint::read(&path, |of| of == task, foreign)?;
+    let what = repair.rebuilding(cabinet, path.clone());
+    let Some(checkpoint) = found else {
+        return Ok((Rebuild::begin(cabinet, what)?, Tally::default()));
+    };
+    let tally = Tally::parse(&checkpoint.rest).filter(|(_, rest)| rest.is_empty());
+    let rebuild = Rebuild::go_on::<S>(cabinet, what, checkpoint.stripe)?;
+    match (rebuild, tally) {
+        (Some(rebuild), Some((tally, _))) => Ok((rebuild, tally)),
+        _ => Err(foreign(&path)),
+    }
+}
+
+/// The lost tray of one stripe, which must fit to the others or to those without the rack named.
+fn repair_stripe<S: Symbol>(
+    stripe: &Stripe<S>,
+    repair: &Repair,
+    shares: &mut Shares,
+    tally: &mut Tally,
+) -> Result<Vec<S>, Failure> {
+    let (numbers, lost) = (&stripe.cabinet.numbers, repair.lost[0]);
+    let shares = shares.next(stripe, repair)?;
+    let host = stripe.joined(numbers.trays_of(numbers.rack_of(lost)), &[lost])?;
+    let mut spare = vec![S::default(); numbers.layers];
+    let Corrected { rack, .. } = (S::CALLS.repair_correcting)(
+        numbers.layout,
+        lost,
+        &repair.helpers,
+        &shares,
+        &host,
+        &mut spare,
+    )
+    .map_err(Failure::refused(format!("repair of tray {lost}")))?;
+    rack.into_iter().for_each(|rack| tally.add_wrong(rack));
+    match stripe.test_with(&[lost], &spare)? {
+        None => tally.untested += 1,
+        Some(Tested::Sound) => {}
+        Some(Tested::Bad { .. }) => tally.add_unfit(without_named(stripe, lost, &spare, rack)?),
+    }
+    Ok(spare)
+}
+
+/// Where not all trays fit: those without the rack that is named must.
+fn without_named<S: Symbol>(
+    stripe: &Stripe<S>,
+    lost: Tray,
+    spare: &[S],
+    named: Option<Rack>,
+) -> Result<Rack, Failure> {
+    let fitting = named.map(|rack| Ok((rack, stripe.fits_without(rack, lost, spare)?)));
+    match fitting.transpose()? {
+        Some((rack, Some(true))) => Ok(rack),
+        _ => Err(Failure::Contents(format!(
+            "tray {lost} and the others do not fit together: some tray or more than one share \
+             holds wrong symbols; no image is written"
+        ))),
+    }
+}
+
+/// What crossed, and whose shares were wrong.
+fn say_shares(cabinet: &Cabinet, repair: &Repair, tally: &Tally, screen: &mut Screen) {
+    let stripes = cabinet.description.stripes;
+    let crossed = cabinet.numbers.traffic() * stripes as usize;
+    let (racks, crossed) = (
+        count(repair.helpers.len(), "rack"),
+        count(crossed, "symbol"),
+    );
+    screen.line(format!(
+        "  {racks} send shares, {crossed} in all; one may be wrong"
+    ));
+    if tally.wrong.is_empty() {
+        screen.line("  every share is right");
+    }
+    for (rack, wrong) in &tally.wrong {
+        let words = screen.paint(Paint::Warning, &format!("rack {rack} is stale"));
+        let place = match stripes {
+            1 => String::new(),
+            _ => format!(" in {wrong} of {}", count(stripes as usize, "stripe")),
+        };
+        screen.line(format!(
+            "  {words}{place}: its share is wrong, and was set right by the others"
+        ));
+    }
+}
+
+fn say_fit(tally: &Tally, lost: Tray, screen: &mut Screen) {
+    let sound = screen.paint(Paint::Good, "sound");
+    let whole = format!("  tray {lost} is whole");
+    let racks: Vec<String> = tally.unfit.keys().map(u32::to_string).collect();
+    if racks.is_empty() {
+        return screen.line(match tally.untested {
+            0 => format!("{whole}; all trays together are {sound}"),
+            _ => format!("{whole}; not tested, other trays are missing"),
+        });
+    }
+    let racks = match racks.len() {
+        1 => format!("rack {}", racks[0]),
+        _ => format!("racks {}", racks.join(", ")),
+    };
+    screen.line(format!(
+        "{whole}; all trays but those of {racks} are {sound} together"
+    ));
+    let words = format!(
+        "trays of {racks} hold wrong symbols: bring them back with cabinet recover and --erase"
+    );
+    screen.line(hanging("  ", &words));
+}

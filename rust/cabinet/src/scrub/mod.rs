@@ -1,0 +1,235 @@
+//! The test of a cabinet some layers at a time, stripe after stripe, which can be cut anywhere.
+
+pub mod findings;
+
+use crate::code::symbol::Symbol;
+use crate::failure::Failure;
+use crate::files::cabinet::Cabinet;
+use crate::files::checkpoint::{Checkpoint, MOST_UNSAVED};
+use crate::files::stripe::Stripe;
+use crate::files::survey::Unused;
+use crate::files::{self, fingerprint};
+use crate::terminal::progress::{line_size, Place};
+use crate::terminal::screen::Screen;
+use findings::Findings;
+use gesarumbo::ScrubRecord;
+use std::path::{Path, PathBuf};
+
+/// The checkpoint's file in a cabinet's folder.
+pub const NAME: &str = "scrub.txt";
+
+/// A scrub as far as it has come.
+pub struct Scrub<'a> {
+    cabinet: &'a Cabinet,
+    path: PathBuf,
+    /// The stripe under test.
+    stripe: u32,
+    /// The next layer of it.
+    next: u32,
+    /// The fingerprint of its trays, if layers of it have been looked at.
+    over: u64,
+    pub findings: Findings,
+    /// Bytes of codewords since the last checkpoint.
+    unsaved: u64,
+}
+
+impl<'a> Scrub<'a> {
+    /// A new scrub of a cabinet.
+    pub fn begin(cabinet: &'a Cabinet, path: PathBuf) -> Scrub<'a> {
+        Scrub {
+            cabinet,
+            path,
+            stripe: 0,
+            next: 0,
+            over: 0,
+            findings: Findings::new(cabinet),
+            unsaved: 0,
+        }
+    }
+
+    /// The scrub as its checkpoint has it; a new one if there is none.
+    pub fn go_on<S: Symbol>(cabinet: &'a Cabinet, path: PathBuf) -> Result<Scrub<'a>, Failure> {
+        let mut scrub = Scrub::begin(cabinet, path);
+        let task = scrub.task();
+        let found = Checkpoint::read(&scrub.path, |of| of == task, foreign)?;
+        let Some(checkpoint) = found else {
+            return Ok(scrub);
+        };
+        judge::<S>(cabinet, &checkpoint)?;
+        let at = u64::from(checkpoint.stripe) * cabinet.numbers.layers as u64 + checkpoint.step;
+        let findings = Findings::parse(cabinet, at, &checkpoint.rest);
+        let findings = findings.filter(|_| checkpoint.stripe < cabinet.description.stripes);
+        scrub.findings = findings.ok_or_else(|| foreign(&scrub.path))?;
+        (scrub.stripe, scrub.next) = (checkpoint.stripe, checkpoint.step as u32);
+        scrub.over = checkpoint.over;
+        Ok(scrub)
+    }
+
+    /// The checkpoint's first line.
+    fn task(&self) -> String {
+        format!("scrub of {}", self.cabinet.description.key())
+    }
+
+    /// Whether all layers have been looked at.
+    pub fn is_over(&self) -> bool {
+        self.stripe == self.cabinet.description.stripes
+    }
+
+    pub fn path(&self) -> &Path {
+        &self.path
+    }
+
+    /// Looks at the next layers, as many as the budget allows and are left.
+    pub fn work<S: Symbol>(&mut self, budget: u64, screen: &mut Screen) -> Result<(), Failure> {
+        let mut lines = Lines::new(self.cabinet, self.findings.at, budget);
+        let mut unused = None;
+        for stripe in self.cabinet.stripes::<S>(self.stripe) {
+            Unused::begin_or_say(&mut unused, &stripe, screen);
+            self.stripe(&stripe, &mut lines, screen)
+                .map_err(stripe.named())?;
+            if lines.is_over() {
+                break;
+            }
+        }
+        Ok(())
+    }
+
+    /// Looks at the next layers of one stripe.
+    fn stripe<S: Symbol>(
+        &mut self,
+        stripe: &Stripe<S>,
+        lines: &mut Lines,
+        screen: &mut Screen,
+    ) -> Result<(), Failure> {
+        let codeword = stripe.codeword()?;
+        if self.next > 0 && self.over != fingerprint::of(codeword.iter()) {
+            return Err(foreign(&self.path));
+        }
+        let layers = self.cabinet.numbers.layers as u32;
+        loop {
+            let left = u64::from(layers - self.next);
+            self.look(&codeword, lines.budget().min(left))?;
+            lines.print(&self.findings, screen);
+            if lines.is_over() || self.next == layers {
+                break;
+            }
+        }
+        self.over = 0;
+        if self.next < layers {
+            self.over = fingerprint::of(codeword.iter());
+            return Ok(());
+        }
+        (self.stripe, self.next) = (self.stripe + 1, 0);
+        self.unsaved += (S::WIDTH * codeword.len()) as u64;
+        match self.unsaved >= MOST_UNSAVED && !self.is_over() {
+            true => self.save(),
+            false => Ok(()),
+        }
+    }
+
+    /// Looks at some layers at once, and singly where one of them is bad: a layer is bad when the
+    /// library counts one more.
+    fn look<S: Symbol>(&mut self, codeword: &[S], budget: u64) -> Result<(), Failure> {
+        let layers = self.cabinet.numbers.layers as u32;
+        let call = |record: &mut ScrubRecord, budget| {
+            (S::CALLS.scrub)(self.cabinet.description.layout, codeword, record, budget)
+                .map_err(Failure::refused("scrub"))
+        };
+        let mut record = ScrubRecord::new(self.next, 0, layers);
+        call(&mut record, budget)?;
+        let end = record.next;
+        if record.bad > 0 {
+            for layer in self.next..end {
+                let mut alone = ScrubRecord::new(layer, 0, layers);
+                call(&mut alone, 1)?;
+                if alone.bad > 0 {
+                    self.findings.add(self.stripe, layer);
+                }
+            }
+        }
+        self.findings.at += u64::from(end - self.next);
+        self.next = end;
+        Ok(())
+    }
+
+    /// Writes the checkpoint.
+    pub fn save(&mut self) -> Result<(), Failure> {
+        let checkpoint = Checkpoint {
+            task: self.task(),
+            stripe: self.stripe,
+            step: self.next.into(),
+            over: self.over,
+            rest: self.findings.text().into_bytes(),
+        };
+        self.unsaved = 0;
+        checkpoint.write(&self.path)
+    }
+
+    /// Removes the checkpoint: the scrub is over.
+    pub fn discard(&self) -> Result<(), Failure> {
+        files::remove(&self.path)
+    }
+}
+
+/// Lets the library judge a checkpoint's next layer: a walk over no layer of zeros.
+fn judge<S: Symbol>(cabinet: &Cabinet, checkpoint: &Checkpoint) -> Result<(), Failure> {
+    let next = u32::try_from(checkpoint.step).unwrap_or(u32::MAX);
+    let mut record = ScrubRecord::new(next, 0, cabinet.numbers.layers as u32);
+    let zeros = vec![S::default(); cabinet.numbers.codeword()];
+    (S::CALLS.scrub)(cabinet.description.layout, &zeros, &mut record, 0)
+        .map(|_| ())
+        .map_err(Failure::refused("scrub"))
+}
+
+/// When a line is printed, and where the budget ends.
+struct Lines {
+    place: Place,
+    /// Where the next line begins.
+    since: u64,
+    end: u64,
+}
+
+impl Lines {
+    fn new(cabinet: &Cabinet, at: u64, budget: u64) -> Lines {
+        let place = Place {
+            steps: cabinet.numbers.layers as u64,
+            stripes: cabinet.description.stripes.into(),
+            at,
+        };
+        Lines {
+            place,
+            since: at,
+            end: at.saturating_add(budget).min(place.steps * place.stripes),
+        }
+    }
+
+    fn size(&self) -> u64 {
+        line_size(self.place.steps * self.place.stripes)
+    }
+
+    /// How many layers may be looked at in one call.
+    fn budget(&self) -> u64 {
+        self.end.min(self.since + self.size()) - self.place.at
+    }
+
+    fn is_over(&self) -> bool {
+        self.place.at >= self.end
+    }
+
+    /// Prints a line if it is time for one.
+    fn print(&mut self, findings: &Findings, screen: &mut Screen) {
+        self.place.at = findings.at;
+        if self.is_over() || self.place.at - self.since >= self.size() {
+            screen.line(self.place.line("layer", self.since, &findings.bad_words()));
+            self.since = self.place.at;
+        }
+    }
+}
+
+fn foreign(path: &Path) -> Failure {
+    Failure::Contents(format!(
+        "{}: the checkpoint of another scrub, or a damaged one, or a tray has been changed since it \
+         was written; --reset starts a new scrub",
+        path.display()
+    ))
+}
