@@ -85,7 +85,7 @@ fn get<S: Symbol>(
     file: &Path,
     screen: &mut Screen,
 ) -> Result<(), Failure> {
-    let (room, stripes) = (cabinet.numbers.data(), cabinet.description.stripes);
+    let room = cabinet.numbers.data();
     let mut draft = Draft::begin(file, "get")?;
     let (mut left, mut unused) = (length, None);
     for stripe in cabinet.stripes::<S>(0) {
@@ -95,7 +95,7 @@ fn get<S: Symbol>(
         let data = bytes(&codeword[..here]).map_err(stripe.named())?;
         draft.write(&data)?;
         left -= data.len() as u64;
-        progress::stripes(stripe.number + 1, stripes, screen);
+        progress::stripes(cabinet, stripe.number + 1, screen);
     }
     draft::publish(vec![draft])?;
     let bytes = count(length as usize, "byte");

@@ -77,12 +77,12 @@ fn recover<S: Symbol>(
     erased.dedup();
     judge::<S>(cabinet, named)?;
     let mut rebuild = open::<S>(cabinet, &erased, screen)?;
-    let (layers, stripes) = (cabinet.numbers.layers, cabinet.description.stripes);
+    let layers = cabinet.numbers.layers;
     for stripe in cabinet.stripes::<S>(rebuild.next) {
         let codeword = stripe.recovered(named).map_err(stripe.named())?;
         let symbols = |tray: &Tray| &codeword[tray.number() as usize * layers..][..layers];
         rebuild.write(erased.iter().map(symbols))?;
-        progress::stripes(rebuild.next, stripes, screen);
+        progress::stripes(cabinet, rebuild.next, screen);
         if rebuild.is_due() && !erased.is_empty() {
             rebuild.save(0, 0, Vec::new())?;
         }
@@ -120,7 +120,7 @@ fn open<'a, S: Symbol>(
     let found = Checkpoint::read(&what().path, |task| task == what().task, of_another);
     if let Ok(Some(checkpoint)) = found {
         if let Some(rebuild) = Rebuild::go_on::<S>(cabinet, what(), checkpoint.stripe)? {
-            screen.line(format!("  goes on with stripe {}", rebuild.next));
+            progress::goes_on(cabinet, rebuild.next, screen);
             return Ok(rebuild);
         }
     }

@@ -12,6 +12,7 @@ use crate::repair::shares::Shares;
 use crate::repair::stripe_repair::judge;
 use crate::repair::{card, checkpoint_path, correcting, Repair, SPARE};
 use crate::terminal::arguments::{needed, Arguments, Setting};
+use crate::terminal::progress;
 use crate::terminal::screen::Screen;
 use gesarumbo::{Rack, Tray};
 use std::path::Path;
@@ -169,6 +170,9 @@ fn in_groups<S: Symbol>(
     let path = checkpoint_path(arguments, cabinet, &repair.lost);
     let mut work = GroupRepair::<S>::open(cabinet, repair, path)?;
     let first = start(*first, &work)?;
+    if work.position() > 0 {
+        progress::goes_on(cabinet, work.stripe_number(), screen);
+    }
     let budget = match cards.len() as u64 {
         0 => *budget,
         _ if is_full_set(cabinet, &cards, work.groups_done()) => u64::MAX,

@@ -70,7 +70,7 @@ fn share<S: Symbol>(
         let share = stripe.share(count, host, helper).map_err(stripe.named())?;
         draft.write(&S::to_bytes(&share))?;
         sent += share.len();
-        progress::stripes(stripe.number + 1, stripes, screen);
+        progress::stripes(cabinet, stripe.number + 1, screen);
     }
     screen.heading(cabinet.description.words());
     screen.line(format!(

@@ -82,6 +82,7 @@ fn run(arguments: &Arguments, screen: &mut Screen) -> Result<(), Failure> {
         return Err(Failure::Usage(description.too_many()));
     }
     let cabinet = Cabinet::new(Path::new(folder), description)?;
+    screen.heading(description.words());
     let data = BufReader::new(file);
     in_field!(field, store(&cabinet, data, arguments.has(REPLACE), screen))?;
     report(&cabinet, length, screen);
@@ -91,14 +92,30 @@ fn run(arguments: &Arguments, screen: &mut Screen) -> Result<(), Failure> {
 /// Stores data as long as the cabinet's description says, in its folder, which is made if need be.
 pub fn store<S: Symbol>(
     cabinet: &Cabinet,
-    mut data: impl Read,
+    data: impl Read,
     replace: bool,
     screen: &mut Screen,
 ) -> Result<(), Failure> {
-    let (folder, stripes) = (cabinet.folder(), cabinet.description.stripes);
     judge::<S>(cabinet)?;
     let paths = free_paths(cabinet, replace)?;
+    let folder = cabinet.folder();
+    let is_new = !folder.exists();
     fs::create_dir_all(folder).map_err(Failure::file(folder))?;
+    let stored = write::<S>(cabinet, data, &paths, screen);
+    if stored.is_err() && is_new {
+        // Nothing is in it, and where it is not empty all the same, it stays.
+        let _ = fs::remove_dir(folder);
+    }
+    stored
+}
+
+/// Writes all files of a cabinet.
+fn write<S: Symbol>(
+    cabinet: &Cabinet,
+    mut data: impl Read,
+    paths: &[PathBuf],
+    screen: &mut Screen,
+) -> Result<(), Failure> {
     // The description comes first and gets its name last: where it is left under its work name, a
     // store was cut.
     let mut description = begin(&cabinet.file(description::NAME))?;
@@ -106,7 +123,7 @@ pub fn store<S: Symbol>(
     description.sync()?;
     let drafts: Result<Vec<Draft>, Failure> = paths.iter().map(|path| begin(path)).collect();
     let mut drafts = drafts?;
-    for stripe in 0..stripes {
+    for stripe in 0..cabinet.description.stripes {
         let codeword = codeword::<S>(cabinet, &mut data, stripe)?;
         let trays = (0..)
             .map(Tray::new)
@@ -114,7 +131,7 @@ pub fn store<S: Symbol>(
         for ((tray, symbols), draft) in trays.zip(&mut drafts) {
             draft.write(&cabinet.image(stripe, tray, symbols)?)?;
         }
-        progress::stripes(stripe + 1, stripes, screen);
+        progress::stripes(cabinet, stripe + 1, screen);
     }
     drafts.push(description);
     draft::publish(drafts)
@@ -191,7 +208,6 @@ fn codeword<S: Symbol>(
 fn report(cabinet: &Cabinet, stored: u64, screen: &mut Screen) {
     let (numbers, stripes) = (&cabinet.numbers, cabinet.description.stripes);
     let room = numbers.data() as u64 * u64::from(stripes);
-    screen.heading(cabinet.description.words());
     screen.line(format!(
         "  {} bytes stored, {} fit: {} zeros added",
         grouped(stored as usize),

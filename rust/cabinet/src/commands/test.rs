@@ -43,7 +43,7 @@ fn test<S: Symbol>(cabinet: &Cabinet, screen: &mut Screen) -> Result<(), Failure
     for stripe in cabinet.stripes::<S>(0) {
         Unused::begin_or_say(&mut unused, &stripe, screen);
         test_stripe(&stripe).map_err(stripe.named())?;
-        progress::stripes(stripe.number + 1, stripes, screen);
+        progress::stripes(cabinet, stripe.number + 1, screen);
     }
     let sound = screen.paint(Paint::Good, "sound");
     let layers = grouped(numbers.layers * stripes as usize);

@@ -5,8 +5,9 @@
 
 use crate::failure::Failure;
 use std::ffi::OsString;
-use std::fs::{self, File, OpenOptions, TryLockError};
+use std::fs::{self, File, Metadata, OpenOptions, TryLockError};
 use std::io::{BufWriter, Seek, SeekFrom, Write};
+use std::os::unix::fs::MetadataExt;
 use std::path::{Path, PathBuf};
 
 /// A file that is being written. If it is dropped before it is published, the work file is removed,
@@ -49,7 +50,8 @@ impl Draft {
     }
 
     fn of(path: &Path, work: PathBuf, mut file: File, written: u64) -> Result<Draft, Failure> {
-        if let Err(TryLockError::WouldBlock) = file.try_lock() {
+        let locked = !matches!(file.try_lock(), Err(TryLockError::WouldBlock));
+        if !locked || !is_still_at(&work, &file) {
             let words = format!("{}: another command is writing it", path.display());
             return Err(Failure::File(words));
         }
@@ -75,6 +77,14 @@ impl Draft {
             .and_then(|()| self.out.get_ref().sync_all())
             .map_err(Failure::file(&self.path))
     }
+}
+
+/// Whether the file still has this name, which the command that had the lock may have changed.
+fn is_still_at(work: &Path, file: &File) -> bool {
+    let name = |metadata: Metadata| (metadata.dev(), metadata.ino());
+    let there = fs::symlink_metadata(work).map(name);
+    let here = file.metadata().map(name);
+    there.is_ok_and(|there| here.is_ok_and(|here| here == there))
 }
 
 impl Drop for Draft {

@@ -21,10 +21,13 @@ impl Unused {
                 continue;
             }
             self.said.push(tray);
-            let why = stripe.found(tray).why_not().unwrap_or_default();
-            let why = screen.paint(Paint::Warning, &why);
-            let place = stripe.cabinet.place(stripe.number);
-            screen.line(format!("  tray {tray:>2} is not used: {place}{why}"));
+            let found = stripe.found(tray);
+            let why = screen.paint(Paint::Warning, &found.why_not().unwrap_or_default());
+            let place = match (found.kind(), stripe.cabinet.description.stripes) {
+                (Kind::Absent, _) | (_, 1) => String::new(),
+                _ => format!(" in stripe {}", stripe.number),
+            };
+            screen.line(format!("  tray {tray:>2} is not used{place}: {why}"));
         }
     }
 

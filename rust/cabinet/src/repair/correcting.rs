@@ -36,8 +36,7 @@ pub fn repair<S: Symbol>(
     mut shares: Shares,
     screen: &mut Screen,
 ) -> Result<(), Failure> {
-    let stripes = cabinet.description.stripes;
-    let (mut rebuild, mut tally) = open::<S>(cabinet, repair)?;
+    let (mut rebuild, mut tally) = open::<S>(cabinet, repair, screen)?;
     let mut unused = None;
     shares.skip_to::<S>(cabinet, repair, rebuild.next)?;
     for stripe in cabinet.stripes::<S>(rebuild.next) {
@@ -45,7 +44,7 @@ pub fn repair<S: Symbol>(
         let lost = lost.map_err(stripe.named())?;
         Unused::begin_or_say(&mut unused, &stripe, screen);
         rebuild.write([&lost[..]].into_iter())?;
-        progress::stripes(rebuild.next, stripes, screen);
+        progress::stripes(cabinet, rebuild.next, screen);
         if rebuild.is_due() {
             rebuild.save(0, 0, tally.line().into_bytes())?;
         }
@@ -59,6 +58,7 @@ pub fn repair<S: Symbol>(
 fn open<'a, S: Symbol>(
     cabinet: &'a Cabinet,
     repair: &Repair,
+    screen: &mut Screen,
 ) -> Result<(Rebuild<'a>, Tally), Failure> {
     let path = spare_path(cabinet, &repair.lost);
     let task = repair.task(cabinet);
@@ -70,7 +70,10 @@ fn open<'a, S: Symbol>(
     let tally = Tally::parse(&checkpoint.rest).filter(|(_, rest)| rest.is_empty());
     let rebuild = Rebuild::go_on::<S>(cabinet, what, checkpoint.stripe)?;
     match (rebuild, tally) {
-        (Some(rebuild), Some((tally, _))) => Ok((rebuild, tally)),
+        (Some(rebuild), Some((tally, _))) => {
+            progress::goes_on(cabinet, rebuild.next, screen);
+            Ok((rebuild, tally))
+        }
         _ => Err(foreign(&path)),
     }
 }
@@ -137,13 +140,14 @@ fn say_shares(cabinet: &Cabinet, repair: &Repair, tally: &Tally, screen: &mut Sc
     }
     for (rack, wrong) in &tally.wrong {
         let words = screen.paint(Paint::Warning, &format!("rack {rack} is stale"));
-        let place = match stripes {
-            1 => String::new(),
-            _ => format!(" in {wrong} of {}", count(stripes as usize, "stripe")),
+        let rest = match stripes {
+            1 => ": its share is wrong, and was set right by the others".to_string(),
+            _ => {
+                let stripes = count(stripes as usize, "stripe");
+                format!(" in {wrong} of {stripes}: its share is wrong there")
+            }
         };
-        screen.line(format!(
-            "  {words}{place}: its share is wrong, and was set right by the others"
-        ));
+        screen.line(format!("  {words}{rest}"));
     }
 }
 

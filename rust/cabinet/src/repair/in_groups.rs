@@ -74,6 +74,11 @@ impl<'a, S: Symbol> GroupRepair<'a, S> {
         u64::from(self.rebuild.next) * self.groups() + self.done
     }
 
+    /// The stripe under repair.
+    pub fn stripe_number(&self) -> u32 {
+        self.rebuild.next
+    }
+
     /// Groups done of the stripe under repair.
     pub fn groups_done(&self) -> u64 {
         self.done

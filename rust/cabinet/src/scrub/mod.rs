@@ -9,7 +9,7 @@ use crate::files::checkpoint::{Checkpoint, MOST_UNSAVED};
 use crate::files::stripe::Stripe;
 use crate::files::survey::Unused;
 use crate::files::{self, fingerprint};
-use crate::terminal::progress::{line_size, Place};
+use crate::terminal::progress::{self, Run};
 use crate::terminal::screen::Screen;
 use findings::Findings;
 use gesarumbo::ScrubRecord;
@@ -79,15 +79,23 @@ impl<'a> Scrub<'a> {
         &self.path
     }
 
-    /// Looks at the next layers, as many as the budget allows and are left.
+    /// Looks at the next layers, as many as the budget allows and are left, and says so where it goes
+    /// on.
     pub fn work<S: Symbol>(&mut self, budget: u64, screen: &mut Screen) -> Result<(), Failure> {
-        let mut lines = Lines::new(self.cabinet, self.findings.at, budget);
+        let layers = self.cabinet.numbers.layers;
+        let whole = layers as u64 * u64::from(self.cabinet.description.stripes);
+        let at = self.findings.at;
+        let end = at.saturating_add(budget).min(whole);
+        let mut run = Run::new(self.cabinet, "layer", layers, at..end);
+        if at > 0 {
+            progress::goes_on(self.cabinet, self.stripe, screen);
+        }
         let mut unused = None;
         for stripe in self.cabinet.stripes::<S>(self.stripe) {
             Unused::begin_or_say(&mut unused, &stripe, screen);
-            self.stripe(&stripe, &mut lines, screen)
+            self.stripe(&stripe, &mut run, screen)
                 .map_err(stripe.named())?;
-            if lines.is_over() {
+            if run.is_over() {
                 break;
             }
         }
@@ -98,7 +106,7 @@ impl<'a> Scrub<'a> {
     fn stripe<S: Symbol>(
         &mut self,
         stripe: &Stripe<S>,
-        lines: &mut Lines,
+        run: &mut Run,
         screen: &mut Screen,
     ) -> Result<(), Failure> {
         let codeword = stripe.codeword()?;
@@ -108,9 +116,9 @@ impl<'a> Scrub<'a> {
         let layers = self.cabinet.numbers.layers as u32;
         loop {
             let left = u64::from(layers - self.next);
-            self.look(&codeword, lines.budget().min(left))?;
-            lines.print(&self.findings, screen);
-            if lines.is_over() || self.next == layers {
+            let done = self.look(&codeword, run.budget().min(left))?;
+            run.advance(done, || self.findings.bad_words(), screen);
+            if run.is_over() || self.next == layers {
                 break;
             }
         }
@@ -128,8 +136,8 @@ impl<'a> Scrub<'a> {
     }
 
     /// Looks at some layers at once, and singly where one of them is bad: a layer is bad when the
-    /// library counts one more.
-    fn look<S: Symbol>(&mut self, codeword: &[S], budget: u64) -> Result<(), Failure> {
+    /// library counts one more. Gives how many they were.
+    fn look<S: Symbol>(&mut self, codeword: &[S], budget: u64) -> Result<u64, Failure> {
         let layers = self.cabinet.numbers.layers as u32;
         let call = |record: &mut ScrubRecord, budget| {
             (S::CALLS.scrub)(self.cabinet.description.layout, codeword, record, budget)
@@ -147,9 +155,10 @@ impl<'a> Scrub<'a> {
                 }
             }
         }
-        self.findings.at += u64::from(end - self.next);
+        let done = u64::from(end - self.next);
+        self.findings.at += done;
         self.next = end;
-        Ok(())
+        Ok(done)
     }
 
     /// Writes the checkpoint.
@@ -179,51 +188,6 @@ fn judge<S: Symbol>(cabinet: &Cabinet, checkpoint: &Checkpoint) -> Result<(), Fa
     (S::CALLS.scrub)(cabinet.description.layout, &zeros, &mut record, 0)
         .map(|_| ())
         .map_err(Failure::refused("scrub"))
-}
-
-/// When a line is printed, and where the budget ends.
-struct Lines {
-    place: Place,
-    /// Where the next line begins.
-    since: u64,
-    end: u64,
-}
-
-impl Lines {
-    fn new(cabinet: &Cabinet, at: u64, budget: u64) -> Lines {
-        let place = Place {
-            steps: cabinet.numbers.layers as u64,
-            stripes: cabinet.description.stripes.into(),
-            at,
-        };
-        Lines {
-            place,
-            since: at,
-            end: at.saturating_add(budget).min(place.steps * place.stripes),
-        }
-    }
-
-    fn size(&self) -> u64 {
-        line_size(self.place.steps * self.place.stripes)
-    }
-
-    /// How many layers may be looked at in one call.
-    fn budget(&self) -> u64 {
-        self.end.min(self.since + self.size()) - self.place.at
-    }
-
-    fn is_over(&self) -> bool {
-        self.place.at >= self.end
-    }
-
-    /// Prints a line if it is time for one.
-    fn print(&mut self, findings: &Findings, screen: &mut Screen) {
-        self.place.at = findings.at;
-        if self.is_over() || self.place.at - self.since >= self.size() {
-            screen.line(self.place.line("layer", self.since, &findings.bad_words()));
-            self.since = self.place.at;
-        }
-    }
 }
 
 fn foreign(path: &Path) -> Failure {

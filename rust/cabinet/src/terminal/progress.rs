@@ -12,11 +12,6 @@ const LINES: u64 = 8;
 const WIDTH: usize = 80;
 const MOST_CELLS: usize = 16;
 
-/// How much of a task of this size is done from line to line.
-pub fn line_size(whole: u64) -> u64 {
-    whole.div_ceil(LINES).max(1)
-}
-
 /// A bar of some cells, filled in proportion; something is never shown as nothing.
 pub fn bar(part: u64, whole: u64, cells: usize) -> String {
     let exact = u128::from(part) * cells as u128;
@@ -46,20 +41,44 @@ pub fn run(thing: &str, first: u64, end: u64) -> String {
     }
 }
 
-/// How far a task is that goes over all stripes, in steps of which each stripe has as many.
+/// How far a task is that goes over all stripes, in steps of which each stripe has as many: groups
+/// or layers.
 #[derive(Clone, Copy)]
-pub struct Place {
+struct Place {
     /// Steps of one stripe.
-    pub steps: u64,
-    pub stripes: u64,
+    steps: u64,
+    stripes: u64,
     /// Steps done of all stripes together.
-    pub at: u64,
+    at: u64,
 }
 
 impl Place {
-    /// Which steps were done since another place, and how far the whole is, with some words.
-    pub fn line(&self, thing: &str, since: u64, words: &str) -> String {
-        let (at, whole) = (self.at, self.steps * self.stripes);
+    fn of(cabinet: &Cabinet, steps: usize, at: u64) -> Place {
+        Place {
+            steps: steps as u64,
+            stripes: cabinet.description.stripes.into(),
+            at,
+        }
+    }
+
+    fn whole(&self) -> u64 {
+        self.steps * self.stripes
+    }
+
+    /// Where the next line ends that begins here: with a stripe, where there are several.
+    fn line_end(&self) -> u64 {
+        match self.stripes {
+            1 => self.at + self.steps.div_ceil(LINES),
+            _ => {
+                let size = self.steps * self.stripes.div_ceil(LINES);
+                (self.at / size + 1) * size
+            }
+        }
+    }
+
+    /// Which steps were done since a place, and how far the whole is, with some words.
+    fn line(&self, thing: &str, since: u64, words: &str) -> String {
+        let (at, whole) = (self.at, self.whole());
         if self.stripes == 1 {
             let wide = if thing == "group" { 3 } else { 4 };
             let which = run(thing, since, at);
@@ -81,27 +100,72 @@ impl Place {
     }
 }
 
-/// A line after each piece of a task without anything else to say: how many stripes are done.
-pub fn stripes(done: u32, all: u32, screen: &mut Screen) {
-    let (done, all) = (u64::from(done), u64::from(all));
-    if all > 1 && (done.is_multiple_of(line_size(all)) || done == all) {
-        let place = Place {
-            steps: 1,
-            stripes: all,
-            at: done,
-        };
+/// After a stripe of a task without anything else to say: how many stripes are done, if it is time
+/// for a line.
+pub fn stripes(cabinet: &Cabinet, done: u32, screen: &mut Screen) {
+    let place = Place::of(cabinet, 1, done.into());
+    let before = Place {
+        at: place.at - 1,
+        ..place
+    };
+    if place.stripes > 1 && (place.at == before.line_end() || place.at == place.stripes) {
         screen.line(place.line("stripe", 0, ""));
     }
 }
 
-/// How far a repair in groups is, and the lines that say so.
-pub struct Meter {
+/// Says with which stripe a task goes on that was cut, where there are several.
+pub fn goes_on(cabinet: &Cabinet, stripe: u32, screen: &mut Screen) {
+    if cabinet.description.stripes > 1 {
+        screen.line(format!("  goes on with stripe {stripe}"));
+    }
+}
+
+/// A run of a task's steps, counted over all stripes, with a line from time to time.
+pub struct Run {
+    thing: &'static str,
     place: Place,
+    /// Where the line under way began, and where it ends.
+    line: Range<u64>,
+    end: u64,
+}
+
+impl Run {
+    /// A run of steps, of which each stripe has as many; it ends with the last stripe.
+    pub fn new(cabinet: &Cabinet, thing: &'static str, steps: usize, run: Range<u64>) -> Run {
+        let place = Place::of(cabinet, steps, run.start);
+        Run {
+            thing,
+            place,
+            line: place.at..place.line_end(),
+            end: run.end,
+        }
+    }
+
+    /// How many steps may be done in one call.
+    pub fn budget(&self) -> u64 {
+        self.line.end.min(self.end) - self.place.at
+    }
+
+    /// Whether all steps of the run are done.
+    pub fn is_over(&self) -> bool {
+        self.place.at >= self.end
+    }
+
+    /// Counts steps that were done, and prints a line with some words if it is time for one.
+    pub fn advance(&mut self, steps: u64, words: impl FnOnce() -> String, screen: &mut Screen) {
+        self.place.at += steps;
+        if self.is_over() || self.place.at >= self.line.end {
+            screen.line(self.place.line(self.thing, self.line.start, &words()));
+            self.line = self.place.at..self.place.line_end();
+        }
+    }
+}
+
+/// How far a repair in groups is: which groups are next, and what has crossed.
+pub struct Meter {
+    run: Run,
     /// The stripe under repair.
     stripe: u64,
-    /// Where the next line begins.
-    since: u64,
-    end: u64,
     /// Symbols of a group that cross.
     of_group: u64,
     crossed: u64,
@@ -112,16 +176,10 @@ impl Meter {
     pub fn new(cabinet: &Cabinet, lost: usize, run: Range<u64>) -> Meter {
         let of_group = (lost * cabinet.numbers.helpers) as u64;
         Meter {
-            place: Place {
-                steps: cabinet.numbers.groups() as u64,
-                stripes: cabinet.description.stripes.into(),
-                at: run.start,
-            },
-            stripe: 0,
-            since: run.start,
-            end: run.end,
-            of_group,
             crossed: run.start * of_group,
+            run: Run::new(cabinet, "group", cabinet.numbers.groups(), run),
+            stripe: 0,
+            of_group,
         }
     }
 
@@ -133,41 +191,35 @@ impl Meter {
 
     /// The next group of the stripe under repair, which may be past its last.
     pub fn group(&self) -> u64 {
-        self.place.at - self.stripe * self.place.steps
+        self.run.place.at - self.stripe * self.run.place.steps
     }
 
     /// Whether all groups of the stripe under repair are done.
     pub fn is_past(&self) -> bool {
-        self.group() >= self.place.steps
+        self.group() >= self.run.place.steps
     }
 
     /// Whether all groups of the run are done.
     pub fn is_over(&self) -> bool {
-        self.place.at >= self.end
+        self.run.is_over()
     }
 
     /// How many groups may be done in one call.
     pub fn budget(&self) -> u64 {
-        let line = self.since + self.line_size();
-        line.min(self.end) - self.place.at
-    }
-
-    fn line_size(&self) -> u64 {
-        line_size(self.place.steps * self.place.stripes)
+        self.run.budget()
     }
 
     /// Counts what a call has done, and prints a line if it is time for one.
     pub fn advance(&mut self, done: &Repaired, screen: &mut Screen) {
-        let later = (self.place.stripes - self.stripe - 1) * self.place.steps * self.of_group;
-        self.place.at += done.groups;
+        let place = self.run.place;
+        let later = (place.stripes - self.stripe - 1) * place.steps * self.of_group;
         self.crossed += done.crossed;
         let (crossed, remaining) = (self.crossed, done.remaining + later);
-        if self.is_over() || self.place.at - self.since >= self.line_size() {
+        let words = || {
             let wide = (crossed + remaining).to_string().len();
-            let words = format!("{crossed:>wide$} crossed, {remaining:>wide$} to come");
-            screen.line(self.place.line("group", self.since, &words));
-            self.since = self.place.at;
-        }
+            format!("{crossed:>wide$} crossed, {remaining:>wide$} to come")
+        };
+        self.run.advance(done.groups, words, screen);
     }
 }
 

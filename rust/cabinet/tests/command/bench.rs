@@ -94,18 +94,28 @@ impl Bench {
         files
     }
 
+    /// The command on the words of a line, not run yet.
+    pub fn command(&self, line: &str) -> Command {
+        let mut command = Command::new(env!("CARGO_BIN_EXE_cabinet"));
+        command
+            .args(line.split_whitespace())
+            .current_dir(&self.place);
+        command
+    }
+
     /// Runs the command on the words of a line.
     pub fn run(&self, line: &str) -> Ended {
-        let output = Command::new(env!("CARGO_BIN_EXE_cabinet"))
-            .args(line.split_whitespace())
-            .current_dir(&self.place)
-            .output()
-            .expect("the command can be run");
-        Ended {
-            status: output.status.code().expect("the command ends by itself"),
-            out: String::from_utf8(output.stdout).expect("the output is text"),
-            err: String::from_utf8(output.stderr).expect("the messages are text"),
-        }
+        ended(&mut self.command(line))
+    }
+
+    /// Runs lines of the shell, in which `$cabinet` is the command.
+    pub fn shell(&self, lines: &str) -> Ended {
+        let mut command = Command::new("sh");
+        command
+            .args(["-c", lines])
+            .env("cabinet", env!("CARGO_BIN_EXE_cabinet"))
+            .current_dir(&self.place);
+        ended(&mut command)
     }
 
     /// Runs a line that must be done, and gives what it printed.
@@ -132,6 +142,16 @@ impl Bench {
         assert!(message.contains(&words), "{line}: {message}");
         assert!(before == self.snapshot("."), "{line}: a file has changed");
         message
+    }
+}
+
+/// Runs a command up to its end.
+pub fn ended(command: &mut Command) -> Ended {
+    let output = command.output().expect("the command can be run");
+    Ended {
+        status: output.status.code().expect("the command ends by itself"),
+        out: String::from_utf8(output.stdout).expect("the output is text"),
+        err: String::from_utf8(output.stderr).expect("the messages are text"),
     }
 }
 
