@@ -208,8 +208,8 @@ mod tests {
         let admitted = conditions
             .iter()
             .all(|condition| condition.verdict == Verdict::Holds);
-        let measured = field.measure(layout);
-        assert_eq!(admitted, measured.is_ok(), "{}", field.named(layout));
+        let numbers = field.numbers(layout);
+        assert_eq!(admitted, numbers.is_ok(), "{}", field.named(layout));
         admitted
     }
 

@@ -3,7 +3,7 @@
 use crate::code::symbol::Symbol;
 use crate::failure::Failure;
 use crate::terminal::arguments::{Arguments, Setting};
-use gesarumbo::{Layout, Measured, Refusal};
+use gesarumbo::{Layout, Numbers, Refusal};
 
 pub const FIELD: Setting = Setting::with(
     "--field",
@@ -87,8 +87,8 @@ impl Field {
     }
 
     /// The library's numbers of a layout in this field.
-    pub fn measure(self, layout: Layout) -> Result<Measured, Refusal> {
-        in_field!(self, measure(layout))
+    pub fn numbers(self, layout: Layout) -> Result<Numbers, Refusal> {
+        in_field!(self, numbers(layout))
     }
 
     /// The field that is asked for, if any is.
@@ -105,6 +105,6 @@ fn width<S: Symbol>() -> usize {
     S::WIDTH
 }
 
-fn measure<S: Symbol>(layout: Layout) -> Result<Measured, Refusal> {
-    (S::CALLS.measure)(layout)
+fn numbers<S: Symbol>(layout: Layout) -> Result<Numbers, Refusal> {
+    (S::CALLS.numbers)(layout)
 }

@@ -1,4 +1,4 @@
-//! A layout and the row of its numbers B, u, k, d and E, as lists, name plates and images have it.
+//! A layout and the row of its numbers B, u, k, d and E, as lists, descriptions and images have it.
 //! The fifth is left out where it is 0.
 
 use gesarumbo::Layout;

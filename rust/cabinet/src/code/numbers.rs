@@ -1,40 +1,25 @@
-//! A layout's numbers, worked out from document 01's rules and held against the library's answer.
+//! A layout's numbers, as the library gives them, and what the command says of them.
 
 use crate::code::conditions::{conditions, Verdict};
 use crate::code::field::Field;
 use crate::failure::Failure;
 use crate::terminal::words::count;
-use gesarumbo::{Layout, Measured, Rack, Tray};
+use gesarumbo::{Layout, Rack, Tray};
+use std::ops::Deref;
 
-/// The numbers of an admissible layout.
+/// The numbers of an admissible layout of a field.
 #[derive(Clone, Copy, Debug)]
 pub struct Numbers {
-    pub layout: Layout,
     pub field: Field,
-    /// B, racks.
-    pub racks: usize,
-    /// u, trays in a rack.
-    pub size: usize,
-    /// k, trays' worth of data.
-    pub dimension: usize,
-    /// d, helper racks in a repair.
-    pub helpers: usize,
-    /// E, helpers that may send a wrong share.
-    pub errors: usize,
-    /// n, trays in all.
-    pub trays: usize,
-    /// K, whole racks in k.
-    pub whole: usize,
-    /// v, trays of k beyond whole racks.
-    pub over: usize,
-    /// r, trays that may be lost, and checks in a layer.
-    pub checks: usize,
-    /// R, checks that speak only of rack sums.
-    pub rack_checks: usize,
-    /// s, the base in which layers are written.
-    pub base: usize,
-    /// L, symbols in a tray.
-    pub layers: usize,
+    numbers: gesarumbo::Numbers,
+}
+
+impl Deref for Numbers {
+    type Target = gesarumbo::Numbers;
+
+    fn deref(&self) -> &gesarumbo::Numbers {
+        &self.numbers
+    }
 }
 
 impl Numbers {
@@ -45,50 +30,15 @@ impl Numbers {
             .into_iter()
             .find(|condition| condition.verdict == Verdict::Fails);
         let name = field.named(layout);
-        match (field.measure(layout), failing) {
-            (Ok(measured), None) => Numbers::work_out(layout, field).agreeing_with(measured),
+        match (field.numbers(layout), failing) {
+            (Ok(numbers), None) => Ok(Numbers { field, numbers }),
             (Err(refusal), Some(condition)) => Err(Failure::Refused {
                 about: format!("layout {name}: {condition}"),
                 refusal,
             }),
-            _ => Err(disagreement(&name)),
-        }
-    }
-
-    fn work_out(layout: Layout, field: Field) -> Numbers {
-        let racks = layout.racks as usize;
-        let size = layout.size as usize;
-        let dimension = layout.dimension as usize;
-        let helpers = layout.helpers as usize;
-        let errors = layout.errors as usize;
-        let whole = dimension / size;
-        let base = helpers + 1 - whole - 2 * errors;
-        Numbers {
-            layout,
-            field,
-            racks,
-            size,
-            dimension,
-            helpers,
-            errors,
-            trays: racks * size,
-            whole,
-            over: dimension % size,
-            checks: racks * size - dimension,
-            rack_checks: racks - whole,
-            base,
-            layers: base.pow(layout.racks),
-        }
-    }
-
-    fn agreeing_with(self, measured: Measured) -> Result<Numbers, Failure> {
-        let ours = [self.layers, self.checks, self.traffic()];
-        let theirs =
-            [measured.layers, measured.checks, measured.traffic].map(|number| number as usize);
-        if ours == theirs {
-            Ok(self)
-        } else {
-            Err(disagreement(&self.name()))
+            _ => Err(Failure::Internal(format!(
+                "layout {name}: the command and the library disagree"
+            ))),
         }
     }
 
@@ -97,38 +47,10 @@ impl Numbers {
         self.field.named(self.layout)
     }
 
-    /// Lost trays of one rack that a repair can do: u − v, or one where a share may be wrong.
-    pub fn most_lost(&self) -> usize {
-        match self.errors {
-            0 => self.size - self.over,
-            _ => 1,
-        }
-    }
-
-    /// L/s: groups in a repair, and symbols in a share.
-    pub fn groups(&self) -> usize {
-        self.layers / self.base
-    }
-
-    /// d·L/s: symbols that cross to the host rack in a repair by shares.
-    pub fn traffic(&self) -> usize {
-        self.helpers * self.groups()
-    }
-
-    /// k·L: bytes of data, and symbols that a plain recovery reads.
-    pub fn data(&self) -> usize {
-        self.dimension * self.layers
-    }
-
     /// (k − u + 1)·L: symbols of a plain recovery that come from other racks, where the lost
     /// tray's own rack gives its u − 1 other trays.
     pub fn plain_crossing(&self) -> usize {
         (self.dimension + 1 - self.size) * self.layers
-    }
-
-    /// n·L: symbols of a codeword.
-    pub fn codeword(&self) -> usize {
-        self.trays * self.layers
     }
 
     /// How many racks may be lost whole, in words: any r trays may be, of whichever racks.
@@ -164,10 +86,4 @@ impl Numbers {
         self.all_trays()
             .filter(move |tray| self.rack_of(*tray) == rack)
     }
-}
-
-fn disagreement(name: &str) -> Failure {
-    Failure::Internal(format!(
-        "layout {name}: the command and the library disagree"
-    ))
 }

@@ -2,7 +2,7 @@
 
 use crate::code::field::Field;
 use gesarumbo::{
-    field257, Corrected, Layout, Measured, Rack, Refusal, Repaired, ScrubRecord, Scrubbed, Tested,
+    field257, Corrected, Layout, Numbers, Rack, Refusal, Repaired, ScrubRecord, Scrubbed, Tested,
     Tray,
 };
 use std::ops::Range;
@@ -39,7 +39,7 @@ type Answer<T> = Result<T, Refusal>;
 /// The library's calls that are the same in either field.
 #[allow(clippy::type_complexity)] // they have as many parameters
 pub struct Calls<S: 'static> {
-    pub measure: fn(Layout) -> Answer<Measured>,
+    pub numbers: fn(Layout) -> Answer<Numbers>,
     pub test: fn(Layout, &[S]) -> Answer<Tested>,
     pub store: fn(Layout, &[S], &mut [S]) -> Answer<()>,
     pub recover: fn(Layout, &mut [S], &[Tray]) -> Answer<()>,
@@ -62,7 +62,7 @@ pub struct Calls<S: 'static> {
 macro_rules! calls {
     ($module:ident) => {
         Calls {
-            measure: $module::measure,
+            numbers: $module::numbers,
             test: $module::test,
             store: $module::store,
             recover: $module::recover,
@@ -114,8 +114,8 @@ impl Symbol for u16 {
     }
 
     fn read_image(layout: Layout, volume: u32, image: &[u8]) -> Answer<(Tray, Vec<u16>)> {
-        let layers = field257::measure(layout)?.layers;
-        let mut symbols = vec![0; layers as usize];
+        let layers = field257::numbers(layout)?.layers;
+        let mut symbols = vec![0; layers];
         let tray = field257::read_image(layout, volume, image, &mut symbols)?;
         Ok((tray, symbols))
     }

@@ -96,7 +96,7 @@ fn print<S: Symbol>(place: &Place, path: &Path, screen: &mut Screen) -> Result<(
         helpers,
         group,
     } = place;
-    let mut card = vec![S::default(); numbers.helpers * numbers.base];
+    let mut card = vec![S::default(); numbers.helpers * numbers.digits];
     (S::CALLS.card)(numbers.layout, *lost, helpers, *group, &mut card)
         .map_err(Failure::refused(place.name()))?;
     let lines = card::lines(&card, numbers.helpers);

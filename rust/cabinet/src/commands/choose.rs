@@ -9,7 +9,7 @@ use crate::terminal::arguments::{needed, Arguments, Setting};
 use crate::terminal::screen::Screen;
 use crate::terminal::traffic::percent;
 use crate::terminal::words::{count, grouped};
-use gesarumbo::{field257, Layout, Numbers, Refusal};
+use gesarumbo::{Layout, Numbers, Refusal};
 use std::cmp::Ordering;
 
 const TRAYS: Setting = Setting::with("--trays", "N", "the trays in all");
@@ -140,10 +140,7 @@ struct Choice {
 
 impl Choice {
     fn of(layout: Layout, field: Field) -> Option<Choice> {
-        let numbers = match field {
-            Field::Of256 => gesarumbo::numbers(layout),
-            Field::Of257 => field257::numbers(layout),
-        };
+        let numbers = field.numbers(layout);
         numbers.ok().map(|numbers| Choice { field, numbers })
     }
 

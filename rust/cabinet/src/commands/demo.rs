@@ -186,14 +186,14 @@ fn repair_in_pieces(cabinet: &Cabinet, screen: &mut Screen) -> Result<(), Failur
     judge::<u8>(&cabinet.numbers, &repair, 0)?;
     screen.line(format!(
         "  Racks 0, 2 and 3 send {} symbols each to rack {}.",
-        cabinet.numbers.groups(),
+        cabinet.numbers.groups,
         repair.host(cabinet)
     ));
     let open = || GroupRepair::<u8>::open(cabinet, &repair, spare_path(cabinet, &repair.lost));
     open()?.work(&mut Shares::OfTrays, &[], 0..BROKEN_OFF, screen)?;
     screen.line("  The power fails here; the spare is kept, and the repair goes on from it.");
     let mut work = open()?;
-    let rest = work.position()..cabinet.numbers.groups() as u64;
+    let rest = work.position()..cabinet.numbers.groups as u64;
     work.work(&mut Shares::OfTrays, &[], rest, screen)?;
     work.finish(screen)?;
     screen.gap();

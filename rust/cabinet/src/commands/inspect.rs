@@ -85,8 +85,8 @@ enum Found {
 
 /// Reads the images of all stripes.
 fn look<S: Symbol>(mut file: BufReader<File>, expected: &Description) -> io::Result<Found> {
-    let layers = (S::CALLS.measure)(expected.layout).map_or(0, |measured| measured.layers);
-    let size = HEADER + S::WIDTH * layers as usize;
+    let layers = (S::CALLS.numbers)(expected.layout).map_or(0, |numbers| numbers.layers);
+    let size = HEADER + S::WIDTH * layers;
     let mut tray = None;
     for stripe in 0..expected.stripes {
         let last = stripe + 1 == expected.stripes;

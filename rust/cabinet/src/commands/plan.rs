@@ -84,8 +84,8 @@ fn print_numbers(numbers: &Numbers, screen: &mut Screen) {
             numbers.checks,
         ),
         ("K", "whole racks in k", "k/u", numbers.whole),
-        ("v", "trays of k beyond them", "k mod u", numbers.over),
-        ("R", "checks on rack sums", "B - K", numbers.rack_checks),
+        ("v", "trays of k beyond them", "k mod u", numbers.part),
+        ("R", "checks on rack sums", "B - K", numbers.parity_racks),
         ("d", "helper racks in a repair", "", numbers.helpers),
         (
             "E",
@@ -93,15 +93,15 @@ fn print_numbers(numbers: &Numbers, screen: &mut Screen) {
             "",
             numbers.errors,
         ),
-        ("s", "layers in a group", base, numbers.base),
+        ("s", "layers in a group", base, numbers.digits),
         ("L", "symbols in a tray, layers", "s^B", numbers.layers),
-        ("", "groups in a repair", "L/s", numbers.groups()),
-        ("", "symbols in a share", "L/s", numbers.groups()),
+        ("", "groups in a repair", "L/s", numbers.groups),
+        ("", "symbols in a share", "L/s", numbers.groups),
         (
             "",
             "lost trays of one rack at a time",
             most_lost,
-            numbers.most_lost(),
+            numbers.lost_at_once(),
         ),
     ];
     screen.heading(format!("Layout {}", numbers.name()));
@@ -131,7 +131,7 @@ fn print_room(numbers: &Numbers, screen: &mut Screen) {
 }
 
 fn print_survival(numbers: &Numbers, screen: &mut Screen) {
-    let Numbers { checks, trays, .. } = *numbers;
+    let (checks, trays) = (numbers.checks, numbers.trays);
     let lost = count(checks, "lost tray");
     screen.heading("What it survives");
     screen.line(format!(
@@ -153,7 +153,7 @@ fn print_traffic(numbers: &Numbers, screen: &mut Screen) {
     }
     let crossing = numbers.plain_crossing();
     if crossing < numbers.data() {
-        let part = percent(numbers.traffic(), crossing);
+        let part = percent(numbers.traffic, crossing);
         screen.line(format!(
             "  {} of the {} would come from other racks; shares are {part:.1} % of these",
             grouped(crossing),

@@ -27,7 +27,7 @@ pub fn tell(screen: &mut Screen) -> Result<(), Failure> {
     screen.line(format!(
         "  Tray {LOST} is lost: {} send shares, {} in all in place of {}.",
         count(numbers.helpers, "rack"),
-        count(numbers.traffic(), "symbol"),
+        count(numbers.traffic, "symbol"),
         numbers.data()
     ));
     let lost = &codeword[LOST.number() as usize * numbers.layers..][..numbers.layers];
@@ -52,11 +52,11 @@ fn store(numbers: &Numbers) -> Result<Vec<u16>, Failure> {
 
 /// The lost tray from shares.
 fn repaired(numbers: &Numbers, codeword: &[u16]) -> Result<Vec<u16>, Failure> {
-    let racks: Vec<&[u16]> = codeword.chunks(numbers.size * numbers.layers).collect();
+    let racks: Vec<&[u16]> = codeword.chunks(numbers.rack()).collect();
     let rack = |rack: Rack| racks[rack.number() as usize];
     let host = numbers.rack_of(LOST);
-    let mut shares = vec![0; numbers.traffic()];
-    for (helper, share) in HELPERS.iter().zip(shares.chunks_mut(numbers.groups())) {
+    let mut shares = vec![0; numbers.traffic];
+    for (helper, share) in HELPERS.iter().zip(shares.chunks_mut(numbers.groups)) {
         (u16::CALLS.share_many)(LAYOUT, 1, host, *helper, rack(*helper), share)
             .map_err(Failure::refused("share"))?;
     }

@@ -141,7 +141,7 @@ fn under_repair<'a, S: Symbol>(
 ) -> Result<Reading<'a, S>, Failure> {
     let path = checkpoint_path(arguments, stripe.cabinet, &[lost]);
     let (reading, origin) = Reading::open(stripe, lost, &path)?;
-    let (done, groups) = (reading.done, stripe.cabinet.numbers.groups());
+    let (done, groups) = (reading.done, stripe.cabinet.numbers.groups);
     screen.line(format!(
         "  tray {lost} is under repair: {done} of {groups} groups are done"
     ));

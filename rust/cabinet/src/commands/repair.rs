@@ -161,7 +161,7 @@ fn in_groups<S: Symbol>(
         first,
         budget,
     } = asked;
-    let total = u64::from(cabinet.description.stripes) * cabinet.numbers.groups() as u64;
+    let total = u64::from(cabinet.description.stripes) * cabinet.numbers.groups as u64;
     // Within all stripes a first group is never too large for the library, past them it always is.
     let past = first.filter(|first| *first > total).unwrap_or(0);
     judge::<S>(&cabinet.numbers, repair, past)?;

@@ -75,7 +75,7 @@ fn share<S: Symbol>(
     screen.heading(cabinet.description.words());
     screen.line(format!(
         "  rack {helper} sends {sent} symbols to rack {host}, {} are in its trays",
-        numbers.size * numbers.layers * stripes as usize
+        numbers.rack() * stripes as usize
     ));
     draft::publish(vec![draft])
 }

@@ -27,14 +27,14 @@ pub fn tell(screen: &mut Screen) -> Result<(), Failure> {
     ));
     let codeword = stored(&numbers)?;
     let layers = numbers.layers;
-    let racks: Vec<&[u8]> = codeword.chunks(numbers.size * layers).collect();
+    let racks: Vec<&[u8]> = codeword.chunks(numbers.rack()).collect();
     let rack = |rack: Rack| racks[rack.number() as usize];
-    let mut shares = vec![0; numbers.traffic()];
+    let mut shares = vec![0; numbers.traffic];
     let host = numbers.rack_of(LOST);
-    for (helper, sent) in HELPERS.iter().zip(shares.chunks_mut(numbers.groups())) {
+    for (helper, sent) in HELPERS.iter().zip(shares.chunks_mut(numbers.groups)) {
         share(LAYOUT, host, *helper, rack(*helper), sent).map_err(Failure::refused("share"))?;
     }
-    shares[STALE * numbers.groups()..][..3].fill(0xEE);
+    shares[STALE * numbers.groups..][..3].fill(0xEE);
     let mut spare = vec![0; layers];
     let done = repair_correcting(LAYOUT, LOST, &HELPERS, &shares, rack(host), &mut spare)
         .map_err(Failure::refused("repair"))?;

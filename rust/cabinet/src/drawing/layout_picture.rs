@@ -143,17 +143,11 @@ fn lost(numbers: &Numbers) -> Tray {
 
 /// The words below the title.
 fn words(numbers: &Numbers) -> String {
-    let Numbers {
-        racks,
-        size,
-        layers,
-        dimension,
-        checks,
-        ..
-    } = *numbers;
+    let (racks, size) = (numbers.racks, numbers.size);
+    let (dimension, checks) = (numbers.dimension, numbers.checks);
     let mut parts = vec![
         format!("{racks} racks of {}", count(size, "tray")),
-        format!("{} a tray", count(layers, "symbol")),
+        format!("{} a tray", count(numbers.layers, "symbol")),
         format!(
             "{} of data and {checks} of parity",
             count(dimension, "tray")
@@ -196,9 +190,9 @@ fn draw_ways(numbers: &Numbers, grid: &Grid, svg: &mut Svg) {
     }
     svg.line("arrow", &[[host, way], [host, host_foot + HEAD]]);
     for rack in 1..=numbers.helpers {
-        draw_share(numbers.groups(), grid.foot(rack), svg);
+        draw_share(numbers.groups, grid.foot(rack), svg);
     }
-    let arriving = format!("{} to rack 0", count(numbers.traffic(), "symbol"));
+    let arriving = format!("{} to rack 0", count(numbers.traffic, "symbol"));
     svg.text("small", [host - 8, way + 20], arriving);
 }
 
@@ -237,7 +231,7 @@ fn draw_tray(numbers: &Numbers, grid: &Grid, tray: Tray, [x, y]: [usize; 2], svg
 
 /// Two bars: what crosses by shares, and what a plain recovery reads.
 fn draw_traffic(numbers: &Numbers, top: usize, svg: &mut Svg) {
-    let (shares, plain) = (numbers.traffic(), numbers.data());
+    let (shares, plain) = (numbers.traffic, numbers.data());
     svg.rect("panel", [EDGE - 20, top], [INNER + 40, PANEL - 24]);
     svg.text("strong", [EDGE, top + 30], "Traffic when one tray is lost");
     let by_shares = format!(

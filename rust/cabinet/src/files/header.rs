@@ -31,8 +31,8 @@ impl Header {
     /// Bytes of an image of the layout that it claims, if that is admissible.
     pub fn image_size(&self) -> Option<usize> {
         let Description { layout, field, .. } = self.claimed();
-        let layers = field.measure(layout).ok()?.layers;
-        Some(HEADER + field.width() * layers as usize)
+        let layers = field.numbers(layout).ok()?.layers;
+        Some(HEADER + field.width() * layers)
     }
 
     /// One line a number.

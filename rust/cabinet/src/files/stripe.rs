@@ -332,7 +332,7 @@ impl<S: Symbol> Stripe<'_, S> {
         let about = format!("share of rack {helper} for {trays} of rack {host}");
         // Any count above a rack's trays is refused as one more than these is.
         let count = count.min(layout.size + 1);
-        let mut share = vec![S::default(); count as usize * numbers.groups()];
+        let mut share = vec![S::default(); count as usize * numbers.groups];
         let mut call = |rack: &[S]| {
             let shared = match count {
                 1 => (S::CALLS.share)(layout, host, helper, rack, &mut share),
@@ -341,7 +341,7 @@ impl<S: Symbol> Stripe<'_, S> {
             shared.map_err(Failure::refused(&about))
         };
         // The library judges the numbers first, over zeros; then there is a rack to read.
-        call(&vec![S::default(); numbers.size * numbers.layers])?;
+        call(&vec![S::default(); numbers.rack()])?;
         call(&self.joined(numbers.trays_of(helper), &[])?)?;
         Ok(share)
     }

@@ -20,8 +20,8 @@ use gesarumbo::{Corrected, Rack, Tested, Tray};
 /// Lets the library judge the numbers of a repair before any share is needed: a repair over zeros,
 /// which meet the checks.
 pub fn judge<S: Symbol>(numbers: &Numbers, lost: Tray, helpers: &[Rack]) -> Result<(), Failure> {
-    let shares = vec![S::default(); numbers.traffic()];
-    let host = vec![S::default(); numbers.size * numbers.layers];
+    let shares = vec![S::default(); numbers.traffic];
+    let host = vec![S::default(); numbers.rack()];
     let mut spare = vec![S::default(); numbers.layers];
     (S::CALLS.repair_correcting)(numbers.layout, lost, helpers, &shares, &host, &mut spare)
         .map(|_| ())
@@ -127,7 +127,7 @@ fn without_named<S: Symbol>(
 /// What crossed, and whose shares were wrong.
 fn say_shares(cabinet: &Cabinet, repair: &Repair, tally: &Tally, screen: &mut Screen) {
     let stripes = cabinet.description.stripes;
-    let crossed = cabinet.numbers.traffic() * stripes as usize;
+    let crossed = cabinet.numbers.traffic * stripes as usize;
     let (racks, crossed) = (
         count(repair.helpers.len(), "rack"),
         count(crossed, "symbol"),

@@ -66,7 +66,7 @@ impl<'a, S: Symbol> GroupRepair<'a, S> {
 
     /// Groups of a stripe.
     fn groups(&self) -> u64 {
-        self.cabinet.numbers.groups() as u64
+        self.cabinet.numbers.groups as u64
     }
 
     /// Groups done of all stripes together.
@@ -202,14 +202,14 @@ impl<'a, S: Symbol> GroupRepair<'a, S> {
 /// Whether there is a card for each group of a stripe that is about to begin: then they are for all
 /// stripes.
 pub fn is_full_set<S>(cabinet: &Cabinet, cards: &[Vec<S>], first: u64) -> bool {
-    first == 0 && cards.len() == cabinet.numbers.groups()
+    first == 0 && cards.len() == cabinet.numbers.groups
 }
 
 /// The counts and the spare of a checkpoint, if its place is one of this cabinet.
 fn own_part<S: Symbol>(cabinet: &Cabinet, checkpoint: &Checkpoint) -> Option<(Tally, Vec<S>)> {
     let (tally, spare) = Tally::parse(&checkpoint.rest)?;
     let stripe = checkpoint.stripe < cabinet.description.stripes;
-    let step = checkpoint.step <= cabinet.numbers.groups() as u64;
+    let step = checkpoint.step <= cabinet.numbers.groups as u64;
     Some((tally, S::from_bytes(spare)?)).filter(|_| stripe && step)
 }
 

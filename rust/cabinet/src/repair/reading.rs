@@ -66,7 +66,7 @@ impl<'a, S: Symbol> Reading<'a, S> {
             }
             Some(checkpoint) if checkpoint.stripe > stripe.number => {
                 let spare = whole(stripe, lost).ok_or_else(|| foreign(path))?;
-                (spare, cabinet.numbers.groups() as u64, Origin::Known)
+                (spare, cabinet.numbers.groups as u64, Origin::Known)
             }
             Some(checkpoint) => {
                 let spare = spare_of(cabinet, checkpoint);
@@ -122,7 +122,7 @@ impl<'a, S: Symbol> Reading<'a, S> {
         (S::CALLS.read_part)(layout, store, spare, self.lost, self.done, tray, layers)
     }
 
-    /// Tests these layers of the spare with the other trays, by a walk over no others.
+    /// Tests these layers of the spare with the other trays, by a scrub of no others.
     fn test(&self, layers: Range<u32>) -> Result<Source, Failure> {
         let (cabinet, lost) = (self.stripe.cabinet, self.lost);
         let Some(codeword) = self.stripe.codeword_with(&[lost], &self.spare) else {

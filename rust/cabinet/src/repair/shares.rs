@@ -89,7 +89,7 @@ impl Shares {
 
 /// Bytes of one helper's shares for one stripe.
 fn size<S: Symbol>(cabinet: &Cabinet, repair: &Repair) -> u64 {
-    (repair.lost.len() * cabinet.numbers.groups() * S::WIDTH) as u64
+    (repair.lost.len() * cabinet.numbers.groups * S::WIDTH) as u64
 }
 
 /// The next symbols of a share's file, as many as are there.

@@ -25,8 +25,8 @@ pub fn judge<S: Symbol>(numbers: &Numbers, repair: &Repair, first: u64) -> Resul
     let over_zeros = StripeRepair {
         numbers: *numbers,
         repair,
-        shares: vec![S::default(); lost * numbers.traffic()],
-        host: vec![S::default(); numbers.size * numbers.layers],
+        shares: vec![S::default(); lost * numbers.traffic],
+        host: vec![S::default(); numbers.rack()],
     };
     over_zeros.groups(&mut spare, first, 0).map(|_| ())
 }

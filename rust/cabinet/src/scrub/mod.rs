@@ -180,7 +180,7 @@ impl<'a> Scrub<'a> {
     }
 }
 
-/// Lets the library judge a checkpoint's next layer: a walk over no layer of zeros.
+/// Lets the library judge a checkpoint's next layer: a scrub of zeros that looks at no layer.
 fn judge<S: Symbol>(cabinet: &Cabinet, checkpoint: &Checkpoint) -> Result<(), Failure> {
     let next = u32::try_from(checkpoint.step).unwrap_or(u32::MAX);
     let mut record = ScrubRecord::new(next, 0, cabinet.numbers.layers as u32);

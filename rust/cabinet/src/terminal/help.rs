@@ -10,8 +10,10 @@ pub const VERSION: &str = concat!("cabinet ", env!("CARGO_PKG_VERSION"));
 
 const OPENING: &str = "\
 Plans, stores, tests, recovers and repairs cabinets of trays. A cabinet is a
-folder of tray images, tray-00.img and on, with a name plate, cabinet.txt. Its
-symbols are bytes, or modulo 257 (--field 257) for racks of 2, 4, 8 or 16 trays.
+folder of tray files, tray-00.img and on, with a description, cabinet.txt. A
+file of any length is stored in stripes, each a codeword of its own; a tray file
+has the tray's image of every stripe. The symbols are bytes, or modulo 257
+(--field 257) for racks of 2, 4, 8 or 16 trays.
 
   cabinet COMMAND WORDS..      do it
   cabinet help COMMAND         what a command does, and how it is written

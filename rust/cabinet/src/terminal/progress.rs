@@ -177,7 +177,7 @@ impl Meter {
         let of_group = (lost * cabinet.numbers.helpers) as u64;
         Meter {
             crossed: run.start * of_group,
-            run: Run::new(cabinet, "group", cabinet.numbers.groups(), run),
+            run: Run::new(cabinet, "group", cabinet.numbers.groups, run),
             stripe: 0,
             of_group,
         }

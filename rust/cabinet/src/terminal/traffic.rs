@@ -7,7 +7,7 @@ use crate::terminal::words::{count, grouped};
 
 /// Prints both as bars, and what is saved.
 pub fn print(numbers: &Numbers, screen: &mut Screen) {
-    let (shares, plain) = (numbers.traffic(), numbers.data());
+    let (shares, plain) = (numbers.traffic, numbers.data());
     let bars = [
         ("by shares", shares, by_shares(numbers)),
         ("plain recovery", plain, by_trays(numbers)),
@@ -42,7 +42,7 @@ pub fn by_shares(numbers: &Numbers) -> String {
     format!(
         "{} of {}",
         count(numbers.helpers, "share"),
-        count(numbers.groups(), "symbol")
+        count(numbers.groups, "symbol")
     )
 }
 

@@ -66,9 +66,15 @@ fn files(bench: &Bench) -> Files {
     files
 }
 
-/// Every tray file and description must be one of those before or one of those after.
+/// Every tray file and description must be as it was before or as it is after, and none may be
+/// missing that is there before and after.
 fn assert_whole(bench: &Bench, before: &Files, after: &Files, trial: &str) {
-    for (name, bytes) in files(bench) {
+    let now = files(bench);
+    for (name, _) in before {
+        let has = |files: &Files| files.iter().any(|(other, _)| other == name);
+        assert!(has(&now) || !has(after), "{trial}: {name} is missing");
+    }
+    for (name, bytes) in now {
         let is = |(other, held): &(String, Vec<u8>)| *other == name && *held == bytes;
         let kept = name.ends_with(".spare") || name.ends_with("scrub.txt");
         let kept = kept || name.ends_with("recover.txt");

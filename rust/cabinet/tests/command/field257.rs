@@ -179,7 +179,7 @@ fn what_is_read_is_readable() {
 }
 
 #[test]
-fn a_walk_in_pieces() {
+fn a_scrub_in_pieces() {
     let bench = Bench::with_racks_of_four();
     let symbol = symbols(&bench, &image(9), 24)[20];
     bench.done("scrub c --budget 10");

@@ -258,7 +258,7 @@ fn images_in_words() {
     }
 }
 
-/// Without a name plate an image is held against its own claims, and a broken one still gets 9.
+/// Without a description an image is held against its own claims, and a broken one still gets 9.
 #[test]
 fn images_without_a_cabinet() {
     let bench = Bench::with_cabinet();

@@ -1,4 +1,5 @@
-//! Testing some layers at a time: the record between calls, the layers shown, and how a walk ends.
+//! Testing some layers at a time: the checkpoint between calls, the layers shown, and how a scrub
+//! ends.
 
 use crate::bench::{assert_readable, data, Bench};
 use crate::xml::assert_well_formed;
@@ -221,7 +222,7 @@ fn a_list_of_layers_that_disagrees_is_no_record() {
 }
 
 #[test]
-fn a_changed_tray_ends_the_walk() {
+fn a_changed_tray_ends_the_scrub() {
     let bench = Bench::with_cabinet();
     bench.done("scrub c --budget 5 --record kept");
     damage(&bench, 4, 1);
