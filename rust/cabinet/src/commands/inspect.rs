@@ -8,7 +8,7 @@ use crate::files;
 use crate::files::cabinet::HEADER;
 use crate::files::description::{self, Description};
 use crate::files::header::Header;
-use crate::files::stripe::next_image;
+use crate::files::tray_files::next_image;
 use crate::terminal::arguments::Arguments;
 use crate::terminal::screen::{Paint, Screen};
 use crate::terminal::words::count;

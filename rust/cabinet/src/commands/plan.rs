@@ -146,10 +146,7 @@ fn print_traffic(numbers: &Numbers, screen: &mut Screen) {
     screen.heading("Traffic when one tray is lost");
     traffic::print(numbers, screen);
     if numbers.errors == 0 {
-        screen.line(
-            "  no method in which each helper sends a fixed number of symbols needs fewer"
-                .to_string(),
-        );
+        screen.line("  no method in which each helper sends a fixed number of symbols needs fewer");
     }
     let crossing = numbers.plain_crossing();
     if crossing < numbers.data() {

@@ -156,31 +156,22 @@ fn in_groups<S: Symbol>(
     arguments: &Arguments,
     screen: &mut Screen,
 ) -> Result<(), Failure> {
-    let Asked {
-        repair,
-        first,
-        budget,
-    } = asked;
-    let total = u64::from(cabinet.description.stripes) * cabinet.numbers.groups as u64;
+    let (repair, total) = (&asked.repair, total(cabinet));
     // Within all stripes a first group is never too large for the library, past them it always is.
-    let past = first.filter(|first| *first > total).unwrap_or(0);
-    judge::<S>(&cabinet.numbers, repair, past)?;
+    let past = asked.first.filter(|first| *first > total);
+    judge::<S>(&cabinet.numbers, repair, past.unwrap_or(0))?;
     let cards = cards::<S>(repair, arguments)?;
     let mut shares = Shares::open::<S>(cabinet, repair, &arguments.values(SHARE))?;
     let path = checkpoint_path(arguments, cabinet, &repair.lost);
     let mut work = GroupRepair::<S>::open(cabinet, repair, path)?;
-    let first = start(*first, &work)?;
+    let first = start(asked.first, &work)?;
     if work.position() > 0 {
         progress::goes_on(cabinet, work.stripe_number(), screen);
     }
-    let budget = match cards.len() as u64 {
-        0 => *budget,
-        _ if is_full_set(cabinet, &cards, work.groups_done()) => u64::MAX,
-        cards => cards,
-    };
-    let end = match cards.is_empty() || budget == u64::MAX {
-        true => first.saturating_add(budget).min(total),
-        false => first + budget,
+    let end = match cards.len() as u64 {
+        0 => first.saturating_add(asked.budget).min(total),
+        _ if is_full_set(cabinet, &cards, first - work.stripe_start()) => total,
+        cards => first + cards,
     };
     work.work(&mut shares, &cards, first..end, screen)?;
     if work.is_whole() {
@@ -191,6 +182,11 @@ fn in_groups<S: Symbol>(
         "  the spare is kept in {place}; repair goes on with it"
     ));
     Ok(())
+}
+
+/// Groups of all stripes together.
+fn total(cabinet: &Cabinet) -> u64 {
+    u64::from(cabinet.description.stripes) * cabinet.numbers.groups as u64
 }
 
 /// The cards that are named, each of one group.
@@ -213,7 +209,7 @@ fn cards<S: Symbol>(repair: &Repair, arguments: &Arguments) -> Result<Vec<Vec<S>
 
 /// The group to begin with: no group may be left out, and stripes that are whole stay so.
 fn start<S: Symbol>(asked: Option<u64>, work: &GroupRepair<S>) -> Result<u64, Failure> {
-    let (done, whole) = (work.position(), work.position() - work.groups_done());
+    let (done, whole) = (work.position(), work.stripe_start());
     let but = match asked {
         Some(first) if first > done => format!(
             "only {done} groups are done, {} {first} would leave some out",

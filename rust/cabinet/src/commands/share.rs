@@ -7,7 +7,7 @@ use crate::failure::Failure;
 use crate::files::cabinet::Cabinet;
 use crate::files::description;
 use crate::files::draft::{self, Draft};
-use crate::files::stripe::TrayFiles;
+use crate::files::tray_files::TrayFiles;
 use crate::terminal::arguments::{needed, Arguments, Setting};
 use crate::terminal::progress;
 use crate::terminal::screen::Screen;

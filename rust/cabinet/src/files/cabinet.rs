@@ -2,7 +2,8 @@
 //! description that says what they must be.
 
 use super::description::Description;
-use super::stripe::{Stripe, TrayFiles};
+use super::stripe::Stripe;
+use super::tray_files::TrayFiles;
 use crate::code::numbers::Numbers;
 use crate::code::symbol::Symbol;
 use crate::failure::Failure;

@@ -9,6 +9,7 @@ pub mod header;
 pub mod rebuild;
 pub mod stripe;
 pub mod survey;
+pub mod tray_files;
 
 use crate::failure::Failure;
 use draft::Draft;

@@ -1,16 +1,11 @@
 //! One stripe of a cabinet: an image of every tray, and the codeword that they are.
 
 use super::cabinet::Cabinet;
-use super::header::Header;
 use crate::code::symbol::Symbol;
 use crate::failure::{ground, Failure};
-use crate::files;
 use crate::terminal::words;
 use gesarumbo::{Rack, Refusal, Tested, Tray, ABSENT, DEMONSTRATION, LIVE};
-use std::fs::File;
-use std::io::{self, BufReader, Read, Seek, SeekFrom};
-use std::marker::PhantomData;
-use std::path::Path;
+use std::io;
 
 /// What stands at a tray's place in a stripe.
 pub enum Found<S> {
@@ -45,7 +40,26 @@ impl Kind {
     }
 }
 
-impl<S> Found<S> {
+impl<S: Symbol> Found<S> {
+    /// What a tray's image of a stripe is; only the library decides whether it is handed out.
+    pub fn of(
+        cabinet: &Cabinet,
+        stripe: u32,
+        tray: Tray,
+        image: io::Result<Option<Vec<u8>>>,
+    ) -> Found<S> {
+        let image = match image {
+            Ok(Some(image)) => image,
+            Ok(None) => return Found::Absent,
+            Err(error) => return Found::Unreadable(error.to_string()),
+        };
+        match S::read_image(cabinet.description.layout, cabinet.volume(stripe), &image) {
+            Ok((found, symbols)) if found == tray => Found::Live(symbols),
+            Ok((found, _)) => Found::Misplaced(found),
+            Err(refusal) => Found::Refused(refusal),
+        }
+    }
+
     pub fn kind(&self) -> Kind {
         match self {
             Found::Live(_) => Kind::Live,
@@ -67,135 +81,18 @@ impl<S> Found<S> {
     }
 }
 
-/// A tray's file, as far as it is read.
-enum TrayFile {
-    Open(BufReader<File>),
-    Absent,
-    Unreadable(String),
-}
-
-/// Bytes of a tray's file that are read at once.
-const AT_ONCE: usize = 1 << 16;
-
-impl TrayFile {
-    fn open(path: &Path, from: u64) -> TrayFile {
-        let opened = files::open(path).and_then(|found| match found {
-            None => Ok(None),
-            Some((mut file, _)) => file.seek(SeekFrom::Start(from)).map(|_| Some(file)),
-        });
-        match opened {
-            Ok(Some(file)) => TrayFile::Open(BufReader::with_capacity(AT_ONCE, file)),
-            Ok(None) => TrayFile::Absent,
-            Err(error) => TrayFile::Unreadable(error.to_string()),
-        }
-    }
-
-    fn image(&mut self, size: usize, last: bool) -> io::Result<Option<Vec<u8>>> {
-        match self {
-            TrayFile::Open(file) => next_image(file, size, last).map(Some),
-            TrayFile::Absent => Ok(None),
-            TrayFile::Unreadable(error) => Err(io::Error::other(error.clone())),
-        }
-    }
-}
-
-/// The next image of a file, in which images have this size, or as much of it as there is. One whose
-/// header names another layout is as long as that says, and of the last one a byte more is read, if
-/// there is one: so the library refuses it on the right ground.
-pub fn next_image(file: &mut BufReader<File>, size: usize, last: bool) -> io::Result<Vec<u8>> {
-    let mut image = Vec::with_capacity(size + 1);
-    file.take(size as u64).read_to_end(&mut image)?;
-    let own = Header::of(&image).and_then(|header| header.image_size());
-    let own = own.unwrap_or(size);
-    let more = own.saturating_sub(size) + usize::from(last);
-    let read = file.take(more as u64).read_to_end(&mut image)?;
-    if !last {
-        file.seek_relative(-(read as i64))?;
-    }
-    if own < size {
-        image.truncate(own);
-    }
-    Ok(image)
-}
-
-/// The tray files of a cabinet, read stripe after stripe.
-pub struct TrayFiles<'a, S> {
-    cabinet: &'a Cabinet,
-    next: u32,
-    files: Vec<TrayFile>,
-    symbols: PhantomData<S>,
-}
-
-impl<'a, S: Symbol> TrayFiles<'a, S> {
-    /// The files of the wanted trays, from a stripe on; others are taken as absent.
-    pub fn open(cabinet: &'a Cabinet, wanted: impl Fn(Tray) -> bool, first: u32) -> Self {
-        let from = u64::from(first) * cabinet.image_size::<S>() as u64;
-        let open = |tray| match wanted(tray) {
-            true => TrayFile::open(&cabinet.image_path(tray), from),
-            false => TrayFile::Absent,
-        };
-        TrayFiles {
-            cabinet,
-            next: first,
-            files: cabinet.numbers.all_trays().map(open).collect(),
-            symbols: PhantomData,
-        }
-    }
-}
-
-impl<'a, S: Symbol> Iterator for TrayFiles<'a, S> {
-    type Item = Stripe<'a, S>;
-
-    fn next(&mut self) -> Option<Stripe<'a, S>> {
-        let (cabinet, number) = (self.cabinet, self.next);
-        if number >= cabinet.description.stripes {
-            return None;
-        }
-        self.next += 1;
-        let size = cabinet.image_size::<S>();
-        let last = self.next == cabinet.description.stripes;
-        let files = cabinet.numbers.all_trays().zip(&mut self.files);
-        let found = files
-            .map(|(tray, file)| found(cabinet, number, tray, file.image(size, last)))
-            .collect();
-        Some(Stripe {
-            cabinet,
-            number,
-            found,
-        })
-    }
-}
-
-/// What a tray's image is; only the library decides whether it is handed out.
-fn found<S: Symbol>(
-    cabinet: &Cabinet,
-    stripe: u32,
-    tray: Tray,
-    image: io::Result<Option<Vec<u8>>>,
-) -> Found<S> {
-    let image = match image {
-        Ok(Some(image)) => image,
-        Ok(None) => return Found::Absent,
-        Err(error) => return Found::Unreadable(error.to_string()),
-    };
-    match S::read_image(cabinet.description.layout, cabinet.volume(stripe), &image) {
-        Ok((found, symbols)) if found == tray => Found::Live(symbols),
-        Ok((found, _)) => Found::Misplaced(found),
-        Err(refusal) => Found::Refused(refusal),
-    }
-}
-
 /// A stripe with every tray's image read.
 pub struct Stripe<'a, S> {
     pub cabinet: &'a Cabinet,
     pub number: u32,
-    found: Vec<Found<S>>,
+    /// What stands at each tray's place.
+    pub all: Vec<Found<S>>,
 }
 
 impl<S: Symbol> Stripe<'_, S> {
     /// What stands at a tray's place; a tray outside the layout is absent.
     pub fn found(&self, tray: Tray) -> &Found<S> {
-        self.found
+        self.all
             .get(tray.number() as usize)
             .unwrap_or(&Found::Absent)
     }
@@ -207,7 +104,7 @@ impl<S: Symbol> Stripe<'_, S> {
 
     /// One kind a tray.
     pub fn kinds(&self) -> Vec<Kind> {
-        self.found.iter().map(Found::kind).collect()
+        self.all.iter().map(Found::kind).collect()
     }
 
     /// The trays that are not live.
@@ -258,7 +155,7 @@ impl<S: Symbol> Stripe<'_, S> {
     pub fn remains(&self) -> Vec<S> {
         let numbers = &self.cabinet.numbers;
         let mut codeword = vec![S::default(); numbers.codeword()];
-        for (place, found) in codeword.chunks_mut(numbers.layers).zip(&self.found) {
+        for (place, found) in codeword.chunks_mut(numbers.layers).zip(&self.all) {
             if let Found::Live(symbols) = found {
                 place.copy_from_slice(symbols);
             }

@@ -50,7 +50,7 @@ pub fn repair<S: Symbol>(
         }
     }
     say_shares(cabinet, repair, &tally, screen);
-    say_fit(&tally, repair.lost[0], screen);
+    say_fit(cabinet, repair.lost[0], &tally, screen);
     rebuild.publish()
 }
 
@@ -151,22 +151,20 @@ fn say_shares(cabinet: &Cabinet, repair: &Repair, tally: &Tally, screen: &mut Sc
     }
 }
 
-fn say_fit(tally: &Tally, lost: Tray, screen: &mut Screen) {
-    let sound = screen.paint(Paint::Good, "sound");
-    let whole = format!("  tray {lost} is whole");
+/// Which trays are sound together.
+fn say_fit(cabinet: &Cabinet, lost: Tray, tally: &Tally, screen: &mut Screen) {
     let racks: Vec<String> = tally.unfit.keys().map(u32::to_string).collect();
-    if racks.is_empty() {
-        return screen.line(match tally.untested {
-            0 => format!("{whole}; all trays together are {sound}"),
-            _ => format!("{whole}; not tested, other trays are missing"),
-        });
-    }
-    let racks = match racks.len() {
-        1 => format!("rack {}", racks[0]),
-        _ => format!("racks {}", racks.join(", ")),
+    let racks = match &racks[..] {
+        [] => {
+            let tested = tally.tested(cabinet, screen);
+            return screen.line(format!("  tray {lost} is whole; {tested}"));
+        }
+        [rack] => format!("rack {rack}"),
+        racks => format!("racks {}", racks.join(", ")),
     };
+    let sound = screen.paint(Paint::Good, "sound");
     screen.line(format!(
-        "{whole}; all trays but those of {racks} are {sound} together"
+        "  tray {lost} is whole; all trays but those of {racks} are {sound} together"
     ));
     let words = format!(
         "trays of {racks} hold wrong symbols: bring them back with cabinet recover and --erase"

@@ -1,5 +1,6 @@
 //! A repair some groups at a time, stripe after stripe, which can be cut anywhere.
 
+use super::meter::Meter;
 use super::shares::Shares;
 use super::stripe_repair::StripeRepair;
 use super::tally::Tally;
@@ -11,9 +12,9 @@ use crate::files::checkpoint::Checkpoint;
 use crate::files::rebuild::Rebuild;
 use crate::files::stripe::Stripe;
 use crate::files::survey::Unused;
-use crate::terminal::progress::Meter;
-use crate::terminal::screen::{Paint, Screen};
+use crate::terminal::screen::Screen;
 use gesarumbo::Tested;
+use std::ops::Range;
 use std::path::{Path, PathBuf};
 
 /// A repair as far as it has come.
@@ -69,19 +70,19 @@ impl<'a, S: Symbol> GroupRepair<'a, S> {
         self.cabinet.numbers.groups as u64
     }
 
+    /// The first group of the stripe under repair, counted over all stripes.
+    pub fn stripe_start(&self) -> u64 {
+        u64::from(self.rebuild.next) * self.groups()
+    }
+
     /// Groups done of all stripes together.
     pub fn position(&self) -> u64 {
-        u64::from(self.rebuild.next) * self.groups() + self.done
+        self.stripe_start() + self.done
     }
 
     /// The stripe under repair.
     pub fn stripe_number(&self) -> u32 {
         self.rebuild.next
-    }
-
-    /// Groups done of the stripe under repair.
-    pub fn groups_done(&self) -> u64 {
-        self.done
     }
 
     pub fn is_whole(&self) -> bool {
@@ -98,7 +99,7 @@ impl<'a, S: Symbol> GroupRepair<'a, S> {
         &mut self,
         shares: &mut Shares,
         cards: &[Vec<S>],
-        run: std::ops::Range<u64>,
+        run: Range<u64>,
         screen: &mut Screen,
     ) -> Result<(), Failure> {
         let (cabinet, repair) = (self.cabinet, self.repair);
@@ -188,13 +189,8 @@ impl<'a, S: Symbol> GroupRepair<'a, S> {
     /// Says whether all trays together are sound, and puts the new files in their places.
     pub fn finish(self, screen: &mut Screen) -> Result<(), Failure> {
         let (names, are) = self.repair.names();
-        screen.line(match self.tally.untested {
-            0 => {
-                let sound = screen.paint(Paint::Good, "sound");
-                format!("  {names} {are} whole; all trays together are {sound}")
-            }
-            _ => format!("  {names} {are} whole; not tested, other trays are missing"),
-        });
+        let tested = self.tally.tested(self.cabinet, screen);
+        screen.line(format!("  {names} {are} whole; {tested}"));
         self.rebuild.publish()
     }
 }

@@ -3,6 +3,7 @@
 pub mod card;
 pub mod correcting;
 pub mod in_groups;
+mod meter;
 pub mod reading;
 pub mod shares;
 pub mod stripe_repair;

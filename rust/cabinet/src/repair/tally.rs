@@ -1,5 +1,8 @@
 //! What a repair has found in the stripes that it has done.
 
+use crate::files::cabinet::Cabinet;
+use crate::terminal::screen::{Paint, Screen};
+use crate::terminal::words::count;
 use gesarumbo::Rack;
 use std::collections::BTreeMap;
 
@@ -23,6 +26,20 @@ impl Tally {
     /// Counts a stripe in which a rack's trays do not fit to the others.
     pub fn add_unfit(&mut self, rack: Rack) {
         *self.unfit.entry(rack.number()).or_default() += 1;
+    }
+
+    /// Whether all trays together are sound, in words.
+    pub fn tested(&self, cabinet: &Cabinet, screen: &Screen) -> String {
+        let stripes = cabinet.description.stripes;
+        let place = match self.untested {
+            0 => {
+                let sound = screen.paint(Paint::Good, "sound");
+                return format!("all trays together are {sound}");
+            }
+            all if all == stripes => String::new(),
+            some => format!(" in {some} of {}", count(stripes as usize, "stripe")),
+        };
+        format!("not tested{place}, other trays are missing")
     }
 
     /// The counts as a checkpoint has them.

@@ -526,6 +526,24 @@ fn a_stale_rack_is_named() {
     assert!(message.contains("stripe 2: "), "{message}");
 }
 
+/// A rack that neither hosts nor helps is not whole in one stripe: that one is not tested.
+#[test]
+fn stripes_that_are_not_tested_are_counted() {
+    let bench = Bench::new();
+    bench.write("data", &data(200));
+    bench.done("store 4 3 5 2 --volume 7 data c");
+    let before = bench.read(&image(1));
+    bench.remove(&image(1));
+    bench.poke(&image(10), 40 + 3, 2);
+    bench.done("repair c --lost 1 --helpers 1,2 --budget 17");
+    let out = bench.done("repair c --lost 1 --helpers 1,2");
+    assert!(
+        out.contains("not tested in 1 of 3 stripes, other trays"),
+        "{out}"
+    );
+    assert_eq!(bench.read(&image(1)), before);
+}
+
 #[test]
 fn a_store_that_was_cut_is_done_again() {
     let bench = cabinet();
