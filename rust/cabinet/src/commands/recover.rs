@@ -6,9 +6,10 @@ use crate::code::symbol::Symbol;
 use crate::failure::Failure;
 use crate::files::cabinet::Cabinet;
 use crate::files::checkpoint::Checkpoint;
-use crate::files::description;
 use crate::files::rebuild::{Rebuild, Rebuilding};
+use crate::files::stripe::Stripe;
 use crate::files::survey::Survey;
+use crate::files::{description, fingerprint};
 use crate::terminal::arguments::{Arguments, Setting};
 use crate::terminal::progress;
 use crate::terminal::screen::{Paint, Screen};
@@ -52,7 +53,7 @@ gives the data back.
 ";
 
 /// The checkpoint's file in a cabinet's folder.
-const NAME: &str = "recover.txt";
+pub const NAME: &str = "recover.txt";
 
 /// What the work is called in the names of work files.
 const WORK: &str = "recover";
@@ -84,7 +85,7 @@ fn recover<S: Symbol>(
         rebuild.write(erased.iter().map(symbols))?;
         progress::stripes(cabinet, rebuild.next, screen);
         if rebuild.is_due() && !erased.is_empty() {
-            rebuild.save(0, 0, Vec::new())?;
+            rebuild.save(0, fingerprint(&stripe), Vec::new())?;
         }
     }
     rebuild.publish()?;
@@ -119,12 +120,20 @@ fn open<'a, S: Symbol>(
     let of_another = |_: &Path| Failure::Contents(String::new());
     let found = Checkpoint::read(&what().path, |task| task == what().task, of_another);
     if let Ok(Some(checkpoint)) = found {
-        if let Some(rebuild) = Rebuild::go_on::<S>(cabinet, what(), checkpoint.stripe)? {
+        let last = cabinet.stripes::<S>(checkpoint.last()).next();
+        let is_same = last.is_some_and(|last| fingerprint(&last) == checkpoint.over);
+        let rebuild = Rebuild::go_on::<S>(cabinet, what(), checkpoint.stripe)?;
+        if let Some(rebuild) = rebuild.filter(|_| is_same) {
             progress::goes_on(cabinet, rebuild.next, screen);
             return Ok(rebuild);
         }
     }
     Rebuild::begin(cabinet, what())
+}
+
+/// What the survivors of a stripe are known by.
+fn fingerprint<S: Symbol>(stripe: &Stripe<S>) -> u64 {
+    fingerprint::of(stripe.remains().iter())
 }
 
 fn report(erased: &[Tray], screen: &mut Screen) {

@@ -9,7 +9,7 @@ use crate::files::cabinet::Cabinet;
 use crate::files::description;
 use crate::repair::in_groups::{is_full_set, GroupRepair};
 use crate::repair::shares::Shares;
-use crate::repair::stripe_repair::judge;
+use crate::repair::stripe_repair::{judge, judge_correcting};
 use crate::repair::{card, checkpoint_path, correcting, Repair, SPARE};
 use crate::terminal::arguments::{needed, Arguments, Setting};
 use crate::terminal::progress;
@@ -126,8 +126,8 @@ fn repair<S: Symbol>(
     screen: &mut Screen,
 ) -> Result<(), Failure> {
     match asked.repair.lost[..] {
-        [lost] if cabinet.numbers.errors > 0 && !arguments.has(CARD) => {
-            at_once::<S>(cabinet, lost, asked, arguments, screen)
+        [_] if cabinet.numbers.errors > 0 && !arguments.has(CARD) => {
+            at_once::<S>(cabinet, asked, arguments, screen)
         }
         _ => in_groups::<S>(cabinet, asked, arguments, screen),
     }
@@ -136,7 +136,6 @@ fn repair<S: Symbol>(
 /// One tray, though a share may be wrong.
 fn at_once<S: Symbol>(
     cabinet: &Cabinet,
-    lost: Tray,
     asked: &Asked,
     arguments: &Arguments,
     screen: &mut Screen,
@@ -145,7 +144,7 @@ fn at_once<S: Symbol>(
         let words = format!("{}: with E = 1 all groups are done at once", setting.name);
         return Err(Failure::Usage(words));
     }
-    correcting::judge::<S>(&cabinet.numbers, lost, &asked.repair.helpers)?;
+    judge_correcting::<S>(&cabinet.numbers, &asked.repair)?;
     let shares = Shares::open::<S>(cabinet, &asked.repair, &arguments.values(SHARE))?;
     correcting::repair::<S>(cabinet, &asked.repair, shares, screen)
 }

@@ -1,6 +1,6 @@
 //! `cabinet store`: a file into a new cabinet.
 
-use super::Command;
+use super::{recover, Command};
 use crate::code::field::{in_field, Field, FIELD};
 use crate::code::numbers::Numbers;
 use crate::code::symbol::{from_data, Symbol};
@@ -9,6 +9,7 @@ use crate::files;
 use crate::files::cabinet::Cabinet;
 use crate::files::description::{self, Description};
 use crate::files::draft::{self, work_name, Draft};
+use crate::scrub;
 use crate::terminal::arguments::{needed, Arguments, Setting};
 use crate::terminal::progress;
 use crate::terminal::screen::Screen;
@@ -96,8 +97,7 @@ pub fn store<S: Symbol>(
     replace: bool,
     screen: &mut Screen,
 ) -> Result<(), Failure> {
-    judge::<S>(cabinet)?;
-    let paths = free_paths(cabinet, replace)?;
+    let paths = paths::<S>(cabinet, replace)?;
     let folder = cabinet.folder();
     let is_new = !folder.exists();
     fs::create_dir_all(folder).map_err(Failure::file(folder))?;
@@ -134,7 +134,28 @@ fn write<S: Symbol>(
         progress::stripes(cabinet, stripe + 1, screen);
     }
     drafts.push(description);
-    draft::publish(drafts)
+    drafts.iter_mut().try_for_each(Draft::sync)?;
+    forget_cut_tasks(cabinet.folder())?;
+    draft::rename(drafts)
+}
+
+/// Removes the checkpoints and work files of repairs, recoveries and scrubs that were cut: they are
+/// of other trays.
+fn forget_cut_tasks(folder: &Path) -> Result<(), Failure> {
+    let is_of_one = |name: &str| {
+        let of_tray = name.trim_start_matches('.').starts_with("tray-");
+        let kept = [".spare", ".img.repair", ".img.recover"];
+        let kept = kept.iter().any(|end| name.ends_with(end));
+        (of_tray && kept) || [recover::NAME, scrub::NAME].contains(&name)
+    };
+    let entries = fs::read_dir(folder).map_err(Failure::file(folder))?;
+    for entry in entries {
+        let entry = entry.map_err(Failure::file(folder))?;
+        if entry.file_name().to_str().is_some_and(is_of_one) {
+            files::remove(&entry.path())?;
+        }
+    }
+    Ok(())
 }
 
 /// What the work is called in the names of work files.
@@ -144,15 +165,12 @@ fn begin(path: &Path) -> Result<Draft, Failure> {
     Draft::begin(path, WORK)
 }
 
-/// Lets the library judge the numbers before a file is written: an image of zeros.
-fn judge<S: Symbol>(cabinet: &Cabinet) -> Result<(), Failure> {
+/// The tray files to be written, once the library has judged the numbers: an image of zeros. Without
+/// `replace` none may be there already, but for those that a cut store of the same description has
+/// put there.
+fn paths<S: Symbol>(cabinet: &Cabinet, replace: bool) -> Result<Vec<PathBuf>, Failure> {
     let zeros = vec![S::default(); cabinet.numbers.layers];
-    cabinet.image(0, Tray::new(0), &zeros).map(|_| ())
-}
-
-/// The tray files to be written. Without `replace` none may be there already, but for those that a
-/// cut store of the same description has put there.
-fn free_paths(cabinet: &Cabinet, replace: bool) -> Result<Vec<PathBuf>, Failure> {
+    cabinet.image(0, Tray::new(0), &zeros)?;
     let trays = cabinet.numbers.all_trays();
     let paths: Vec<PathBuf> = trays.map(|tray| cabinet.image_path(tray)).collect();
     let there = |path: &&PathBuf| fs::symlink_metadata(path).is_ok();

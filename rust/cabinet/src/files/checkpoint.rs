@@ -1,8 +1,9 @@
 //! A checkpoint: a small file from which a cut repair, scrub or recovery goes on.
 //!
 //! Its first line is the task, which names cabinet, trays and all else that its calls must have in
-//! common. The second says which stripe is under work, how far it is, and over which symbols. What
-//! the task has found or made so far in that stripe follows.
+//! common. The second says which stripe is under work, how far it is, and from which symbols the last
+//! stripe was worked on: where these are others now, the cabinet is another. What the task has found
+//! or made so far follows.
 
 use crate::failure::Failure;
 use crate::files;
@@ -16,13 +17,22 @@ pub struct Checkpoint {
     pub stripe: u32,
     /// Groups or layers done of this stripe.
     pub step: u64,
-    /// The fingerprint of the symbols that this stripe is worked on from.
+    /// The fingerprint of the symbols that the last stripe was worked on from.
     pub over: u64,
     /// The task's own part.
     pub rest: Vec<u8>,
 }
 
 impl Checkpoint {
+    /// The last stripe that was worked on: the one under work, if something of it is done, else the
+    /// one before.
+    pub fn last(&self) -> u32 {
+        match self.step {
+            0 => self.stripe.saturating_sub(1),
+            _ => self.stripe,
+        }
+    }
+
     /// The checkpoint in a file, or nothing if there is no such file. One that cannot be read, or is
     /// not of this task, is the failure given.
     pub fn read(

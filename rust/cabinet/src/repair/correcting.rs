@@ -2,9 +2,9 @@
 //! rack of the wrong share named, and a test at the end of each.
 
 use super::shares::Shares;
+use super::stripe_repair::StripeRepair;
 use super::tally::Tally;
 use super::{foreign, spare_path, Repair};
-use crate::code::numbers::Numbers;
 use crate::code::symbol::Symbol;
 use crate::failure::Failure;
 use crate::files::cabinet::Cabinet;
@@ -17,17 +17,6 @@ use crate::terminal::screen::{Paint, Screen};
 use crate::terminal::words::{count, hanging};
 use gesarumbo::{Corrected, Rack, Tested, Tray};
 
-/// Lets the library judge the numbers of a repair before any share is needed: a repair over zeros,
-/// which meet the checks.
-pub fn judge<S: Symbol>(numbers: &Numbers, lost: Tray, helpers: &[Rack]) -> Result<(), Failure> {
-    let shares = vec![S::default(); numbers.traffic];
-    let host = vec![S::default(); numbers.rack()];
-    let mut spare = vec![S::default(); numbers.layers];
-    (S::CALLS.repair_correcting)(numbers.layout, lost, helpers, &shares, &host, &mut spare)
-        .map(|_| ())
-        .map_err(Failure::refused(format!("repair of tray {lost}")))
-}
-
 /// The repair of one tray by these shares, of numbers already judged: the tray's file is written,
 /// unless it does not fit to the others.
 pub fn repair<S: Symbol>(
@@ -36,17 +25,29 @@ pub fn repair<S: Symbol>(
     mut shares: Shares,
     screen: &mut Screen,
 ) -> Result<(), Failure> {
-    let (mut rebuild, mut tally) = open::<S>(cabinet, repair, screen)?;
+    let (mut rebuild, mut tally, mut last) = open::<S>(cabinet, repair, screen)?;
     let mut unused = None;
-    shares.skip_to::<S>(cabinet, repair, rebuild.next)?;
-    for stripe in cabinet.stripes::<S>(rebuild.next) {
-        let lost = repair_stripe(&stripe, repair, &mut shares, &mut tally);
+    let from = last.map_or(0, |(stripe, _)| stripe);
+    shares.skip_to::<S>(cabinet, repair, from)?;
+    for stripe in cabinet.stripes::<S>(from) {
+        let task = StripeRepair::new(&stripe, repair, shares.next(&stripe, repair)?);
+        let task = task.map_err(stripe.named())?;
+        if last
+            .take()
+            .is_some_and(|(_, over)| over != task.fingerprint())
+        {
+            return Err(foreign(rebuild.path()));
+        }
+        if stripe.number < rebuild.next {
+            continue;
+        }
+        let lost = repair_stripe(&stripe, &task, repair.lost[0], &mut tally);
         let lost = lost.map_err(stripe.named())?;
         Unused::begin_or_say(&mut unused, &stripe, screen);
         rebuild.write([&lost[..]].into_iter())?;
         progress::stripes(cabinet, rebuild.next, screen);
         if rebuild.is_due() {
-            rebuild.save(0, 0, tally.line().into_bytes())?;
+            rebuild.save(0, task.fingerprint(), tally.line().into_bytes())?;
         }
     }
     say_shares(cabinet, repair, &tally, screen);
@@ -54,25 +55,28 @@ pub fn repair<S: Symbol>(
     rebuild.publish()
 }
 
+/// The last stripe worked on before a cut, and what from.
+type Last = Option<(u32, u64)>;
+
 /// The repair as its checkpoint has it; a new one if there is none.
 fn open<'a, S: Symbol>(
     cabinet: &'a Cabinet,
     repair: &Repair,
     screen: &mut Screen,
-) -> Result<(Rebuild<'a>, Tally), Failure> {
+) -> Result<(Rebuild<'a>, Tally, Last), Failure> {
     let path = spare_path(cabinet, &repair.lost);
     let task = repair.task(cabinet);
     let found = Checkpoint::read(&path, |of| of == task, foreign)?;
     let what = repair.rebuilding(cabinet, path.clone());
     let Some(checkpoint) = found else {
-        return Ok((Rebuild::begin(cabinet, what)?, Tally::default()));
+        return Ok((Rebuild::begin(cabinet, what)?, Tally::default(), None));
     };
     let tally = Tally::parse(&checkpoint.rest).filter(|(_, rest)| rest.is_empty());
     let rebuild = Rebuild::go_on::<S>(cabinet, what, checkpoint.stripe)?;
     match (rebuild, tally) {
         (Some(rebuild), Some((tally, _))) => {
             progress::goes_on(cabinet, rebuild.next, screen);
-            Ok((rebuild, tally))
+            Ok((rebuild, tally, Some((checkpoint.last(), checkpoint.over))))
         }
         _ => Err(foreign(&path)),
     }
@@ -81,23 +85,12 @@ fn open<'a, S: Symbol>(
 /// The lost tray of one stripe, which must fit to the others or to those without the rack named.
 fn repair_stripe<S: Symbol>(
     stripe: &Stripe<S>,
-    repair: &Repair,
-    shares: &mut Shares,
+    task: &StripeRepair<S>,
+    lost: Tray,
     tally: &mut Tally,
 ) -> Result<Vec<S>, Failure> {
-    let (numbers, lost) = (&stripe.cabinet.numbers, repair.lost[0]);
-    let shares = shares.next(stripe, repair)?;
-    let host = stripe.joined(numbers.trays_of(numbers.rack_of(lost)), &[lost])?;
-    let mut spare = vec![S::default(); numbers.layers];
-    let Corrected { rack, .. } = (S::CALLS.repair_correcting)(
-        numbers.layout,
-        lost,
-        &repair.helpers,
-        &shares,
-        &host,
-        &mut spare,
-    )
-    .map_err(Failure::refused(format!("repair of tray {lost}")))?;
+    let mut spare = vec![S::default(); stripe.cabinet.numbers.layers];
+    let Corrected { rack, .. } = task.correcting(&mut spare)?;
     rack.into_iter().for_each(|rack| tally.add_wrong(rack));
     match stripe.test_with(&[lost], &spare)? {
         None => tally.untested += 1,

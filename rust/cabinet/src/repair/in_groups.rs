@@ -26,8 +26,8 @@ pub struct GroupRepair<'a, S> {
     spare: Vec<S>,
     /// Groups done of this stripe, from group 0.
     done: u64,
-    /// What the spare was made from, if groups are done.
-    over: u64,
+    /// What the last stripe was worked on from, where this is to be looked at.
+    over: Option<u64>,
     tally: Tally,
 }
 
@@ -48,7 +48,7 @@ impl<'a, S: Symbol> GroupRepair<'a, S> {
                 rebuild: Rebuild::begin(cabinet, what)?,
                 spare: vec![S::default(); repair.lost.len() * cabinet.numbers.layers],
                 done: 0,
-                over: 0,
+                over: None,
                 tally: Tally::default(),
             });
         };
@@ -60,7 +60,7 @@ impl<'a, S: Symbol> GroupRepair<'a, S> {
             rebuild: rebuild.ok_or_else(|| foreign(&path))?,
             spare,
             done: checkpoint.step,
-            over: checkpoint.over,
+            over: Some(checkpoint.over),
             tally,
         })
     }
@@ -105,16 +105,18 @@ impl<'a, S: Symbol> GroupRepair<'a, S> {
         let (cabinet, repair) = (self.cabinet, self.repair);
         let mut meter = Meter::new(cabinet, repair.lost.len(), run);
         let mut unused = None;
-        shares.skip_to::<S>(cabinet, repair, self.rebuild.next)?;
-        for stripe in cabinet.stripes::<S>(self.rebuild.next) {
+        let from = match (self.over, self.done) {
+            (Some(_), 0) => self.rebuild.next.saturating_sub(1),
+            _ => self.rebuild.next,
+        };
+        shares.skip_to::<S>(cabinet, repair, from)?;
+        for stripe in cabinet.stripes::<S>(from) {
+            let is_done = stripe.number < self.rebuild.next;
             self.stripe(&stripe, shares, cards, &mut unused, &mut meter, screen)
                 .map_err(stripe.named())?;
-            if meter.is_over() {
+            if meter.is_over() && !is_done {
                 break;
             }
-        }
-        if !self.is_whole() && self.done == 0 {
-            self.save(0)?;
         }
         Ok(())
     }
@@ -130,8 +132,15 @@ impl<'a, S: Symbol> GroupRepair<'a, S> {
         screen: &mut Screen,
     ) -> Result<(), Failure> {
         let task = StripeRepair::new(stripe, self.repair, shares.next(stripe, self.repair)?)?;
-        if self.done > 0 && self.over != task.fingerprint() {
+        if self
+            .over
+            .take()
+            .is_some_and(|over| over != task.fingerprint())
+        {
             return Err(foreign(self.path()));
+        }
+        if stripe.number < self.rebuild.next {
+            return Ok(());
         }
         Unused::begin_or_say(unused, stripe, screen);
         let first = meter.enter(stripe.number);
@@ -149,14 +158,22 @@ impl<'a, S: Symbol> GroupRepair<'a, S> {
                 break;
             }
         }
-        match self.done == self.groups() {
-            true => self.complete(stripe, &task),
-            false => self.save(task.fingerprint()),
+        match self.done {
+            // Nothing was to be done, and the checkpoint of the stripe before stays.
+            0 if stripe.number > 0 => Ok(()),
+            done if done == self.groups() => self.complete(stripe, &task, meter.is_over()),
+            _ => self.save(task.fingerprint()),
         }
     }
 
-    /// Tests the finished trays of a stripe with the others, and writes their images.
-    fn complete(&mut self, stripe: &Stripe<S>, task: &StripeRepair<S>) -> Result<(), Failure> {
+    /// Tests the finished trays of a stripe with the others, and writes their images; with a
+    /// checkpoint, if one is due or this was the last stripe of the run.
+    fn complete(
+        &mut self,
+        stripe: &Stripe<S>,
+        task: &StripeRepair<S>,
+        is_last: bool,
+    ) -> Result<(), Failure> {
         match stripe.test_with(&self.repair.lost, &self.spare)? {
             Some(Tested::Bad { layer, check }) => {
                 self.save(task.fingerprint())?;
@@ -174,8 +191,8 @@ impl<'a, S: Symbol> GroupRepair<'a, S> {
             .write(self.spare.chunks(self.cabinet.numbers.layers))?;
         self.spare.fill(S::default());
         self.done = 0;
-        match self.rebuild.is_due() {
-            true => self.save(0),
+        match self.rebuild.is_due() || (is_last && !self.is_whole()) {
+            true => self.save(task.fingerprint()),
             false => Ok(()),
         }
     }

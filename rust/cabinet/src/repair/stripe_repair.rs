@@ -1,4 +1,5 @@
-//! The repair of one stripe's lost trays, some groups at a time, over a spare.
+//! The repair of one stripe's lost trays over a spare, some groups at a time, or all at once where a
+//! share may be wrong.
 
 use super::Repair;
 use crate::code::numbers::Numbers;
@@ -6,7 +7,7 @@ use crate::code::symbol::Symbol;
 use crate::failure::Failure;
 use crate::files::fingerprint;
 use crate::files::stripe::Stripe;
-use gesarumbo::{Refusal, Repaired};
+use gesarumbo::{Corrected, Refusal, Repaired};
 
 /// What stays fixed over all groups of a stripe.
 pub struct StripeRepair<'a, S> {
@@ -20,15 +21,29 @@ pub struct StripeRepair<'a, S> {
 /// Lets the library judge the numbers of a repair before any share is needed: a repair of no group
 /// over zeros.
 pub fn judge<S: Symbol>(numbers: &Numbers, repair: &Repair, first: u64) -> Result<(), Failure> {
-    let lost = repair.lost.len();
-    let mut spare = vec![S::default(); lost * numbers.layers];
-    let over_zeros = StripeRepair {
+    let (zeros, mut spare) = over_zeros::<S>(numbers, repair);
+    zeros.groups(&mut spare, first, 0).map(|_| ())
+}
+
+/// The same where a share may be wrong: a repair over zeros, which meet the checks.
+pub fn judge_correcting<S: Symbol>(numbers: &Numbers, repair: &Repair) -> Result<(), Failure> {
+    let (zeros, mut spare) = over_zeros::<S>(numbers, repair);
+    zeros.correcting(&mut spare).map(|_| ())
+}
+
+/// A repair over zeros, and a spare for it.
+fn over_zeros<'a, S: Symbol>(
+    numbers: &Numbers,
+    repair: &'a Repair,
+) -> (StripeRepair<'a, S>, Vec<S>) {
+    let (lost, zero) = (repair.lost.len(), S::default());
+    let zeros = StripeRepair {
         numbers: *numbers,
         repair,
-        shares: vec![S::default(); lost * numbers.traffic],
-        host: vec![S::default(); numbers.rack()],
+        shares: vec![zero; lost * numbers.traffic],
+        host: vec![zero; numbers.rack()],
     };
-    over_zeros.groups(&mut spare, first, 0).map(|_| ())
+    (zeros, vec![zero; lost * numbers.layers])
 }
 
 impl<'a, S: Symbol> StripeRepair<'a, S> {
@@ -71,7 +86,16 @@ impl<'a, S: Symbol> StripeRepair<'a, S> {
         self.answered(done)
     }
 
-    fn answered(&self, done: Result<Repaired, Refusal>) -> Result<Repaired, Failure> {
+    /// Does all groups of one lost tray, though a share may be wrong.
+    pub fn correcting(&self, spare: &mut [S]) -> Result<Corrected, Failure> {
+        let Repair { lost, helpers } = self.repair;
+        let (layout, shares, host) = (self.numbers.layout, &self.shares, &self.host);
+        self.answered((S::CALLS.repair_correcting)(
+            layout, lost[0], helpers, shares, host, spare,
+        ))
+    }
+
+    fn answered<T>(&self, done: Result<T, Refusal>) -> Result<T, Failure> {
         let (names, _) = self.repair.names();
         done.map_err(Failure::refused(format!("repair of {names}")))
     }

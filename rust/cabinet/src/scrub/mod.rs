@@ -26,7 +26,7 @@ pub struct Scrub<'a> {
     stripe: u32,
     /// The next layer of it.
     next: u32,
-    /// The fingerprint of its trays, if layers of it have been looked at.
+    /// The fingerprint of the last stripe that was looked at.
     over: u64,
     pub findings: Findings,
     /// Bytes of codewords since the last checkpoint.
@@ -62,7 +62,11 @@ impl<'a> Scrub<'a> {
         scrub.findings = findings.ok_or_else(|| foreign(&scrub.path))?;
         (scrub.stripe, scrub.next) = (checkpoint.stripe, checkpoint.step as u32);
         scrub.over = checkpoint.over;
-        Ok(scrub)
+        let last = cabinet.stripe::<S>(checkpoint.last())?;
+        match scrub.over == fingerprint::of(last.codeword()?.iter()) {
+            true => Ok(scrub),
+            false => Err(foreign(&scrub.path)),
+        }
     }
 
     /// The checkpoint's first line.
@@ -110,10 +114,8 @@ impl<'a> Scrub<'a> {
         screen: &mut Screen,
     ) -> Result<(), Failure> {
         let codeword = stripe.codeword()?;
-        if self.next > 0 && self.over != fingerprint::of(codeword.iter()) {
-            return Err(foreign(&self.path));
-        }
         let layers = self.cabinet.numbers.layers as u32;
+        let before = self.findings.at;
         loop {
             let left = u64::from(layers - self.next);
             let done = self.look(&codeword, run.budget().min(left))?;
@@ -122,14 +124,17 @@ impl<'a> Scrub<'a> {
                 break;
             }
         }
-        self.over = 0;
-        if self.next < layers {
-            self.over = fingerprint::of(codeword.iter());
-            return Ok(());
+        if self.next == layers {
+            (self.stripe, self.next) = (self.stripe + 1, 0);
         }
-        (self.stripe, self.next) = (self.stripe + 1, 0);
         self.unsaved += (S::WIDTH * codeword.len()) as u64;
-        match self.unsaved >= MOST_UNSAVED && !self.is_over() {
+        let is_due = self.unsaved >= MOST_UNSAVED;
+        // Where nothing is looked at, the last stripe is the one before.
+        let is_last = before == 0 || self.findings.at > before;
+        if is_last && (is_due || run.is_over()) {
+            self.over = fingerprint::of(codeword.iter());
+        }
+        match is_due && !run.is_over() {
             true => self.save(),
             false => Ok(()),
         }

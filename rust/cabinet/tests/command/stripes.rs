@@ -95,7 +95,10 @@ fn a_repair_can_be_cut_anywhere() {
         assert!(before == bench.snapshot("c"), "cut at {cut}");
     }
     bench.remove(&image(4));
-    (0..24).for_each(|_| drop(bench.done(&format!("{REPAIR} --budget 1"))));
+    for _ in 0..24 {
+        bench.done(&format!("{REPAIR} --budget 0"));
+        bench.done(&format!("{REPAIR} --budget 1"));
+    }
     assert!(before == bench.snapshot("c"));
 }
 
@@ -113,6 +116,7 @@ fn a_repair_goes_on_only_from_its_own_trays() {
     damage(&bench, 0, 0, 3);
     bench.done(&format!("{REPAIR} --budget 1"));
     damage(&bench, 0, 0, 3);
+    bench.done(&format!("{REPAIR} --budget 0"));
     bench.fails(65, &format!("{REPAIR} --first 13"));
     let message = bench.fails(65, &format!("{REPAIR} --first 7"));
     assert!(message.contains("the groups below 8"), "{message}");
@@ -249,7 +253,10 @@ fn a_scrub_can_be_cut_anywhere() {
         assert!(ended.out.contains("     0 .##\n"), "{}", ended.out);
         assert!(before == bench.snapshot("c"), "cut at {cut}");
     }
-    (0..47).for_each(|_| drop(bench.done("scrub c --budget 1")));
+    for _ in 0..47 {
+        bench.done("scrub c --budget 0");
+        bench.done("scrub c --budget 1");
+    }
     assert!(bench.fails(65, "scrub c --budget 1").contains(expected));
 }
 
@@ -542,6 +549,36 @@ fn stripes_that_are_not_tested_are_counted() {
         "{out}"
     );
     assert_eq!(bench.read(&image(1)), before);
+}
+
+/// Layout, volumes and stripes are the same, and the data are not.
+#[test]
+fn what_was_cut_is_not_gone_on_with_in_another_cabinet() {
+    let bench = cabinet();
+    bench.write("other", &data(301)[1..]);
+    let replace = "store 4 3 8 3 --volume 7 --replace other c";
+    for cut in [0, 5, 8, 9, 16] {
+        bench.done("store 4 3 8 3 --volume 7 --replace data c");
+        bench.done(&format!("scrub c --budget {cut}"));
+        bench.done(&format!("scrub c --budget {cut} --record record"));
+        bench.done(&format!("{REPAIR} --budget {cut}"));
+        bench.done(&format!("{REPAIR} --budget {cut} --spare spare"));
+        let work = bench.read("c/.tray-04.img.repair");
+        bench.done(replace);
+        let after = bench.snapshot("c");
+        assert_eq!(after.len(), 13, "what was cut is forgotten");
+        let message = bench.fails(65, "scrub c --record record");
+        assert!(message.contains("--reset"), "{message}");
+        bench.done("scrub c --budget 0");
+        bench.done("scrub c");
+        // Even with the images of the old cabinet that were written.
+        bench.write("c/.tray-04.img.repair", &work);
+        bench.fails(65, &format!("{REPAIR} --spare spare"));
+        bench.remove("spare");
+        bench.remove("record");
+        bench.done(REPAIR);
+        assert!(after == bench.snapshot("c"));
+    }
 }
 
 #[test]
