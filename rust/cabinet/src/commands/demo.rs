@@ -120,7 +120,7 @@ fn store_records(cabinet: &Cabinet, screen: &mut Screen) -> Result<Vec<u8>, Fail
     for (tray, record) in RECORDS.iter().enumerate() {
         print_record(tray, record, screen);
     }
-    store::store::<u8>(cabinet, &RECORDS.concat()[..], false, screen)?;
+    store::store::<u8>(cabinet, &RECORDS.concat()[..], screen)?;
     screen.line(format!(
         "  {}: {} tray images are written",
         cabinet.description.words(),

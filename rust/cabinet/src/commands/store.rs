@@ -83,25 +83,44 @@ fn run(arguments: &Arguments, screen: &mut Screen) -> Result<(), Failure> {
         return Err(Failure::Usage(description.too_many()));
     }
     let cabinet = Cabinet::new(Path::new(folder), description)?;
-    screen.heading(description.words());
-    let data = BufReader::new(file);
-    in_field!(field, store(&cabinet, data, arguments.has(REPLACE), screen))?;
+    let (data, replace) = (BufReader::new(file), arguments.has(REPLACE));
+    in_field!(field, store_and_say(&cabinet, data, replace, screen))?;
     report(&cabinet, length, screen);
     Ok(())
 }
 
-/// Stores data as long as the cabinet's description says, in its folder, which is made if need be.
-pub fn store<S: Symbol>(
+fn store_and_say<S: Symbol>(
     cabinet: &Cabinet,
     data: impl Read,
     replace: bool,
     screen: &mut Screen,
 ) -> Result<(), Failure> {
     let paths = paths::<S>(cabinet, replace)?;
+    screen.heading(cabinet.description.words());
+    write_folder::<S>(cabinet, data, &paths, screen)
+}
+
+/// Stores data as long as the cabinet's description says, in its folder, where no cabinet may be yet.
+pub fn store<S: Symbol>(
+    cabinet: &Cabinet,
+    data: impl Read,
+    screen: &mut Screen,
+) -> Result<(), Failure> {
+    let paths = paths::<S>(cabinet, false)?;
+    write_folder::<S>(cabinet, data, &paths, screen)
+}
+
+/// Writes all files of a cabinet, and makes the folder if need be.
+fn write_folder<S: Symbol>(
+    cabinet: &Cabinet,
+    data: impl Read,
+    paths: &[PathBuf],
+    screen: &mut Screen,
+) -> Result<(), Failure> {
     let folder = cabinet.folder();
     let is_new = !folder.exists();
     fs::create_dir_all(folder).map_err(Failure::file(folder))?;
-    let stored = write::<S>(cabinet, data, &paths, screen);
+    let stored = write::<S>(cabinet, data, paths, screen);
     if stored.is_err() && is_new {
         // Nothing is in it, and where it is not empty all the same, it stays.
         let _ = fs::remove_dir(folder);

@@ -1,4 +1,4 @@
-//! A number that changes when symbols do: what a work file knows its contents by.
+//! A number that changes when symbols do: what a checkpoint knows them by.
 
 use crate::code::symbol::Symbol;
 

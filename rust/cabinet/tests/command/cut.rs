@@ -163,6 +163,24 @@ fn repairs_are_cut() {
     bench.done("test c");
 }
 
+/// What was found before the cut is said at the end: in stripe 0 a share is wrong.
+#[test]
+fn a_correcting_repair_is_cut() {
+    let bench = Bench::new();
+    bench.write("data", &data(LENGTH));
+    bench.done("store 10 3 20 9 1 --volume 7 data c");
+    let tray = bench.read(&image(13));
+    let byte = bench.read(&image(10))[30];
+    bench.poke(&image(10), 30, !byte);
+    bench.remove(&image(13));
+    let cut = (0..10).any(|_| cut_at(&bench, REPAIR, "c/tray-13.spare"));
+    assert!(cut, "it was cut after a checkpoint");
+    let out = bench.done(REPAIR);
+    assert!(out.contains("goes on with stripe"), "{out}");
+    assert!(out.contains("rack 3 is stale in 1 of 782 stripes"), "{out}");
+    assert!(bench.read(&image(13)) == tray, "the tray is as it was");
+}
+
 #[test]
 fn recoveries_are_cut() {
     let bench = cabinet();
