@@ -55,11 +55,11 @@ cabinet scrub DIR [--budget N] [--reset] [--record FILE] [--map] [--svg FILE]
 Tests whether the trays of DIR meet every parity check, some layers at a time,
 stripe after stripe. Between two calls, and from time to time within one, a
 checkpoint keeps how far it is and what is bad, so that a scrub that was cut
-goes on where it ended. It knows the trays of the stripe under test by their
-contents: if one is changed, it must be begun anew (65). At the end the file is
-removed. Bad layers are an answer, with exit status 65 when all layers have been
-seen. As soon as one has been seen, a map shows where they lie: a cell for each
-layer, or where there are several stripes, for each of these.
+goes on where it ended. It knows the trays of the last stripe it has looked at
+by their contents: if one is changed, it must be begun anew (65). At the end the
+file is removed. Bad layers are an answer, with exit status 65 when all layers
+have been seen. As soon as one has been seen, a map shows where they lie: a cell
+for each layer, or where there are several stripes, for each of these.
 ";
 
 fn run(arguments: &Arguments, screen: &mut Screen) -> Result<(), Failure> {

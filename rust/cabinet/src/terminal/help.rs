@@ -49,7 +49,7 @@ pub fn print(command: &Command, screen: &mut Screen) {
     screen.line(command.help);
     for setting in command.settings {
         let head = format!("{} {}", setting.name, setting.value.unwrap_or_default());
-        screen.line(hanging(&format!("  {head:<18}"), setting.words));
+        screen.line(hanging(&format!("  {head:<22}"), setting.words));
     }
     screen.gap();
     screen.line("Exit status: 0 done, 1 to 15 a refusal's number, 64 on: see cabinet help");
