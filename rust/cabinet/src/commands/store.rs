@@ -162,7 +162,8 @@ fn write<S: Symbol>(
 /// of other trays.
 fn forget_cut_tasks(folder: &Path) -> Result<(), Failure> {
     let is_of_one = |name: &str| {
-        let of_tray = name.trim_start_matches('.').starts_with("tray-");
+        let name = name.trim_start_matches('.').trim_end_matches(".new");
+        let of_tray = name.starts_with("tray-");
         let kept = [".spare", ".img.repair", ".img.recover"];
         let kept = kept.iter().any(|end| name.ends_with(end));
         (of_tray && kept) || [recover::NAME, scrub::NAME].contains(&name)

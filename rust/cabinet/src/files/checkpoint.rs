@@ -5,6 +5,7 @@
 //! stripe was worked on: where these are others now, the cabinet is another. What the task has found
 //! or made so far follows.
 
+use super::draft::work_name;
 use crate::failure::Failure;
 use crate::files;
 use std::path::Path;
@@ -70,6 +71,12 @@ impl Checkpoint {
         let lines = format!("{task}\nstripe {stripe} step {step} over {over:016x}\n");
         files::write_one(path, &[lines.as_bytes(), &self.rest].concat())
     }
+}
+
+/// Removes a checkpoint, and what a command that was cut while it wrote one has left.
+pub fn remove(path: &Path) -> Result<(), Failure> {
+    files::remove(&work_name(path, files::NEW)?)?;
+    files::remove(path)
 }
 
 /// What a checkpoint may be behind: so many bytes of codewords are done again after a cut.

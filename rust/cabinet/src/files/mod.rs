@@ -57,9 +57,12 @@ fn start(file: File) -> io::Result<Vec<u8>> {
     Ok(bytes)
 }
 
+/// What the work is called in the name of a small file's work file.
+pub const NEW: &str = "new";
+
 /// Writes a small file.
 pub fn write_one(path: &Path, bytes: &[u8]) -> Result<(), Failure> {
-    let mut draft = Draft::begin(path, "new")?;
+    let mut draft = Draft::begin(path, NEW)?;
     draft.write(bytes)?;
     draft::publish(vec![draft])
 }

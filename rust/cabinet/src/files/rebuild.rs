@@ -2,11 +2,10 @@
 //! which a cut command goes on.
 
 use super::cabinet::Cabinet;
-use super::checkpoint::{Checkpoint, MOST_UNSAVED};
+use super::checkpoint::{self, Checkpoint, MOST_UNSAVED};
 use super::draft::{self, Draft};
 use crate::code::symbol::Symbol;
 use crate::failure::Failure;
-use crate::files;
 use gesarumbo::Tray;
 use std::path::{Path, PathBuf};
 
@@ -105,7 +104,7 @@ impl<'a> Rebuild<'a> {
     /// in between, the task begins anew.
     pub fn publish(mut self) -> Result<(), Failure> {
         self.drafts.iter_mut().try_for_each(Draft::sync)?;
-        files::remove(&self.what.path)?;
+        checkpoint::remove(&self.what.path)?;
         draft::rename(self.drafts)
     }
 

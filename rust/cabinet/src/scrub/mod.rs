@@ -5,10 +5,10 @@ pub mod findings;
 use crate::code::symbol::Symbol;
 use crate::failure::Failure;
 use crate::files::cabinet::Cabinet;
-use crate::files::checkpoint::{Checkpoint, MOST_UNSAVED};
+use crate::files::checkpoint::{self, Checkpoint, MOST_UNSAVED};
+use crate::files::fingerprint;
 use crate::files::stripe::Stripe;
 use crate::files::survey::Unused;
-use crate::files::{self, fingerprint};
 use crate::terminal::progress::{self, Run};
 use crate::terminal::screen::Screen;
 use findings::Findings;
@@ -181,7 +181,7 @@ impl<'a> Scrub<'a> {
 
     /// Removes the checkpoint: the scrub is over.
     pub fn discard(&self) -> Result<(), Failure> {
-        files::remove(&self.path)
+        checkpoint::remove(&self.path)
     }
 }
 

@@ -245,6 +245,7 @@ fn a_scrub_can_be_cut_anywhere() {
         let out = bench.done(&format!("scrub c --budget {cut}"));
         assert_readable(&out);
         assert!(out.contains(&format!("{} of 3 stripes", cut / 16)), "{out}");
+        bench.write("c/.scrub.txt.new", b"half a checkpoint");
         let ended = bench.run("scrub c");
         assert_readable(&ended.out);
         assert_eq!(ended.status, 65, "cut at {cut}");
@@ -564,6 +565,7 @@ fn what_was_cut_is_not_gone_on_with_in_another_cabinet() {
         bench.done(&format!("{REPAIR} --budget {cut}"));
         bench.done(&format!("{REPAIR} --budget {cut} --spare spare"));
         let work = bench.read("c/.tray-04.img.repair");
+        bench.write("c/.tray-04.spare.new", b"half a checkpoint");
         bench.done(replace);
         let after = bench.snapshot("c");
         assert_eq!(after.len(), 13, "what was cut is forgotten");
