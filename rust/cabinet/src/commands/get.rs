@@ -43,8 +43,9 @@ cabinet get DIR FILE [--erase a,b,..] [--length N]
 Writes the data of DIR to FILE, exactly as long as they were. Trays that are
 absent, unreadable or refused are done without: any k live trays of a stripe
 will do. More are held against one another, and no FILE is written if they do
-not fit together (8). No tray of DIR is changed. Where cabinet.txt does not say
-how long the data are, all k*L bytes of each stripe are given.
+not fit together (8). FILE lies outside of DIR, and no tray is changed. Where
+cabinet.txt does not say how long the data are, all k*L bytes of each stripe are
+given.
 
 Data with a symbol that is no byte, 256 in the field of 257, are not written
 (65).
@@ -57,10 +58,26 @@ fn run(arguments: &Arguments, screen: &mut Screen) -> Result<(), Failure> {
     let cabinet = Cabinet::find(folder, arguments)?;
     let length = length(&cabinet, arguments)?;
     let file = Path::new(file);
+    if is_in(file, cabinet.folder()) {
+        let words = "is among the cabinet's own files; name a place outside of its folder";
+        return Err(Failure::Usage(format!("{}: {words}", file.display())));
+    }
     in_field!(
         cabinet.description.field,
         get(&cabinet, &named, length, file, screen)
     )
+}
+
+/// Whether a file lies in a folder, or would: there it could take a tray's place.
+fn is_in(file: &Path, folder: &Path) -> bool {
+    let parent = match file.parent() {
+        Some(parent) if parent != Path::new("") => parent,
+        _ => Path::new("."),
+    };
+    match (parent.canonicalize(), folder.canonicalize()) {
+        (Ok(parent), Ok(folder)) => parent == folder,
+        _ => false,
+    }
 }
 
 /// How many bytes are given back: no more than the stripes hold.

@@ -151,6 +151,18 @@ fn a_tray_of_another_cabinet_is_not_used() {
 }
 
 #[test]
+fn data_are_not_written_among_the_trays() {
+    let bench = Bench::with_cabinet();
+    let before = bench.snapshot("c");
+    for file in ["c/tray-00.img", "c/../c/data", "./c/cabinet.txt"] {
+        assert_eq!(bench.run(&format!("get c {file}")).status, 64, "{file}");
+    }
+    assert!(before == bench.snapshot("c"));
+    bench.done("get c c.data");
+    assert!(bench.read("c.data") == bench.read("data"));
+}
+
+#[test]
 fn a_suspected_tray_can_be_erased() {
     let bench = Bench::with_cabinet();
     let before = bench.snapshot("c");
