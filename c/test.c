@@ -265,12 +265,24 @@ static void scrub(void)
         printf("scrub: %s, %u of %u layers seen, %u bad, the first is %u\n", reports[s.report],
                s.record.next, LAYERS, s.record.bad, s.record.first);
     } while (s.report == 1);
+    gesarumbo_scrub_record lent = any;
+    gesarumbo_reported r = gesarumbo_scrub_reset_in_place(layout, &lent);
+    must(r.refusal == 0 && r.report == 0, "a walk begins in its place");
+    do {
+        r = gesarumbo_scrub_in_place(layout, codeword, CODEWORD_LENGTH, &lent, 7);
+        must(r.refusal == 0, "a call of the walk is done in its place");
+    } while (r.report == 1);
+    printf("scrub in place: %s, %u of %u layers seen, %u bad, the first is %u\n", reports[r.report],
+           lent.next, LAYERS, lent.bad, lent.first);
     tray_at(2)[6] ^= 1;
     tray_at(9)[11] ^= 1;
     s = gesarumbo_scrub(layout, codeword, CODEWORD_LENGTH, any, 7);
     must(s.record.next == 99 && s.record.bad == 99 && s.record.first == 99,
          "a refused call hands back the record as it came");
-    printf("scrub with another record: refused %u\n", s.refusal);
+    lent = any;
+    r = gesarumbo_scrub_in_place(layout, codeword, CODEWORD_LENGTH, &lent, 7);
+    must(memcmp(&lent, &any, sizeof any) == 0, "a refused call leaves the record as it was");
+    printf("scrub with another record: refused %u, in place %u\n", s.refusal, r.refusal);
 }
 
 static void recover(void)
