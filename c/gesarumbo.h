@@ -46,7 +46,7 @@
  *   15   the card is not right
  *
  * A refused call has changed no byte of any buffer, and every other number it answers is 0; a scrub
- * record is handed back as it came.
+ * record is handed back, or left, as it came.
  *
  * Buffers. Each is a pointer and then its length in elements; one of length 0 may be NULL. A buffer
  * that is written must not overlap another one of the call; buffers that are only read may. A call
@@ -151,6 +151,12 @@ typedef struct {
     uint32_t report; /* 1 unfinished, 2 sound, 3 bad */
     gesarumbo_scrub_record record;
 } gesarumbo_scrubbed;
+
+/* The same where the record was lent. */
+typedef struct {
+    uint32_t refusal;
+    uint32_t report;
+} gesarumbo_reported;
 
 /*
  * Measures a layout.
@@ -430,6 +436,18 @@ gesarumbo_scrubbed gesarumbo_scrub(gesarumbo_layout layout,
                                    gesarumbo_scrub_record record, uint64_t budget);
 
 /*
+ * The reset and the call with the record lent, and changed in its place: what the two calls above
+ * hand back is what *record is afterwards. A refused call leaves it as it was. record must not be
+ * NULL, and lies in no buffer of the call.
+ */
+gesarumbo_reported gesarumbo_scrub_reset_in_place(gesarumbo_layout layout,
+                                                  gesarumbo_scrub_record *record);
+
+gesarumbo_reported gesarumbo_scrub_in_place(gesarumbo_layout layout,
+                                            const uint8_t *codeword, size_t codeword_length,
+                                            gesarumbo_scrub_record *record, uint64_t budget);
+
+/*
  * The second field: the whole numbers modulo 257, with root 3 of order 256.
  *
  * Every call above has a twin gesarumbo257_.., with symbols lent as 16-bit numbers. What is said
@@ -566,6 +584,13 @@ gesarumbo_scrubbed gesarumbo257_scrub_reset(gesarumbo_layout layout,
 gesarumbo_scrubbed gesarumbo257_scrub(gesarumbo_layout layout,
                                       const uint16_t *codeword, size_t codeword_length,
                                       gesarumbo_scrub_record record, uint64_t budget);
+
+gesarumbo_reported gesarumbo257_scrub_reset_in_place(gesarumbo_layout layout,
+                                                     gesarumbo_scrub_record *record);
+
+gesarumbo_reported gesarumbo257_scrub_in_place(gesarumbo_layout layout,
+                                               const uint16_t *codeword, size_t codeword_length,
+                                               gesarumbo_scrub_record *record, uint64_t budget);
 
 /*
  * The sixteen-tray box, a cabinet of its own with no layout. It has 16 trays of one symbol in four

@@ -40,6 +40,7 @@ static const gesarumbo_layout fours = { RACKS_4, SIZE_4, DATA_4, HELPERS_4, 0 };
 /* What the cabinet works with, all of it lent from the pool. */
 static uint8_t *data, *codeword, *images, *shares, *spare, *states, *shares_of_two, *two_spares;
 static uint8_t *card;
+static gesarumbo_scrub_record *record;
 static uint8_t *wary_codeword, *wary_shares, *wary_spare;
 static uint32_t *helpers, *erased, *lost, *wary_helpers;
 /* The same for the second field. */
@@ -62,6 +63,7 @@ static void lend_all(void)
     shares_of_two = lend(LOST * SHARES_LENGTH);
     two_spares = lend(LOST * LAYERS);
     card = lend(CARD);
+    record = lend(sizeof *record);
     wary_codeword = lend(WARY_TRAYS * WARY_LAYERS);
     wary_shares = lend(WARY_SHARES);
     wary_spare = lend(WARY_LAYERS);
@@ -265,12 +267,24 @@ static void scrub(void)
         printf("scrub: %s, %u of %u layers seen, %u bad, the first is %u\n", reports[s.report],
                s.record.next, LAYERS, s.record.bad, s.record.first);
     } while (s.report == 1);
+    *record = any;
+    gesarumbo_reported r = gesarumbo_scrub_reset_in_place(layout, record);
+    must(r.refusal == 0 && r.report == 0, "a walk begins in its place");
+    do {
+        r = gesarumbo_scrub_in_place(layout, codeword, CODEWORD_LENGTH, record, 7);
+        must(r.refusal == 0, "a call of the walk is done in its place");
+    } while (r.report == 1);
+    printf("scrub in place: %s, %u of %u layers seen, %u bad, the first is %u\n", reports[r.report],
+           record->next, LAYERS, record->bad, record->first);
     tray_at(2)[6] ^= 1;
     tray_at(9)[11] ^= 1;
     s = gesarumbo_scrub(layout, codeword, CODEWORD_LENGTH, any, 7);
     must(s.record.next == 99 && s.record.bad == 99 && s.record.first == 99,
          "a refused call hands back the record as it came");
-    printf("scrub with another record: refused %u\n", s.refusal);
+    *record = any;
+    r = gesarumbo_scrub_in_place(layout, codeword, CODEWORD_LENGTH, record, 7);
+    must(memcmp(record, &any, sizeof any) == 0, "a refused call leaves the record as it was");
+    printf("scrub with another record: refused %u, in place %u\n", s.refusal, r.refusal);
 }
 
 static void recover(void)

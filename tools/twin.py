@@ -116,7 +116,7 @@ def made():
         if rel == 'src/%s.rt' % FIRST:
             yield path, target, exported(symbols(text, []))
         elif rel.startswith('proofs/%s/' % FIRST) or rel.startswith('proofs/images/gesarumbo_write_image/'):
-            yield path, target, exported(text.replace('-- twin: ', ''))
+            yield path, target, exported(re.sub(r'\bw8\b', 'w16', text.replace('-- twin: ', '')))
 
 
 def headed(source, text):

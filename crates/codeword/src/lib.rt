@@ -21,7 +21,10 @@ pub fn exponent(order: u32, l: Layout, x: u32, j: u32) -> u32
     let u = l.size;
     let s = layout::digit_count(l);
     let i = x / u;
-    i * s + layout::digit_at(s, j, i) + x % u * (order / u)
+    let a = layout::digit_at(s, j, i);
+    let g = x % u;
+    let step = order / u;
+    i * s + a + g * step
 }
 
 // Where symbol j of tray x stands, in trays of so many layers.

@@ -1,1 +1,4 @@
+mod Lent
+mod LentReset
+mod LentStep
 pub mod Shown

@@ -13,6 +13,7 @@ use Rattle.layout.specs.Layout.{numbersOf, layers}
 use Rattle.codeword.specs.declared.Tested.{Tested}
 use Rattle.codeword.specs.Test.{TestAnswer, numbersOf as tested}
 use Rattle.image.specs.Image.{edition1, headerLength, readRefusal, readTray, readSymbols}
+use Rattle.scrub.specs.declared.Report.{Report}
 use Rattle.scrub.specs.declared.Scrubbed.{Scrubbed}
 use Rattle.scrub.specs.Scrub.{numbersOf as reported}
 use Rattle.gesarumbo.specs.declared.numbers.ImageNumbers.{ImageNumbers}
@@ -30,6 +31,7 @@ use Rattle.gesarumbo.specs.declared.numbers.CorrectedNumbers.{CorrectedN
 use Rattle.gesarumbo.specs.declared.numbers.PartNumbers.{PartNumbers}
 use Rattle.gesarumbo.specs.declared.numbers.RepairNumbers.{RepairNumbers}
 use Rattle.gesarumbo.specs.declared.numbers.TestNumbers.{TestNumbers}
+use Rattle.gesarumbo.specs.declared.numbers.ReportNumbers.{ReportNumbers}
 use Rattle.gesarumbo.specs.declared.numbers.ScrubNumbers.{ScrubNumbers}
 
 abbrev pub measureNumbers : Measured → MeasureNumbers
@@ -48,6 +50,9 @@ repairNumbers a =
 
 abbrev pub correctedNumbers : Corrected → CorrectedNumbers
 correctedNumbers a = record { refusal = corrected a .refusal; rack = corrected a .rack; crossed = corrected a .crossed }
+
+abbrev pub reportNumbers : Report → ReportNumbers
+reportNumbers r = record { refusal = reported r .refusal; report = reported r .report }
 
 abbrev pub scrubNumbers : Scrubbed → ScrubNumbers
 scrubNumbers a = record { refusal = reported (a .report) .refusal; report = reported (a .report) .report; walk = a .walk }

@@ -5,6 +5,7 @@ use crate::numbers::MarginNumbers;
 use crate::numbers::MeasureNumbers;
 use crate::numbers::PartNumbers;
 use crate::numbers::RepairNumbers;
+use crate::numbers::ReportNumbers;
 use crate::numbers::ScrubNumbers;
 use crate::numbers::TestNumbers;
 use layout::Layout;
@@ -24,7 +25,7 @@ ghost use Rattle.share.specs.Share.{shareRefusal, shareBuffer, addRefusal, addB
 ghost use Rattle.share.specs.Many.{manyRefusal, manyBuffer, addManyRefusal, addManyBuffer};
 ghost use Rattle.scrub.specs.Scrub.{scrubbed, begun};
 ghost use Rattle.cards.specs.Cards.{PrintAnswer, TestAnswer};
-ghost use Rattle.gesarumbo.specs.Boundary.{measureNumbers, scrubNumbers, TestShown, RepairShown, CorrectingShown, CardShown, PartShown};
+ghost use Rattle.gesarumbo.specs.Boundary.{measureNumbers, scrubNumbers, reportNumbers, TestShown, RepairShown, CorrectingShown, CardShown, PartShown};
 
 #[no_mangle]
 pub extern "C" fn gesarumbo_measure(l: Layout) -> MeasureNumbers
@@ -297,4 +298,36 @@ pub extern "C" fn gesarumbo_scrub(
     ensures { λ r. ⌜ r ≡ scrubNumbers (scrubbed gf256 l (now (codeword .entry)) walk budget) ⌝ }
 {
     numbers::scrub_numbers(scrub::step(l, codeword, walk, budget))
+}
+
+// The reset with the record lent, and changed in its place.
+#[no_mangle]
+pub extern "C" fn gesarumbo_scrub_reset_in_place(l: Layout, walk: &mut Walk) -> ReportNumbers
+    ensures { λ r. ⌜ (r ≡ reportNumbers (begun (gf256 .order) l (now (walk .entry)) .report)) × (now (walk .exit) ≡ begun (gf256 .order) l (now (walk .entry)) .walk) ⌝ }
+{
+    let s = gesarumbo_scrub_reset(l, *walk);
+    *walk = s.walk;
+    ReportNumbers {
+        refusal: s.refusal,
+        report: s.report,
+    }
+}
+
+// The step with the record lent, and changed in its place.
+#[no_mangle]
+pub extern "C" fn gesarumbo_scrub_in_place(
+    l: Layout,
+    codeword: &[u8],
+    walk: &mut Walk,
+    budget: u64,
+) -> ReportNumbers
+    ensures { λ r. ⌜ (r ≡ reportNumbers (scrubbed gf256 l (now (codeword .entry)) (now (walk .entry)) budget .report))
+        × (now (walk .exit) ≡ scrubbed gf256 l (now (codeword .entry)) (now (walk .entry)) budget .walk) ⌝ }
+{
+    let s = gesarumbo_scrub(l, codeword, *walk, budget);
+    *walk = s.walk;
+    ReportNumbers {
+        refusal: s.refusal,
+        report: s.report,
+    }
 }

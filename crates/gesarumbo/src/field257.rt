@@ -6,6 +6,7 @@ use crate::numbers::MarginNumbers;
 use crate::numbers::MeasureNumbers;
 use crate::numbers::PartNumbers;
 use crate::numbers::RepairNumbers;
+use crate::numbers::ReportNumbers;
 use crate::numbers::ScrubNumbers;
 use crate::numbers::TestNumbers;
 use layout::Layout;
@@ -25,7 +26,7 @@ ghost use Rattle.share.specs.Share.{shareRefusal, shareBuffer, addRefusal, addB
 ghost use Rattle.share.specs.Many.{manyRefusal, manyBuffer, addManyRefusal, addManyBuffer};
 ghost use Rattle.scrub.specs.Scrub.{scrubbed, begun};
 ghost use Rattle.cards.specs.Cards.{PrintAnswer, TestAnswer};
-ghost use Rattle.gesarumbo.specs.Boundary.{measureNumbers, scrubNumbers, TestShown, RepairShown, CorrectingShown, CardShown, PartShown};
+ghost use Rattle.gesarumbo.specs.Boundary.{measureNumbers, scrubNumbers, reportNumbers, TestShown, RepairShown, CorrectingShown, CardShown, PartShown};
 
 #[no_mangle]
 pub extern "C" fn gesarumbo257_measure(l: Layout) -> MeasureNumbers
@@ -298,4 +299,36 @@ pub extern "C" fn gesarumbo257_scrub(
     ensures { λ r. ⌜ r ≡ scrubNumbers (scrubbed gf257 l (now (codeword .entry)) walk budget) ⌝ }
 {
     numbers::scrub_numbers(scrub257::step(l, codeword, walk, budget))
+}
+
+// The reset with the record lent, and changed in its place.
+#[no_mangle]
+pub extern "C" fn gesarumbo257_scrub_reset_in_place(l: Layout, walk: &mut Walk) -> ReportNumbers
+    ensures { λ r. ⌜ (r ≡ reportNumbers (begun (gf257 .order) l (now (walk .entry)) .report)) × (now (walk .exit) ≡ begun (gf257 .order) l (now (walk .entry)) .walk) ⌝ }
+{
+    let s = gesarumbo257_scrub_reset(l, *walk);
+    *walk = s.walk;
+    ReportNumbers {
+        refusal: s.refusal,
+        report: s.report,
+    }
+}
+
+// The step with the record lent, and changed in its place.
+#[no_mangle]
+pub extern "C" fn gesarumbo257_scrub_in_place(
+    l: Layout,
+    codeword: &[u16],
+    walk: &mut Walk,
+    budget: u64,
+) -> ReportNumbers
+    ensures { λ r. ⌜ (r ≡ reportNumbers (scrubbed gf257 l (now (codeword .entry)) (now (walk .entry)) budget .report))
+        × (now (walk .exit) ≡ scrubbed gf257 l (now (codeword .entry)) (now (walk .entry)) budget .walk) ⌝ }
+{
+    let s = gesarumbo257_scrub(l, codeword, *walk, budget);
+    *walk = s.walk;
+    ReportNumbers {
+        refusal: s.refusal,
+        report: s.report,
+    }
 }

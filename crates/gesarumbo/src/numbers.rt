@@ -65,6 +65,12 @@ pub struct MarginNumbers {
 }
 
 #[repr(C)]
+pub struct ReportNumbers {
+    pub refusal: u32,
+    pub report: u32,
+}
+
+#[repr(C)]
 pub struct ScrubNumbers {
     pub refusal: u32,
     pub report: u32,

@@ -1,7 +1,7 @@
 -- The grounds of a read one by one, from the tests as the code makes them, and what is handed out.
 -- Assumes nothing.
 use mathlib.Core.Path.{_≡_, sym, ap, _∙_}
-use mathlib.Core.Bool.{Bool, true, false, cond, not}
+use mathlib.Core.Bool.{Bool, true, false, not}
 use mathlib.Core.List.{List}
 use Prim.Native.Nat.{ℕ, _≤_, _<_}
 use native.Mathlib.Omega.{arith}
@@ -18,30 +18,28 @@ use Rattle.image.specs.Inner.{Proper}
 use Rattle.image.proofs.SameLayout.{same-facts}
 use Rattle.image.proofs.Forms.{WellFormed, formed-facts}
 
+-- the layout and volume expected
+module _ (l : Layout) (volume : ℕ) (s : List ℕ) (own : Layout) (b : Bool) (w : own ≡ ownLayout s) (p : b ≡ sameLayout l own) where
+  pub expected-layout : not b ≡ true → false ≡ expected l volume s
+  expected-layout r = simp (ap (sameLayout l) (sym w) ∙ told-false p r)
+
+  pub expected-volume : not b ≡ false → (v : ℕ) → v ≡ ownVolume s → eqb volume v ≡ expected l volume s
+  expected-volume r v u = simp (ap (sameLayout l) (sym w) ∙ told-true p r) (ap (eqb volume) u)
+
 -- the grounds of a well-formed image
 module _ (l : Layout) (volume : ℕ) (s : List ℕ) (state : ℕ) (o : state ≡ ownState s) where
   pub formed-10 : (state ≡ live → ⊥) → 10 ≡ formedRefusal l volume s
   unfolding formedRefusal
   formed-10 d = simp (ne-eqb _ _ (λ q. d (o ∙ q)))
 
-  module _ (n : state ≡ live) where
-    expected-decides : (b : Bool) → b ≡ expected l volume s → cond b 0 11 ≡ formedRefusal l volume s
+  module _ (n : state ≡ live) (b : Bool) (p : b ≡ expected l volume s) where
+    pub formed-11 : not b ≡ true → 11 ≡ formedRefusal l volume s
     unfolding formedRefusal
-    expected-decides b q = simp (eq-eqb _ _ (sym o ∙ n)) (ap (λ t. cond t 0 11) q)
+    formed-11 r = simp (eq-eqb _ _ (sym o ∙ n), told-false p r)
 
-    module _ (own : Layout) (b : Bool) (w : own ≡ ownLayout s) (p : b ≡ sameLayout l own) where
-      pub formed-11-layout : not b ≡ true → 11 ≡ formedRefusal l volume s
-      formed-11-layout r = expected-decides false (simp (ap (sameLayout l) (sym w) ∙ told-false p r))
-
-      module _ (r : not b ≡ false) (v : ℕ) (u : v ≡ ownVolume s) where
-        decides : eqb volume (ownVolume s) ≡ expected l volume s
-        decides = simp (ap (sameLayout l) (sym w) ∙ told-true p r)
-
-        pub formed-11-volume : (volume ≡ v → ⊥) → 11 ≡ formedRefusal l volume s
-        formed-11-volume d = expected-decides false (sym (ne-eqb _ _ (λ q. d (q ∙ sym u))) ∙ decides)
-
-        pub formed-0 : volume ≡ v → 0 ≡ formedRefusal l volume s
-        formed-0 q = expected-decides true (sym (eq-eqb _ _ (q ∙ u)) ∙ decides)
+    pub formed-0 : not b ≡ false → 0 ≡ formedRefusal l volume s
+    unfolding formedRefusal
+    formed-0 r = simp (eq-eqb _ _ (sym o ∙ n), told-true p r)
 
 module _ (ed : Edition) (l : Layout) (volume places : ℕ) (s : List ℕ) where
   pub read-1 : (a : Bool) → a ≡ admissible (ed .order) l → not a ≡ true → 1 ≡ readRefusal ed l volume places s

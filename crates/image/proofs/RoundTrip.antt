@@ -5,6 +5,7 @@ use mathlib.Core.Bool.{true}
 use mathlib.Core.List.{List, _++_}
 use Prim.Native.Nat.{ℕ, _^_, _<_}
 use lib.ListN.{length}
+use borrow.Author.Tests.{eq-eqb}
 use Rattle.layout.specs.declared.Layout.{Layout}
 use Rattle.layout.specs.Layout.{layers}
 use Rattle.layout.proofs.Facts.{facts-admissible}
@@ -15,7 +16,7 @@ use Rattle.image.specs.Inner.{Proper}
 use Rattle.image.proofs.WriteGrounds.{Writable, writable, written}
 use Rattle.image.proofs.Forms.{facts-formed}
 use Rattle.image.proofs.SameLayout.{same-self}
-use Rattle.image.proofs.ReadGrounds.{formed-0, read-formed, given-symbols, given-tray}
+use Rattle.image.proofs.ReadGrounds.{expected-volume, formed-0, read-formed, given-symbols, given-tray}
 use Rattle.image.proofs.Written.{its-layout, its-state, its-tray, its-volume, its-symbols, well-formed}
 
 module _ (ed : Edition) (g : Proper ed) (l : Layout) (tray volume : ℕ) (symbols old refused : List ℕ) (v : volume < 2 ^ 32)
@@ -34,8 +35,8 @@ module _ (ed : Edition) (g : Proper ed) (l : Layout) (tray volume : ℕ) (symbol
       read-formed ed l volume (layers l) image true (facts-admissible (ed .order) l (w .adm)) refl
       (layers l) refl refl true (sym (facts-formed ed image g (well-formed ed g l tray live volume symbols (length old) w v))) refl
       0 (formed-0 l volume image live (sym (its-state ed g l tray live volume symbols (length old) w v)) refl
-      (ownLayout image) true refl (sym (same-self l (ownLayout image) same)) refl
-      volume (sym (its-volume ed g l tray live volume symbols (length old) w v)) refl)
+      true (sym (eq-eqb volume volume refl) ∙ expected-volume l volume image (ownLayout image) true refl (sym (same-self l (ownLayout image) same)) refl
+      volume (sym (its-volume ed g l tray live volume symbols (length old) w v))) refl)
 
   gives : Gives ed l volume (layers l) refused (writeBuffer ed l tray live volume symbols old) tray symbols
   gives =

@@ -14,7 +14,7 @@ ghost use mathlib.Core.Path.{_≡_};
 ghost use Prim.Native.Nat.{_≤_};
 ghost use lib.ListN.{length};
 ghost use Rattle.layout.specs.Layout.{Cabinet};
-ghost use Rattle.image.specs.Image.{headerLength, imageLength, stateAllowed, volumeAllowed, inRange, writeGrounds, headerFormed, sameLayout, formedRefusal};
+ghost use Rattle.image.specs.Image.{headerLength, imageLength, stateAllowed, volumeAllowed, inRange, writeGrounds, headerFormed, sameLayout, expected, formedRefusal};
 ghost use Rattle.image.specs.Inner.{Proper, Headed};
 
 // The length of an image.
@@ -140,6 +140,17 @@ fn same_layout(l: Layout, m: Layout) -> bool
     l.errors == m.errors
 }
 
+// Whether an image is of the layout and volume expected.
+fn is_expected(l: Layout, volume: u32, image: &[u8]) -> bool
+    requires { ⌜ headerLength ≤ length (now image) ⌝ }
+    ensures { λ r. ⌜ r ≡ expected l volume (now (image .entry)) ⌝ }
+{
+    if !same_layout(l, own_layout(image)) {
+        return false;
+    }
+    volume == own_volume(image)
+}
+
 // The refusal of a well-formed image that is not a live one of the layout and volume expected, 0 for none.
 pub fn formed_refusal(l: Layout, volume: u32, image: &[u8]) -> u8
     requires { ⌜ headerLength ≤ length (now image) ⌝ }
@@ -148,10 +159,7 @@ pub fn formed_refusal(l: Layout, volume: u32, image: &[u8]) -> u8
     if byte_at(image, 3) != LIVE {
         return 10;
     }
-    if !same_layout(l, own_layout(image)) {
-        return 11;
-    }
-    if volume != own_volume(image) {
+    if !is_expected(l, volume, image) {
         return 11;
     }
     0

@@ -8,6 +8,7 @@ ghost use lib.ListN.{length};
 ghost use Rattle.lists.specs.Lists.{table};
 ghost use Rattle.symbol.specs.Elem.{gf256};
 ghost use Rattle.layout.specs.Layout.{checks, layers, trayLimit};
+ghost use Rattle.kernel.specs.Runs.{Run, copied};
 ghost use Rattle.restore.specs.Restored.{RestoredTo};
 ghost use Rattle.store.specs.Store.{storeRefusal, StoreAnswer};
 ghost use Rattle.store.specs.Inner.{parityTrays, Writable};
@@ -68,6 +69,14 @@ fn parity(l: Layout, out: &mut [u8])
     parity_in(l, out, &mut list[..r]);
 }
 
+// Copies the data to the first trays.
+fn put_data(given: &[u8], out: &mut [u8])
+    requires { ⌜ length (now given) ≤ length (now out) ⌝ }
+    ensures { λ _. ⌜ Run (copied (now (given .entry)) 0) (now (out .entry)) (now (out .exit)) 0 (length (now (given .entry))) ⌝ }
+{
+    kernel::copy(out, 0, given.len(), given, 0);
+}
+
 // Writes the codeword of the data, or refuses and writes nothing.
 pub fn store(l: Layout, given: &[u8], out: &mut [u8]) -> u8
     ensures { λ r. ⌜ StoreAnswer gf256 l (now (given .entry)) (now (out .entry)) (now (out .exit)) r ⌝ }
@@ -76,7 +85,7 @@ pub fn store(l: Layout, given: &[u8], out: &mut [u8]) -> u8
     if ground != 0 {
         return ground;
     }
-    kernel::copy(out, 0, given.len(), given, 0);
+    put_data(given, out);
     parity(l, out);
     0
 }

@@ -9,6 +9,7 @@ ghost use lib.ListN.{length};
 ghost use Rattle.lists.specs.Lists.{table};
 ghost use Rattle.symbol257.specs.Elem.{gf257};
 ghost use Rattle.layout.specs.Layout.{checks, layers, trayLimit};
+ghost use Rattle.kernel.specs.Runs.{Run, copied};
 ghost use Rattle.restore.specs.Restored.{RestoredTo};
 ghost use Rattle.store.specs.Store.{storeRefusal, StoreAnswer};
 ghost use Rattle.store.specs.Inner.{parityTrays, Writable};
@@ -69,6 +70,14 @@ fn parity(l: Layout, out: &mut [u16])
     parity_in(l, out, &mut list[..r]);
 }
 
+// Copies the data to the first trays.
+fn put_data(given: &[u16], out: &mut [u16])
+    requires { ⌜ length (now given) ≤ length (now out) ⌝ }
+    ensures { λ _. ⌜ Run (copied (now (given .entry)) 0) (now (out .entry)) (now (out .exit)) 0 (length (now (given .entry))) ⌝ }
+{
+    kernel257::copy(out, 0, given.len(), given, 0);
+}
+
 // Writes the codeword of the data, or refuses and writes nothing.
 pub fn store(l: Layout, given: &[u16], out: &mut [u16]) -> u8
     ensures { λ r. ⌜ StoreAnswer gf257 l (now (given .entry)) (now (out .entry)) (now (out .exit)) r ⌝ }
@@ -77,7 +86,7 @@ pub fn store(l: Layout, given: &[u16], out: &mut [u16]) -> u8
     if ground != 0 {
         return ground;
     }
-    kernel257::copy(out, 0, given.len(), given, 0);
+    put_data(given, out);
     parity(l, out);
     0
 }

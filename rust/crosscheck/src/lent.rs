@@ -1,6 +1,7 @@
 //! Buffers lent to the library, with guarded ends.
 
 use crate::field::{symbol, Symbol};
+use gesarumbo::ScrubRecord;
 use std::hint::black_box;
 
 /// How many places stand before and after a lent part.
@@ -33,6 +34,15 @@ impl Guarded for u16 {
 impl Lent<u8> {
     pub fn bytes(part: &[u8]) -> Lent<u8> {
         Lent::new(part.iter().copied(), u8::guard)
+    }
+}
+
+impl Lent<ScrubRecord> {
+    /// A walk's record, between others.
+    pub fn record(record: ScrubRecord) -> Lent<ScrubRecord> {
+        Lent::new([record].into_iter(), |at| {
+            ScrubRecord::new(at as u32, !at as u32, 77)
+        })
     }
 }
 

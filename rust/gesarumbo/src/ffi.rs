@@ -84,6 +84,13 @@ pub struct Scrubbed {
     pub record: ScrubRecord,
 }
 
+/// The same where the record was lent.
+#[repr(C)]
+pub struct Reported {
+    pub refusal: u32,
+    pub report: u32,
+}
+
 /// The calls that both fields have alike: the C functions with this prefix over symbols of this
 /// type, and each of them as a safe function over slices.
 macro_rules! calls {
@@ -270,6 +277,16 @@ macro_rules! calls {
                     record: ScrubRecord,
                     budget: u64,
                 ) -> Scrubbed;
+                #[link_name = concat!($prefix, "_scrub_reset_in_place")]
+                pub fn scrub_reset_in_place(layout: Layout, record: *mut ScrubRecord) -> Reported;
+                #[link_name = concat!($prefix, "_scrub_in_place")]
+                pub fn scrub_in_place(
+                    layout: Layout,
+                    codeword: *const $symbol,
+                    length: usize,
+                    record: *mut ScrubRecord,
+                    budget: u64,
+                ) -> Reported;
             }
         }
 
@@ -627,6 +644,22 @@ macro_rules! calls {
         ) -> Scrubbed {
             // SAFETY: the slice is lent for the call.
             unsafe { c::scrub(layout, codeword.as_ptr(), codeword.len(), record, budget) }
+        }
+
+        pub fn scrub_reset_in_place(layout: Layout, record: &mut ScrubRecord) -> Reported {
+            // SAFETY: the record is lent for the call.
+            unsafe { c::scrub_reset_in_place(layout, record) }
+        }
+
+        pub fn scrub_in_place(
+            layout: Layout,
+            codeword: &[$symbol],
+            record: &mut ScrubRecord,
+            budget: u64,
+        ) -> Reported {
+            let (from, length) = (codeword.as_ptr(), codeword.len());
+            // SAFETY: the slice and the record are lent for the call.
+            unsafe { c::scrub_in_place(layout, from, length, record, budget) }
         }
     };
 }

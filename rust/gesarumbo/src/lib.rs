@@ -87,7 +87,7 @@ pub use reading::read_part;
 pub use recover::recover;
 pub use refusal::Refusal;
 pub use repair::{repair, repair_many, Repaired};
-pub use scrub::{scrub, scrub_reset, ScrubRecord, Scrubbed};
+pub use scrub::{scrub, scrub_handed, scrub_reset, scrub_reset_handed, ScrubRecord, Scrubbed};
 pub use share::{share, share_add, share_add_many, share_many};
 pub use state::{ABSENT, DEMONSTRATION, LIVE};
 pub use store::store;

@@ -1,6 +1,6 @@
 //! The testing of a stored codeword some layers at a time.
 
-use crate::ffi::{self, field256};
+use crate::ffi::field256;
 use crate::{Layout, Refusal};
 
 /// The record of a walk over a codeword's layers.
@@ -55,13 +55,24 @@ pub enum Scrubbed {
 /// assert_eq!(record, ScrubRecord::new(0, 0, 8));
 /// ```
 pub fn scrub_reset(layout: Layout, record: &mut ScrubRecord) -> Result<(), Refusal> {
-    reset(field256::scrub_reset(layout, *record), record)
+    let answer = field256::scrub_reset_in_place(layout, record);
+    Refusal::unless_done(answer.refusal, ())
 }
 
-/// What the library's answer to a reset means; the record is the one it hands back.
-pub(crate) fn reset(answer: ffi::Scrubbed, record: &mut ScrubRecord) -> Result<(), Refusal> {
-    *record = answer.record;
-    Refusal::unless_done(answer.refusal, ())
+/// The same reset with the record handed in and back; refused, it comes back as it was.
+///
+/// ```
+/// use gesarumbo::{scrub_reset_handed, Layout, ScrubRecord};
+///
+/// let (reset, record) = scrub_reset_handed(Layout::new(3, 1, 1, 2), ScrubRecord::new(7, 7, 7));
+/// assert_eq!((reset, record), (Ok(()), ScrubRecord::new(0, 0, 8)));
+/// ```
+pub fn scrub_reset_handed(
+    layout: Layout,
+    record: ScrubRecord,
+) -> (Result<(), Refusal>, ScrubRecord) {
+    let answer = field256::scrub_reset(layout, record);
+    (Refusal::unless_done(answer.refusal, ()), answer.record)
 }
 
 /// Looks at the next layers of a codeword of n·L bytes, as many as `budget` allows and are left.
@@ -104,20 +115,36 @@ pub fn scrub(
     record: &mut ScrubRecord,
     budget: u64,
 ) -> Result<Scrubbed, Refusal> {
-    let answer = field256::scrub(layout, codeword, *record, budget);
-    answered(answer, record)
+    let answer = field256::scrub_in_place(layout, codeword, record, budget);
+    reported(answer.refusal, answer.report)
 }
 
-/// What the library's answer to a call means; the record is the one it hands back.
-pub(crate) fn answered(
-    answer: ffi::Scrubbed,
-    record: &mut ScrubRecord,
-) -> Result<Scrubbed, Refusal> {
-    *record = answer.record;
-    let scrubbed = match answer.report {
+/// The same call with the record handed in and back; refused, it comes back as it was.
+///
+/// ```
+/// use gesarumbo::{scrub_handed, Layout, ScrubRecord, Scrubbed};
+///
+/// let codeword = [0; 3 * 8]; // all zero, which is a codeword
+/// let begun = ScrubRecord::new(0, 0, 8);
+/// let (report, record) = scrub_handed(Layout::new(3, 1, 1, 2), &codeword, begun, 5);
+/// assert_eq!((report, record), (Ok(Scrubbed::Unfinished), ScrubRecord::new(5, 0, 8)));
+/// ```
+pub fn scrub_handed(
+    layout: Layout,
+    codeword: &[u8],
+    record: ScrubRecord,
+    budget: u64,
+) -> (Result<Scrubbed, Refusal>, ScrubRecord) {
+    let answer = field256::scrub(layout, codeword, record, budget);
+    (reported(answer.refusal, answer.report), answer.record)
+}
+
+/// What the numbers of an answer to a call mean.
+pub(crate) fn reported(refusal: u32, report: u32) -> Result<Scrubbed, Refusal> {
+    let scrubbed = match report {
         1 => Scrubbed::Unfinished,
         2 => Scrubbed::Sound,
         _ => Scrubbed::Bad,
     };
-    Refusal::unless_done(answer.refusal, scrubbed)
+    Refusal::unless_done(refusal, scrubbed)
 }

@@ -36,14 +36,14 @@ exponent-spec =
     tie.close (tie.spec
     (λ c κs. search needs)
     (λ c. bounds _ (c .before .pre .0) .size-low)
-    (λ c. record { fits = mul-below trayLimit trayLimit (rack-high c) (base-high c) tt })
     (λ c κs. (
       omega (arith, bounds _ (c .before .pre .0)),
       rw (c .digit-count .ensures) (power-in _ (c .before .pre .0) _ (le-of-lt (rack-in _ (c .before .pre .0) _ (c .before .pre .1)))),
     ))
+    (λ c. bounds _ (c .before .before .pre .0) .size-low)
+    (λ c. bounds _ (c .before .before .pre .0) .size-low)
+    (λ c. record { fits = mul-below trayLimit trayLimit (rack-high (c .before)) (base-high (c .before)) tt })
     (λ c. omega (arith, parts c))
-    (λ c. bounds _ (c .before .before .pre .0) .size-low)
-    (λ c. bounds _ (c .before .before .pre .0) .size-low)
     (λ c. omega (arith, parts c))
     (λ c. omega (arith, parts c))
     (λ c.

@@ -1,7 +1,5 @@
 -- Made by tools/twin.py from crates/store/proofs/store/Proof.antt.
 use mathlib.Core.Path.{_≡_, refl, sym, _∙_}
-use Prim.Native.Nat.{_-_}
-use native.Mathlib.Omega.{arith}
 use lib.ListN.{length}
 use borrow.Author.Needs.{needs}
 use Rattle.symbol257.specs.Elem.{gf257}
@@ -23,11 +21,11 @@ store-spec =
     tie.close (tie.spec
     (λ c κs. search needs)
     (λ c. let a = c .before .before .before .before .args in answer-refused working (a .l) (a .given .now) (a .out .now) _ (c .before .refusal .ensures) (c .if1 .taken))
-    (λ c κs. let p = ok (c .before) .fits in (omega arith, omega arith))
-    (λ c κs. let p = ok (c .before .before .before .before .before) in record { adm = p .adm .cabinet; long = c .before .before .before .copy .ensures .long ∙ p .room-long })
+    (λ c κs. ok (c .before) .fits)
+    (λ c κs. let p = ok (c .before .before .before .before .before) in record { adm = p .adm .cabinet; long = c .before .before .before .put-data .ensures .long ∙ p .room-long })
     (λ c. search needs)
     (λ c.
-    let y = c .before .before .before .before .before .before .copy in
+    let y = c .before .before .before .before .before .before .put-data in
     let e = c .before .before .before .before .before .before .before .before in
     let a = e .before .before .before .before .args in
     let p = ok e in

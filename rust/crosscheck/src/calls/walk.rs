@@ -1,13 +1,14 @@
 //! Testing a codeword some layers at a time.
 
 use super::repair::budget;
-use super::walk_reset::{library_numbers, library_record, reference_numbers, reference_record};
+use super::walk_reset::{both_forms, library_record, reference_numbers, reference_record};
 use super::{library_layout, reference_layout, Call, Looks};
 use crate::answer::Answer;
 use crate::cabinet::Cabinet;
 use crate::damage;
 use crate::field::{in_field, Symbol};
 use crate::inputs::{Inputs, Kind, Value};
+use crate::lent::Lent;
 use crate::random::Random;
 use crate::source::{Source, EITHER};
 
@@ -85,19 +86,24 @@ fn example(source: &mut Source, cabinet: &Cabinet) -> Inputs {
 }
 
 fn library(inputs: &Inputs) -> Answer {
-    let mut record = library_record(inputs, RECORD);
+    let before = library_record(inputs, RECORD);
     let (layout, budget) = (library_layout(inputs), inputs.wide(3));
-    let report = |scrubbed| match scrubbed {
-        gesarumbo::Scrubbed::Unfinished => [UNFINISHED],
-        gesarumbo::Scrubbed::Sound => [SOUND],
-        gesarumbo::Scrubbed::Bad => [BAD],
-    };
+    let mut lent = Lent::record(before);
     in_field!(inputs.field, {
         let codeword = inputs.lent::<F>(1);
-        let scrubbed = library::scrub(layout, codeword.part(), &mut record, budget);
-        Answer::handing_back(scrubbed.map(report), library_numbers(record))
+        let scrubbed = library::scrub(layout, codeword.part(), &mut lent.part_mut()[0], budget);
+        let handed = library::scrub_handed(layout, codeword.part(), before, budget);
+        both_forms(scrubbed, &lent, handed, |report| [report_number(report)])
             .read("the codeword", &codeword)
     })
+}
+
+fn report_number(report: gesarumbo::Scrubbed) -> i128 {
+    match report {
+        gesarumbo::Scrubbed::Unfinished => UNFINISHED,
+        gesarumbo::Scrubbed::Sound => SOUND,
+        gesarumbo::Scrubbed::Bad => BAD,
+    }
 }
 
 fn reference(inputs: &Inputs) -> Answer {

@@ -5,6 +5,7 @@ use crate::answer::Answer;
 use crate::cabinet::Cabinet;
 use crate::field::in_field;
 use crate::inputs::{Inputs, Kind, Value};
+use crate::lent::Lent;
 use crate::source::{Source, EITHER};
 
 pub const CALL: Call = Call {
@@ -29,10 +30,34 @@ fn example(source: &mut Source, cabinet: &Cabinet) -> Inputs {
 }
 
 fn library(inputs: &Inputs) -> Answer {
-    let mut record = library_record(inputs, 1);
+    let before = library_record(inputs, 1);
     let layout = library_layout(inputs);
-    let reset = in_field!(inputs.field, library::scrub_reset(layout, &mut record));
-    Answer::handing_back(reset.map(|()| []), library_numbers(record))
+    let mut lent = Lent::record(before);
+    let (reset, handed) = in_field!(inputs.field, {
+        let reset = library::scrub_reset(layout, &mut lent.part_mut()[0]);
+        (reset, library::scrub_reset_handed(layout, before))
+    });
+    both_forms(reset, &lent, handed, |()| [])
+}
+
+/// The answer of a call that was lent its record; the form of the call that is handed the record
+/// and hands it back must answer alike.
+pub fn both_forms<A: Copy + PartialEq, const N: usize>(
+    answer: Result<A, gesarumbo::Refusal>,
+    lent: &Lent<gesarumbo::ScrubRecord>,
+    handed: (Result<A, gesarumbo::Refusal>, gesarumbo::ScrubRecord),
+    numbers: fn(A) -> [i128; N],
+) -> Answer {
+    let record = lent.part()[0];
+    let mut all = Answer::handing_back(answer.map(numbers), library_numbers(record));
+    if handed != (answer, record) {
+        all.spoilt
+            .push("what the form with the record handed in answers");
+    }
+    if !lent.ends_kept() {
+        all.spoilt.push("what lies around the record");
+    }
+    all
 }
 
 fn reference(inputs: &Inputs) -> Answer {

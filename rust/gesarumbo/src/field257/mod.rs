@@ -73,7 +73,7 @@ pub use numbers::numbers;
 pub use reading::read_part;
 pub use recover::recover;
 pub use repair::{repair, repair_many};
-pub use scrub::{scrub, scrub_reset};
+pub use scrub::{scrub, scrub_handed, scrub_reset, scrub_reset_handed};
 pub use share::{share, share_add, share_add_many, share_many};
 pub use store::store;
 pub use test::test;

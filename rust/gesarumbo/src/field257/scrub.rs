@@ -1,7 +1,7 @@
 //! The testing of a stored codeword of this field some layers at a time.
 
 use crate::ffi::field257;
-use crate::scrub::{answered, reset};
+use crate::scrub::reported;
 use crate::{Layout, Refusal, ScrubRecord, Scrubbed};
 
 /// Starts a new walk over the codewords of a layout, whatever the record holds, as
@@ -19,7 +19,17 @@ use crate::{Layout, Refusal, ScrubRecord, Scrubbed};
 /// # Ok::<(), Refusal>(())
 /// ```
 pub fn scrub_reset(layout: Layout, record: &mut ScrubRecord) -> Result<(), Refusal> {
-    reset(field257::scrub_reset(layout, *record), record)
+    let answer = field257::scrub_reset_in_place(layout, record);
+    Refusal::unless_done(answer.refusal, ())
+}
+
+/// The same reset with the record handed in and back; refused, it comes back as it was.
+pub fn scrub_reset_handed(
+    layout: Layout,
+    record: ScrubRecord,
+) -> (Result<(), Refusal>, ScrubRecord) {
+    let answer = field257::scrub_reset(layout, record);
+    (Refusal::unless_done(answer.refusal, ()), answer.record)
 }
 
 /// Looks at the next layers of a codeword of n·L symbols, as many as `budget` allows and are left,
@@ -50,6 +60,17 @@ pub fn scrub(
     record: &mut ScrubRecord,
     budget: u64,
 ) -> Result<Scrubbed, Refusal> {
-    let answer = field257::scrub(layout, codeword, *record, budget);
-    answered(answer, record)
+    let answer = field257::scrub_in_place(layout, codeword, record, budget);
+    reported(answer.refusal, answer.report)
+}
+
+/// The same call with the record handed in and back; refused, it comes back as it was.
+pub fn scrub_handed(
+    layout: Layout,
+    codeword: &[u16],
+    record: ScrubRecord,
+    budget: u64,
+) -> (Result<Scrubbed, Refusal>, ScrubRecord) {
+    let answer = field257::scrub(layout, codeword, record, budget);
+    (reported(answer.refusal, answer.report), answer.record)
 }
