@@ -1,0 +1,18 @@
+use Prim.Native.Nat.{_-_}
+use borrow.Author.Needs.{needs}
+use Rattle.weigh.proofs.Weights.{three-none, three-once, three-twice}
+use Rattle.weigh.proofs.weigh_three.Statement.{statement}
+use Rattle.weigh.proofs.weigh_three.Tie as tie
+
+pub weigh-three-spec : {M : Type 1} → statement M
+weigh-three-spec =
+    tie.close (tie.spec
+    (λ c κs. search needs)
+    (λ c. search needs)
+    (λ c. search three-none)
+    (λ c κs. search needs)
+    (λ c. search needs)
+    (λ c. search three-once)
+    (λ c κs. search needs)
+    (λ c. search needs)
+    (λ c. search three-twice))
