@@ -3,7 +3,7 @@
 use mathlib.Core.Path.{_≡_, refl, sym, ap, ap₂, _∙_, subst}
 use mathlib.Core.Bool.{Bool, true, false, not}
 use mathlib.Core.List.{List}
-use Prim.Native.Nat.{ℕ, _+_, _*_, _/_, _<_, _≤_}
+use Prim.Native.Nat.{ℕ, _+_, _-_, _*_, _/_, _<_, _≤_}
 use native.Mathlib.Nat.{zero-add, add-assoc, add-mul}
 use native.Mathlib.Omega.{arith}
 use borrow.Author.Tests.{not-true, not-false}
@@ -25,7 +25,7 @@ use Rattle.layout.specs.Layout.{trays, layers}
 use Rattle.codeword.specs.Codeword.{shapeOf, symbolAt}
 use Rattle.syndrome.specs.Syndrome.{Listed, survivorAt}
 use Rattle.syndrome.proofs.Sums.{survivor-listed, survivor-kept}
-use Rattle.rack_checks.specs.Racks.{Kept, Readable, placeTerm, PlaceAdded, PlaceSums, keptSum}
+use Rattle.rack_checks.specs.Racks.{Kept, Readable, placeTerm, PlaceAdded, PlaceSums, LastSums, keptSum}
 
 module _ {A : Type 0} {f : Field A} (W : Working f) (l : Layout) (w first : ℕ) (c es : List ℕ) (i m : ℕ) where
   open Field f using (ops, root)
@@ -86,20 +86,38 @@ module _ {A : Type 0} {f : Field A} (W : Working f) (l : Layout) (w first : ℕ)
   places-end g cur s h k = let q : g ≡ l .size = omega arith in subst (λ n. PlaceSums f l w first c es i m n cur) q s
 
   -- ---- all places at once, where none is listed
-  pub places-whole : (u total : ℕ) (res : Bool) (cur : List ℕ) → Readable l total c → (res ≡ true → Kept es (i * l .size) (l .size)) → not res ≡ false → l .size ≡ u →
-      Weighed f u m c (i * l .size * total + first) total w cur → PlaceSums f l w first c es i m (l .size) cur
-  unfolding placeTerm weightedTerm weight place
-  places-whole u total res cur rd k t e s = record {
-    at = λ j h.
-        s .at j h ∙ ap (λ n. sum ops n (weightedTerm f u m c (i * l .size * total + first) total j)) (sym e)
+  module _ (u total : ℕ) (res : Bool) (rd : Readable l total c) (k : res ≡ true → Kept es (i * l .size) (l .size)) (t : not res ≡ false) (e : l .size ≡ u) where
+    whole-sum : (j : ℕ) → sum ops u (weightedTerm f u m c (i * l .size * total + first) total j) ≡ sum ops (l .size) (placeTerm f l es c (first + j) i m)
+    unfolding placeTerm weightedTerm weight place
+    whole-sum j =
+        ap (λ n. sum ops n (weightedTerm f u m c (i * l .size * total + first) total j)) (sym e)
         ∙ sum-congr ops (l .size) _ _ (λ g b. ap₂ (ops .mul) (ap (λ n. pow ops (pow ops (pow ops root (f .order / n)) g) m) (sym e))
-        (ap (λ n. elem (getD c n 0)) (spot g j) ∙ there total rd g j (k (not-false res t) .at g b)));
-  }
-    where
-      spot : (g j : ℕ) → i * l .size * total + first + g * total + j ≡ (i * l .size + g) * total + first + j
-      spot g j = let d : (i * l .size + g) * total ≡ i * l .size * total + g * total = add-mul (i * l .size) g total in omega arith
+        (ap (λ n. elem (getD c n 0)) (spot g j) ∙ there total rd g j (k (not-false res t) .at g b)))
+      where
+        spot : (g j : ℕ) → i * l .size * total + first + g * total + j ≡ (i * l .size + g) * total + first + j
+        spot g j = let d : (i * l .size + g) * total ≡ i * l .size * total + g * total = add-mul (i * l .size) g total in omega arith
+
+    pub places-whole : (cur : List ℕ) → Weighed f u m c (i * l .size * total + first) total w cur → PlaceSums f l w first c es i m (l .size) cur
+    places-whole cur s = record { at = λ j h. s .at j h ∙ whole-sum j }
+
+    whole-places : (cur : List ℕ) → PlaceSums f l w first c es i m (l .size) cur → Weighed f u m c (i * l .size * total + first) total w cur
+    whole-places cur s = record { at = λ j h. s .at j h ∙ sym (whole-sum j) }
 
   -- together the rack sums
   pub places-all : (cur : List ℕ) → PlaceSums f l w first c es i m (l .size) cur → (j : ℕ) → j < w → elem (getD cur j 0) ≡ keptSum f l es c (first + j) m i
   unfolding keptSum rackSum placeTerm
   places-all cur s j k = s .at j k
+
+-- ---- the sums of the weight before
+module _ {A : Type 0} {f : Field A} (W : Working f) (l : Layout) (w first : ℕ) (c es : List ℕ) (i : ℕ) where
+  pub last-none : (cur : List ℕ) → LastSums f l w first c es i 0 cur
+  last-none cur = record { at = λ h. absurd (omega arith) }
+
+  pub last-next : (m : ℕ) (cur : List ℕ) → PlaceSums f l w first c es i m (l .size) cur → LastSums f l w first c es i (m + 1) cur
+  last-next m cur s = record { at = λ h. let e : m ≡ m + 1 - 1 = omega arith in subst (λ n. PlaceSums f l w first c es i n (l .size) cur) e s }
+
+  pub last-weighed : (m total : ℕ) (res : Bool) (cur : List ℕ) → Readable l total c → (res ≡ true → Kept es (i * l .size) (l .size)) → not res ≡ false → l .size ≡ 3 →
+      LastSums f l w first c es i m cur → m ≡ 2 → Weighed f 3 1 c (i * l .size * total + first) total w cur
+  last-weighed m total res cur rd k t e s two =
+      let q : m - 1 ≡ 1 = omega arith in
+      whole-places W l w first c es i 1 3 total res rd k t e cur (subst (λ n. PlaceSums f l w first c es i n (l .size) cur) q (s .at (omega arith)))

@@ -47,6 +47,10 @@ module _ {A : Type 0} (f : Field A) (l : Layout) where
   pub record PlaceSums (w first : ℕ) (c es : List ℕ) (i m g : ℕ) (cur : List ℕ) : Type 0 where
     pub at : (j : ℕ) → j < w → elem (getD cur j 0) ≡ sum ops g (placeTerm es c (first + j) i m)
 
+  -- all sums of the weight before m
+  pub record LastSums (w first : ℕ) (c es : List ℕ) (i m : ℕ) (cur : List ℕ) : Type 0 where
+    pub at : 0 < m → PlaceSums w first c es i (m - 1) (l .size) cur
+
   -- the rack sum of weight m of layer j, over the trays that are not listed
   unfoldable pub keptSum : List ℕ → List ℕ → ℕ → ℕ → ℕ → A
   keptSum es c j m i = rackSum (shapeOf f l) (survivorAt f l es c j) m i

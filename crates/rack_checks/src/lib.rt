@@ -11,7 +11,7 @@ ghost use Rattle.symbol.specs.Elem.{gf256};
 ghost use Rattle.layout.specs.Layout.{Cabinet, trays, layers, trayLimit};
 ghost use Rattle.blocks.specs.Blocks.{Block};
 ghost use Rattle.syndrome.specs.Syndrome.{Listed, Room, DigitPowers, Sums};
-ghost use Rattle.rack_checks.specs.Racks.{ListedFrom, Kept, Readable, PlaceAdded, PlaceSums, Raised, WeightRaised, RackRaised};
+ghost use Rattle.rack_checks.specs.Racks.{ListedFrom, Kept, Readable, PlaceAdded, PlaceSums, LastSums, Raised, WeightRaised, RackRaised};
 
 // The least tray from which on all are listed.
 fn listed_from(es: &[u32], n: u32) -> u32
@@ -106,7 +106,7 @@ fn all_kept(es: &[u32], x: u32, n: u32) -> bool
     true
 }
 
-// The rack sums of weight m, at once where no tray of the rack is listed.
+// The rack sums of weight m from those of weight m - 1, at once where no tray of the rack is listed.
 fn rack_sum(
     cur: &mut [u8],
     l: Layout,
@@ -118,7 +118,7 @@ fn rack_sum(
     i: u32,
     m: u32,
 )
-    requires { ⌜ Block l w first × (w ≤ length (now cur)) × Readable l total (now c) × Listed l (now es) × (i < l .racks) × (m < l .size) ⌝ }
+    requires { ⌜ Block l w first × (w ≤ length (now cur)) × Readable l total (now c) × Listed l (now es) × (i < l .racks) × (m < l .size) × LastSums gf256 l w first (now c) (now es) i m (now cur) ⌝ }
     ensures { λ _. ⌜ PlaceSums gf256 l w first (now (c .entry)) (now (es .entry)) i m (l .size) (now (cur .exit)) ⌝ }
 {
     let u = l.size;

@@ -9,13 +9,16 @@ use lib.Dec.{T, eqb, eqb→eq, lit<}
 use lib.ListN.{length, getD}
 use Rattle.algebra.specs.Field.{Ops, Laws}
 use Rattle.algebra.specs.Sum.{sum, pow}
+use Rattle.algebra.specs.Plain.{plus}
 use Rattle.algebra.proofs.Ring.{ring, one-mul}
 use Rattle.algebra.proofs.Pow.{pow-zero, one-pow}
+use Rattle.algebra.proofs.Plain.{elem-plus}
 use Rattle.symbol.specs.Arithmetic.{_⊕_, _⊗_, mulz, shiftAdd, power, zpow}
 use Rattle.symbol.specs.Elem.{Elem, elem, ops, z, gf256}
 use Rattle.symbol.proofs.Tables.{log, logs, zpow-log}
-use Rattle.symbol.proofs.Elem.{laws, elem-zero, elem-⊕, elem-⊗, elem-power, elem-zpow}
-use Rattle.kernel.specs.Runs.{Run}
+use Rattle.symbol.proofs.Elem.{laws, elem-zero, elem-one, elem-⊕, elem-⊗, elem-power, elem-zpow}
+use Rattle.symbol.proofs.Working.{working}
+use Rattle.kernel.specs.Runs.{Run, addedApart, sumApart}
 use Rattle.weigh.specs.Weigh.{mix, three, five, weight, weightedTerm, Weighed}
 
 -- ---- the factors
@@ -52,6 +55,10 @@ five-terms : (a b c d e p q r s : Elem) → ops .add a (ops .add (ops .add (ops 
     ≡ ops .add (ops .add (ops .add (ops .add (ops .add (ops .zero) a) (ops .mul p b)) (ops .mul q c)) (ops .mul r d)) (ops .mul s e)
 five-terms a b c d e p q r s = let L = laws in simp (ring, L)
 
+turn-terms : (a b c p q : Elem) → ops .add (ops .add (ops .add (ops .add (ops .zero) a) (ops .mul p b)) (ops .mul q c)) (ops .add (ops .add (ops .zero) b) c)
+    ≡ ops .add (ops .add (ops .add (ops .zero) a) (ops .mul (ops .add p (ops .one)) b)) (ops .mul (ops .add q (ops .one)) c)
+turn-terms a b c p q = let L = laws in simp (ring, L)
+
 module _ (u m : ℕ) (src : List ℕ) (from gap j : ℕ) where
   -- a run's part in the sum
   term-is : (g at p : ℕ) → at ≡ from + g * gap + j → elem p ≡ weight gf256 u m g → ops .mul (elem p) (elem (getD src at 0)) ≡ weightedTerm gf256 u m src from gap j g
@@ -64,6 +71,65 @@ module _ (u m : ℕ) (src : List ℕ) (from gap j : ℕ) where
   first-is =
       sym (ap (λ x. ops .mul x (elem (getD src (from + 0 * gap + j) 0))) (ap (λ x. pow ops x m) (pow-zero ops _) ∙ one-pow ops laws m) ∙ one-mul ops laws _
       ∙ (let e : from + 0 * gap + j ≡ from + j = omega arith in ap (λ n. elem (getD src n 0)) e))
+
+-- ---- from weight 1 to weight 2 in racks of three
+one-more : (n v : ℕ) → n ⊕ 1 ≡ v → elem v ≡ ops .add (elem n) (ops .one)
+one-more n v e = ap elem (sym e) ∙ elem-⊕ n 1 ∙ ap (ops .add (elem n)) elem-one
+
+next-first : weight gf256 3 1 0 ≡ weight gf256 3 2 0
+unfolding power
+next-first = sym (weight-is 3 214 1 0 1 third one) ∙ weight-is 3 214 2 0 1 third one-squared
+  where
+    one : T (eqb (power (power 214 0) 1) 1)
+    one = unfold power _⊗_ shiftAdd mulz _⊕_ in tt
+
+    one-squared : T (eqb (power (power 214 0) 2) 1)
+    one-squared = unfold power _⊗_ shiftAdd mulz _⊕_ in tt
+
+next-second : ops .add (weight gf256 3 1 1) (ops .one) ≡ weight gf256 3 2 1
+next-second = ap (λ x. ops .add x (ops .one)) (sym (weight-is 3 214 1 1 214 third a)) ∙ sym (one-more 214 215 c) ∙ weight-is 3 214 2 1 215 third b
+  where
+    a : T (eqb (power (power 214 1) 1) 214)
+    a = unfold power _⊗_ shiftAdd mulz _⊕_ in tt
+
+    b : T (eqb (power (power 214 1) 2) 215)
+    b = unfold power _⊗_ shiftAdd mulz _⊕_ in tt
+
+    c : 214 ⊕ 1 ≡ 215
+    c = unfold _⊕_ in refl
+
+next-third : ops .add (weight gf256 3 1 2) (ops .one) ≡ weight gf256 3 2 2
+next-third = ap (λ x. ops .add x (ops .one)) (sym (weight-is 3 214 1 2 215 third a)) ∙ sym (one-more 215 214 c) ∙ weight-is 3 214 2 2 214 third b
+  where
+    a : T (eqb (power (power 214 2) 1) 215)
+    a = unfold power _⊗_ shiftAdd mulz _⊕_ in tt
+
+    b : T (eqb (power (power 214 2) 2) 214)
+    b = unfold power _⊗_ shiftAdd mulz _⊕_ in tt
+
+    c : 215 ⊕ 1 ≡ 214
+    c = unfold _⊕_ in refl
+
+three-two : (src was is : List ℕ) (from gap len : ℕ) → Weighed gf256 3 1 src from gap len was → Run (addedApart gf256 was 0 src (from + gap) gap 2) was is 0 len → Weighed gf256 3 2 src from gap len is
+unfolding addedApart sumApart sum weightedTerm
+three-two src was is from gap len k r = record {
+  at = λ j h.
+      ap (λ n. elem (getD is n 0)) (sym (zero-add j)) ∙ ap elem (r .done j h)
+      ∙ elem-plus working (getD was (0 + j) 0) (plus gf256 (plus gf256 0 (getD src (from + gap + j + 0 * gap) 0)) (getD src (from + gap + j + 1 * gap) 0))
+      ∙ ap₂ (ops .add) (ap (λ n. elem (getD was n 0)) (zero-add j) ∙ k .at j h)
+      (elem-plus working (plus gf256 0 (getD src (from + gap + j + 0 * gap) 0)) (getD src (from + gap + j + 1 * gap) 0)
+      ∙ ap₂ (ops .add) (elem-plus working 0 (getD src (from + gap + j + 0 * gap) 0) ∙ ap₂ (ops .add) elem-zero (second j)) (last j))
+      ∙ turn-terms (ops .mul (weight gf256 3 1 0) (elem (getD src (from + 0 * gap + j) 0))) (elem (getD src (from + 1 * gap + j) 0)) (elem (getD src (from + 2 * gap + j) 0)) (weight gf256 3 1 1) (weight gf256 3 1 2)
+      ∙ ap₂ (ops .add)
+      (ap₂ (ops .add) (ap (λ x. ops .add (ops .zero) (ops .mul x (elem (getD src (from + 0 * gap + j) 0)))) next-first) (ap (λ x. ops .mul x (elem (getD src (from + 1 * gap + j) 0))) next-second))
+      (ap (λ x. ops .mul x (elem (getD src (from + 2 * gap + j) 0))) next-third);
+}
+  where
+    second : (j : ℕ) → elem (getD src (from + gap + j + 0 * gap) 0) ≡ elem (getD src (from + 1 * gap + j) 0)
+    second j = let e : from + gap + j + 0 * gap ≡ from + 1 * gap + j = omega arith in ap (λ n. elem (getD src n 0)) e
+
+    last : (j : ℕ) → elem (getD src (from + gap + j + 1 * gap) 0) ≡ elem (getD src (from + 2 * gap + j) 0)
+    last j = let e : from + gap + j + 1 * gap ≡ from + 2 * gap + j = omega arith in ap (λ n. elem (getD src n 0)) e
 
 module _ (m : ℕ) (src was is : List ℕ) (from gap len : ℕ) where
   three-sums : (p q : ℕ) → elem p ≡ weight gf256 3 m 1 → elem q ≡ weight gf256 3 m 2 → Run (three src from gap p q) was is 0 len → Weighed gf256 3 m src from gap len is
@@ -108,9 +174,9 @@ module _ (m : ℕ) (src was is : List ℕ) (from gap len : ℕ) where
   unfolding power _⊗_ shiftAdd mulz _⊕_
   three-once = three-case 1 214 215 tt tt
 
-  pub three-twice : m < 3 → ¬ (m ≡ 0) → ¬ (m ≡ 1) → Run (three src from gap 215 214) was is 0 len → Weighed gf256 3 m src from gap len is
-  unfolding power _⊗_ shiftAdd mulz _⊕_
-  three-twice h x y = three-case 2 215 214 tt tt (omega arith)
+  pub three-turn : m < 3 → ¬ (m ≡ 0) → ¬ (m ≡ 1) → (m ≡ 2 → Weighed gf256 3 1 src from gap len was) → Run (addedApart gf256 was 0 src (from + gap) gap 2) was is 0 len →
+      Weighed gf256 3 m src from gap len is
+  three-turn h x y k r = let e : m ≡ 2 = omega arith in subst (λ n. Weighed gf256 3 n src from gap len is) (sym e) (three-two src was is from gap len (k e) r)
 
   five-case : (k p q v w : ℕ) → T (eqb (power (power 10 1) k) p) → T (eqb (power (power 10 2) k) q) → T (eqb (power (power 10 3) k) v) → T (eqb (power (power 10 4) k) w) → m ≡ k →
       Run (five src from gap p q v w) was is 0 len → Weighed gf256 5 m src from gap len is

@@ -77,9 +77,10 @@ fn sum_five(
     }
 }
 
-// The sums of weight m over racks of three: the factors are 1, z^85 and z^170 to the power m.
+// The sums of weight m over racks of three: the factors are 1, z^85 and z^170 to the power m. As z^170 is z^85 + 1, the sums of weight 2 are those of weight 1
+// plus the last two places.
 pub fn weigh_three(out: &mut [u8], len: usize, src: &[u8], from: usize, gap: usize, m: u32)
-    requires { ⌜ (len ≤ length (now out)) × (from + gap + gap + len ≤ length (now src)) × (m < 3) ⌝ }
+    requires { ⌜ (len ≤ length (now out)) × (from + gap + gap + len ≤ length (now src)) × (m < 3) × (m ≡ 2 → Weighed gf256 3 1 (now src) from gap len (now out)) ⌝ }
     ensures { λ _. ⌜ Weighed gf256 3 m (now (src .entry)) from gap len (now (out .exit)) ⌝ }
 {
     if m == 0 {
@@ -90,7 +91,7 @@ pub fn weigh_three(out: &mut [u8], len: usize, src: &[u8], from: usize, gap: usi
         sum_three(out, len, src, from, gap, 214, 215);
         return;
     }
-    sum_three(out, len, src, from, gap, 215, 214);
+    kernel::add_apart(out, 0, len, src, from + gap, gap, 2);
 }
 
 // The same over racks of five: the factors are 1, z^51, z^102, z^153 and z^204 to the power m.

@@ -1,6 +1,7 @@
 use Prim.Native.Nat.{_-_}
+use native.Mathlib.Omega.{arith}
 use borrow.Author.Needs.{needs}
-use Rattle.weigh.proofs.Weights.{three-none, three-once, three-twice}
+use Rattle.weigh.proofs.Weights.{three-none, three-once, three-turn}
 use Rattle.weigh.proofs.weigh_three.Statement.{statement}
 use Rattle.weigh.proofs.weigh_three.Tie as tie
 
@@ -13,6 +14,7 @@ weigh-three-spec =
     (λ c κs. search needs)
     (λ c. search needs)
     (λ c. search three-once)
-    (λ c κs. search needs)
+    (λ c. omega arith)
+    (λ c κs. (omega arith, omega arith, omega arith))
     (λ c. search needs)
-    (λ c. search three-twice))
+    (λ c. search three-turn))
