@@ -9,7 +9,7 @@ usage: bench [--rounds N] [--quick]
        bench --instructions [--quick]
            counts the instructions of every call by every version with valgrind, and prints a
            table for each field; quick: of storing the first layout, and fails above twice the
-           ordinary version's
+           ordinary version's or above the field's own limit
        bench --count CALL VERSION [--rounds N]
            does one call N times and prints nothing
 each for one field only: --field 256 or --field 257
