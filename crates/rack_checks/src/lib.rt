@@ -5,7 +5,7 @@ use layout::Layout;
 use symbol::plain::ROOT;
 ghost use mathlib.Core.Path.{_≡_};
 ghost use mathlib.Core.Bool.{true};
-ghost use Prim.Native.Nat.{_+_, _*_, _/_, _<_, _≤_, min};
+ghost use Prim.Native.Nat.{_+_, _*_, _/_, _<_, _≤_};
 ghost use lib.ListN.{length};
 ghost use Rattle.symbol.specs.Elem.{gf256};
 ghost use Rattle.layout.specs.Layout.{Cabinet, trays, layers, trayLimit};
@@ -184,13 +184,6 @@ fn raise_weight(
     }
 }
 
-// The smaller of two numbers.
-fn fewer(a: u32, b: u32) -> u32
-    ensures { λ r. ⌜ r ≡ min a b ⌝ }
-{
-    if a < b { a } else { b }
-}
-
 // All checks by rack i.
 fn raise_rack(
     sums: &mut [u8],
@@ -209,7 +202,7 @@ fn raise_rack(
     ensures { λ _. ⌜ RackRaised gf256 l w first r (now (c .entry)) (now (es .entry)) i (now (sums .entry)) (now (sums .exit)) ⌝ }
 {
     let u = l.size;
-    let n = fewer(u, r as u32);
+    let n = lists::smaller(u as u64, r as u64) as u32;
     syndrome::digit_powers(row, l, w, first, i, 1, ROOT);
     let mut m = 0u32;
     while m < n {

@@ -20,8 +20,9 @@ abbrev μ-loop : tie.MeasureT-loop
 pub raise-rack-spec : {M : Type 1} → statement M
 raise-rack-spec =
     tie.close (tie.spec Inv-loop μ-loop
-    (λ c. omega arith)
+    (λ c. search needs)
     (λ c κs. search needs)
+    (λ c. omega arith)
     (λ c κs. search needs)
     (λ c. (omega arith, refl, refl, weights-none working _ _ _ _ _ _ _ _, last-none working _ _ _ _ _ _ _))
     (λ c κs. (search needs, omega arith, search needs, search needs, search needs, omega arith, search needs))
