@@ -86,7 +86,8 @@ module _ {A : Type 0} {f : Field A} (W : Working f) where
     done = λ j b.
         r .done j b
         ∙ ap (λ y. plus f (val y) (cond (eqb (getD row j 0) p) (getD cur j 0) 0))
-        (ap (ops .mul (pow ops root n)) (s .done j b) ∙ sym (mul-assoc ops laws _ _ _) ∙ ap (λ y. ops .mul y (elem (getD was (to + j) 0))) (sym (pow-add ops laws root n (t - k)) ∙ ap (pow ops root) all));
+        (ap (ops .mul (pow ops root n)) (s .done j b) ∙ sym (mul-assoc ops laws _ _ _)
+        ∙ ap (λ y. ops .mul y (elem (getD was (to + j) 0))) (sym (pow-add ops laws root n (t - k)) ∙ ap (pow ops root) all));
     low = λ i b. r .low i b ∙ s .low i b;
     high = λ i b. r .high i b ∙ s .high i b;
   }

@@ -3,7 +3,7 @@
 use mathlib.Core.Path.{_≡_}
 use mathlib.Core.Bool.{true, false}
 use mathlib.Core.List.{List}
-use Prim.Native.Nat.{ℕ, _+_, _-_, _*_, _<_, _≤_}
+use Prim.Native.Nat.{ℕ, _+_, _-_, _*_, _/_, _<_, _≤_}
 use lib.ListN.{length, getD}
 use Rattle.lists.specs.Lists.{absent}
 use Rattle.algebra.specs.Field.{Ops}
@@ -14,7 +14,7 @@ use Rattle.algebra.specs.Points.{place, rackSum}
 use Rattle.algebra.specs.Shape.{Field}
 use Rattle.kernel.specs.Runs.{cell}
 use Rattle.layout.specs.declared.Layout.{Layout}
-use Rattle.layout.specs.Layout.{trays, digits, layers}
+use Rattle.layout.specs.Layout.{trays, digits, layers, trayLimit}
 use Rattle.codeword.specs.Codeword.{shapeOf}
 use Rattle.syndrome.specs.Syndrome.{survivorAt}
 
@@ -30,6 +30,13 @@ pub record Kept (es : List ℕ) (x n : ℕ) : Type 0 where
 pub record Readable (l : Layout) (total : ℕ) (c : List ℕ) : Type 0 where
   pub total-is : total ≡ layers l
   pub long : length c ≡ trays l * layers l
+
+-- r checks may go by racks, and no tray is kept from rack h on
+pub record ByRacks {A : Type 0} (f : Field A) (l : Layout) (h r : ℕ) (es : List ℕ) : Type 0 where
+  pub few : r ≤ trayLimit
+  pub racks-in : h ≤ l .racks
+  pub rest-listed : ListedFrom es (h * l .size) (trays l)
+  pub divides : l .size * (f .order / l .size) ≡ f .order
 
 module _ {A : Type 0} (f : Field A) (l : Layout) where
   open Field f using (ops, root)

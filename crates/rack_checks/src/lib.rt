@@ -11,7 +11,7 @@ ghost use Rattle.symbol.specs.Elem.{gf256};
 ghost use Rattle.layout.specs.Layout.{Cabinet, trays, layers, trayLimit};
 ghost use Rattle.blocks.specs.Blocks.{Block};
 ghost use Rattle.syndrome.specs.Syndrome.{Listed, Room, DigitPowers, Sums};
-ghost use Rattle.rack_checks.specs.Racks.{ListedFrom, Kept, Readable, PlaceAdded, PlaceSums, LastSums, Raised, WeightRaised, RackRaised};
+ghost use Rattle.rack_checks.specs.Racks.{ListedFrom, Kept, Readable, ByRacks, PlaceAdded, PlaceSums, LastSums, Raised, WeightRaised, RackRaised};
 
 // The least tray from which on all are listed.
 fn listed_from(es: &[u32], n: u32) -> u32
@@ -225,7 +225,7 @@ fn sum_racks(
     cur: &mut [u8],
     row: &mut [u8],
 )
-    requires { ⌜ Block l w first × Room w r (now sums) (now cur) (now row) × (r ≤ trayLimit) × (length (now c) ≡ trays l * layers l) × Listed l (now es) × (h ≤ l .racks) × ListedFrom (now es) (h * l .size) (trays l) × (l .size * (gf256 .order / l .size) ≡ gf256 .order) ⌝ }
+    requires { ⌜ Block l w first × Room w r (now sums) (now cur) (now row) × (length (now c) ≡ trays l * layers l) × Listed l (now es) × ByRacks gf256 l h r (now es) ⌝ }
     ensures { λ _. ⌜ Sums gf256 l w first r (now (c .entry)) (now (es .entry)) (trays l) (now (sums .exit)) ⌝ }
 {
     let total = layout::layer_count(l) as usize;

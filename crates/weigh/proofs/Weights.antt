@@ -110,7 +110,8 @@ next-third = ap (λ x. ops .add x (ops .one)) (sym (weight-is 3 214 1 2 215 thir
     c : 215 ⊕ 1 ≡ 214
     c = unfold _⊕_ in refl
 
-three-two : (src was is : List ℕ) (from gap len : ℕ) → Weighed gf256 3 1 src from gap len was → Run (addedApart gf256 was 0 src (from + gap) gap 2) was is 0 len → Weighed gf256 3 2 src from gap len is
+three-two : (src was is : List ℕ) (from gap len : ℕ) → Weighed gf256 3 1 src from gap len was → Run (addedApart gf256 was 0 src (from + gap) gap 2) was is 0 len →
+    Weighed gf256 3 2 src from gap len is
 unfolding addedApart sumApart sum weightedTerm
 three-two src was is from gap len k r = record {
   at = λ j h.
@@ -119,7 +120,8 @@ three-two src was is from gap len k r = record {
       ∙ ap₂ (ops .add) (ap (λ n. elem (getD was n 0)) (zero-add j) ∙ k .at j h)
       (elem-plus working (plus gf256 0 (getD src (from + gap + j + 0 * gap) 0)) (getD src (from + gap + j + 1 * gap) 0)
       ∙ ap₂ (ops .add) (elem-plus working 0 (getD src (from + gap + j + 0 * gap) 0) ∙ ap₂ (ops .add) elem-zero (second j)) (last j))
-      ∙ turn-terms (ops .mul (weight gf256 3 1 0) (elem (getD src (from + 0 * gap + j) 0))) (elem (getD src (from + 1 * gap + j) 0)) (elem (getD src (from + 2 * gap + j) 0)) (weight gf256 3 1 1) (weight gf256 3 1 2)
+      ∙ turn-terms (ops .mul (weight gf256 3 1 0) (elem (getD src (from + 0 * gap + j) 0))) (elem (getD src (from + 1 * gap + j) 0)) (elem (getD src (from + 2 * gap + j) 0))
+      (weight gf256 3 1 1) (weight gf256 3 1 2)
       ∙ ap₂ (ops .add)
       (ap₂ (ops .add) (ap (λ x. ops .add (ops .zero) (ops .mul x (elem (getD src (from + 0 * gap + j) 0)))) next-first) (ap (λ x. ops .mul x (elem (getD src (from + 1 * gap + j) 0))) next-second))
       (ap (λ x. ops .mul x (elem (getD src (from + 2 * gap + j) 0))) next-third);
@@ -139,9 +141,11 @@ module _ (m : ℕ) (src was is : List ℕ) (from gap len : ℕ) where
         ap (λ n. elem (getD is n 0)) (sym (zero-add j)) ∙ ap elem (r .done j h)
         ∙ elem-⊕ (getD src (from + j) 0) _
         ∙ ap (ops .add (elem (getD src (from + j) 0))) (mix-is (getD src (from + gap + j) 0) (getD src (from + gap + gap + j) 0) 0 0 p q 0 0)
-        ∙ ap (λ o. ops .add (elem (getD src (from + j) 0)) (ops .add (ops .add (ops .mul (elem (getD src (from + gap + j) 0)) (elem p)) (ops .mul (elem (getD src (from + gap + gap + j) 0)) (elem q))) (ops .add (ops .mul o o) (ops .mul o o)))) elem-zero
+        ∙ ap (λ o. ops .add (elem (getD src (from + j) 0))
+        (ops .add (ops .add (ops .mul (elem (getD src (from + gap + j) 0)) (elem p)) (ops .mul (elem (getD src (from + gap + gap + j) 0)) (elem q))) (ops .add (ops .mul o o) (ops .mul o o)))) elem-zero
         ∙ three-terms (elem (getD src (from + j) 0)) (elem (getD src (from + gap + j) 0)) (elem (getD src (from + gap + gap + j) 0)) (elem p) (elem q)
-        ∙ ap₂ (ops .add) (ap₂ (ops .add) (ap (ops .add (ops .zero)) (first-is 3 m src from gap j)) (term-is 3 m src from gap j 1 _ p (omega arith) ep)) (term-is 3 m src from gap j 2 _ q (omega arith) eq);
+        ∙ ap₂ (ops .add) (ap₂ (ops .add) (ap (ops .add (ops .zero)) (first-is 3 m src from gap j)) (term-is 3 m src from gap j 1 _ p (omega arith) ep))
+        (term-is 3 m src from gap j 2 _ q (omega arith) eq);
   }
 
   five-sums : (p q v w : ℕ) → elem p ≡ weight gf256 5 m 1 → elem q ≡ weight gf256 5 m 2 → elem v ≡ weight gf256 5 m 3 → elem w ≡ weight gf256 5 m 4 →

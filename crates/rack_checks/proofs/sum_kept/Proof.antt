@@ -11,7 +11,7 @@ sum-kept-spec =
     (λ c κs. (search needs, search needs, search listed-few))
     (λ c κs.
     let q = c .before .before .before .before .by-racks .ensures (c .before .before .before .if1 .taken) in
-    (search needs, search needs, q .0, search needs, search needs, search needs, search needs, q .1))
+    (search needs, search needs, search needs, search needs, record { few = q .0; racks-in = search needs; rest-listed = search needs; divides = q .1 }))
     (λ c. search needs)
     (λ c. search needs)
     (λ c. search needs)
