@@ -6,7 +6,8 @@
 
 A twin crate X257 has the code of X over 16-bit numbers, and the answers of its proofs (proofs/F/Proof.antt). Definitions and lemmas are not copied: they are stated in X
 over any field, and the twin cites them there. A place and a part of 16-bit numbers ask one fact more than those of bytes: its answer stands in the first field's proof in a
-comment that begins with `twin:`, which is opened here. In the crate of the C boundary the module field257 is made from field256 in the same way.
+comment that begins with `twin:`, which is opened here. Where a crate calls one that has no twin, the twin calls the plain crate whose contract that one repeats (PLAIN). In the
+crate of the C boundary the module field257 is made from field256 in the same way.
 """
 import os
 import re
@@ -38,6 +39,8 @@ TWINS = {
     'scrub': [],
     'points': ['point_power', 'place_power'],
 }
+# crates without a twin, and those whose functions a twin calls in their place: the names and the contracts are the same
+PLAIN = {'rack_checks': 'syndrome'}
 # types of a crate that its twin takes from it
 TAKEN = {'repair': ['Repaired'], 'correcting': ['Corrected'], 'scrub': ['Report', 'Scrubbed', 'Walk']}
 # the crate of the boundary, its module over the first field, and the one that is made from it
@@ -49,6 +52,8 @@ def symbols(text, returning):
     text = re.sub(r'(?<!states: &)\[u8\]', '[u16]', text)
     text = re.sub(r'(\d)u8\b', r'\1u16', text)
     text = re.sub(r': u8\b', ': u16', text)
+    for crate, plain in PLAIN.items():
+        text = re.sub(r'(?<![\w:])%s::' % crate, plain + '::', text)
     for f in returning:
         text = re.sub(r'(fn %s\([^{]*?-> )u8\b' % f, r'\1u16', text, flags=re.S)
     for crate in list(TWINS) + ['symbol']:

@@ -106,7 +106,7 @@ fn restore_block(
     requires { ⌜ Block l w first × (e ≤ l .racks) × (w ≡ digits l ^ e) × Erasing l total (now es) (now c) × Workspace l w (now sums) (now found) (now points) (now coefs) (now row) × (w ≤ length (now cur)) × Inverses gf256 (now table) ⌝ }
     ensures { λ _. ⌜ BlockRestored gf256 l w first (now (es .entry)) (now (c .entry)) (now (c .exit)) ⌝ }
 {
-    syndrome::sum_kept(sums, l, w, first, es.len(), c, es, cur, row);
+    rack_checks::sum_kept(sums, l, w, first, es.len(), c, es, cur, row);
     solve_block(found, l, e, w, first, es, sums, points, coefs, row, table);
     put_block(c, total, w, first, es, found);
 }
@@ -228,7 +228,7 @@ fn block_fits(
     ensures { λ r. ⌜ Says r (BlockFits gf256 l w first (now (es .entry)) (now (c .entry))) ⌝ }
 {
     let r = layout::check_count(l) as usize;
-    syndrome::sum_kept(sums, l, w, first, r, c, es, cur, row);
+    rack_checks::sum_kept(sums, l, w, first, r, c, es, cur, row);
     solve_block(found, l, e, w, first, es, sums, points, coefs, row, table);
     found_terms(sums, l, w, first, r, es, found, row, cur);
     kernel::all_zero(sums, r * w)

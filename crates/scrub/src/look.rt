@@ -87,7 +87,7 @@ fn look_block(
 {
     let r = layout::check_count(l) as usize;
     let first = walk.next;
-    syndrome::sum_kept(sums, l, w, first as usize, r, c, none, cur, row);
+    rack_checks::sum_kept(sums, l, w, first as usize, r, c, none, cur, row);
     look_along(walk, w, r, sums)
 }
 

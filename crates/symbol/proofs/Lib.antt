@@ -6,3 +6,4 @@ pub mod Power
 pub mod Tables
 pub mod Elem
 pub mod Working
+pub mod Halves

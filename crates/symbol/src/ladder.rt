@@ -6,14 +6,14 @@ ghost use Prim.Native.Nat.{_*_, _/_, _%_, _^_, _<_};
 ghost use Rattle.symbol.specs.Arithmetic.{_⊗_, mulz};
 
 // z times a symbol: shifted up by a bit, less the polynomial where a bit went over the top.
-fn twice(a: u8) -> u8
+pub fn twice(a: u8) -> u8
     ensures { λ r. ⌜ r ≡ mulz a ⌝ }
 {
     (a << 1) ^ (std::num::wrapping_sub_u8(0, a >> 7) & (Symbol::POLY % 256) as u8)
 }
 
 // a where bit k of b is set, else 0.
-fn masked(a: u8, b: u8, k: u32) -> u8
+pub fn masked(a: u8, b: u8, k: u32) -> u8
     requires { ⌜ k < 8 ⌝ }
     ensures { λ r. ⌜ r ≡ b / 2 ^ k % 2 * a ⌝ }
 {

@@ -74,7 +74,7 @@ module _ {A : Type 0} {f : Field A} (W : Working f) where
   unfolding added
   added-at was cur j = elem-plus W (getD was (0 + j) 0) (getD cur (0 + j) 0) ∙ ap (λ i. ops .add (elem (getD was (0 + j) 0)) (elem (getD cur i 0))) (zero-add j)
 
-  first-row : (w : ℕ) (cur was mid : List ℕ) → Run (added f was 0 cur 0) was mid 0 w → (j : ℕ) → j < w → cell f w mid 0 j ≡ ops .add (cell f w was 0 j) (elem (getD cur j 0))
+  pub first-row : (w : ℕ) (cur was mid : List ℕ) → Run (added f was 0 cur 0) was mid 0 w → (j : ℕ) → j < w → cell f w mid 0 j ≡ ops .add (cell f w was 0 j) (elem (getD cur j 0))
   first-row w cur was mid a j k =
       row-zero f _ was mid w a j k ∙ added-at was cur j ∙ ap (λ y. ops .add y (elem (getD cur j 0))) (sym (zero-cell f w was j))
 

@@ -70,7 +70,7 @@ fn first_broken(
     requires { ⌜ Block l w first × Scannable l (layers l) (now c) × (r ≡ checks l) × (length (now none) ≡ 0) × Room w r (now sums) (now cur) (now row) ⌝ }
     ensures { λ p. ⌜ FirstBroken gf256 l w first (now (c .entry)) (p .column) (p .check) ⌝ }
 {
-    syndrome::sum_kept(sums, l, w, first, r, c, none, cur, row);
+    rack_checks::sum_kept(sums, l, w, first, r, c, none, cur, row);
     first_in(sums, w, r)
 }
 

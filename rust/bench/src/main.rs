@@ -149,11 +149,16 @@ fn quick_count<S: Symbol>(layout: Layout, versions: &[Box<dyn Version<S>>]) -> R
     println!();
     table::heading(&names(versions), "");
     table::counts(layout, store.name, &all);
-    match all[1..].iter().find(|&&ordinary| all[0] > LIMIT * ordinary) {
-        Some(_) => Err(format!(
+    if all[1..].iter().any(|&ordinary| all[0] > LIMIT * ordinary) {
+        return Err(format!(
             "storing takes more than {LIMIT} times the instructions"
-        )),
-        None => Ok(()),
+        ));
+    }
+    match S::STORE_LIMIT {
+        Some(limit) if all[0] > limit => {
+            Err(format!("storing takes more than {limit} instructions"))
+        }
+        _ => Ok(()),
     }
 }
 

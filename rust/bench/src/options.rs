@@ -9,7 +9,7 @@ usage: bench [--rounds N] [--quick]
        bench --instructions [--quick]
            counts the instructions of every call by every version with valgrind, and prints a
            table for each field; quick: of storing the first layout, and fails above twice the
-           ordinary version's
+           ordinary version's or above the field's own limit
        bench --isal [--instructions] [--rounds N]
            the same for storing in the field of 256 by the library and by Intel's ISA-L, where that
            is installed: plain Reed-Solomon, another code of as many trays and bytes

@@ -12,6 +12,9 @@ pub trait Symbol: Copy + Default + PartialEq + Into<u64> + 'static {
     const COUNT: u32;
     /// The layouts that are timed.
     const LAYOUTS: &'static [Layout];
+    /// The most instructions that the library may take to store the first of them; none where only
+    /// the ordinary versions bound it.
+    const STORE_LIMIT: Option<u64>;
     const LIBRARY: &'static dyn Version<Self>;
 
     /// A symbol of any number.
@@ -37,6 +40,7 @@ impl Symbol for u8 {
         Layout::with_errors(10, 3, 18, 9, 1),
         Layout::with_errors(6, 3, 5, 4, 1),
     ];
+    const STORE_LIMIT: Option<u64> = Some(540_000);
     const LIBRARY: &'static dyn Version<u8> = &Library;
 
     fn of(number: u64) -> u8 {
@@ -72,6 +76,7 @@ impl Symbol for u16 {
         Layout::new(10, 2, 16, 9),
         Layout::with_errors(10, 4, 24, 9, 1),
     ];
+    const STORE_LIMIT: Option<u64> = None;
     const LIBRARY: &'static dyn Version<u16> = &Library;
 
     fn of(number: u64) -> u16 {
