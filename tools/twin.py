@@ -38,6 +38,8 @@ TWINS = {
     'scrub': [],
     'points': ['point_power', 'place_power'],
 }
+# crates that the other field has its own of, written by hand
+OWN = ['symbol', 'planes']
 # types of a crate that its twin takes from it
 TAKEN = {'repair': ['Repaired'], 'correcting': ['Corrected'], 'scrub': ['Report', 'Scrubbed', 'Walk']}
 # the crate of the boundary, its module over the first field, and the one that is made from it
@@ -51,7 +53,7 @@ def symbols(text, returning):
     text = re.sub(r': u8\b', ': u16', text)
     for f in returning:
         text = re.sub(r'(fn %s\([^{]*?-> )u8\b' % f, r'\1u16', text, flags=re.S)
-    for crate in list(TWINS) + ['symbol']:
+    for crate in list(TWINS) + OWN:
         kinds = ''.join(r'(?!%s\b)' % kind for kind in TAKEN.get(crate, []))
         text = re.sub(r'(?<![\w:])%s::%s' % (crate, kinds), crate + '257::', text)
     return text
