@@ -41,6 +41,8 @@ TWINS = {
 }
 # crates without a twin, and those whose functions a twin calls in their place: the names and the contracts are the same
 PLAIN = {'rack_checks': 'syndrome'}
+# crates that the other field has its own of, written by hand
+OWN = ['symbol', 'planes']
 # types of a crate that its twin takes from it
 TAKEN = {'repair': ['Repaired'], 'correcting': ['Corrected'], 'scrub': ['Report', 'Scrubbed', 'Walk']}
 # the crate of the boundary, its module over the first field, and the one that is made from it
@@ -56,7 +58,7 @@ def symbols(text, returning):
         text = re.sub(r'(?<![\w:])%s::' % crate, plain + '::', text)
     for f in returning:
         text = re.sub(r'(fn %s\([^{]*?-> )u8\b' % f, r'\1u16', text, flags=re.S)
-    for crate in list(TWINS) + ['symbol']:
+    for crate in list(TWINS) + OWN:
         kinds = ''.join(r'(?!%s\b)' % kind for kind in TAKEN.get(crate, []))
         text = re.sub(r'(?<![\w:])%s::%s' % (crate, kinds), crate + '257::', text)
     return text

@@ -172,7 +172,7 @@ module _ {A : Type 0} {f : Field A} (W : Working f) where
 
 -- the arrays
 pub rows : Workspace 1 1 rowOf rowOf rowOf rowOf rowOf rowOf
-rows = record { rests-long = row; found-long = row; places-long = row; coefs-long = row; row-long = row; cur-long = row }
+rows = record { few = omega arith; rests-long = row; found-long = row; places-long = row; coefs-long = row; row-long = row; cur-long = row }
   where
     row : 1 ≤ length rowOf
     row = rw row-long (omega arith)

@@ -1,3 +1,5 @@
 pub mod Products
+pub mod Quotients
 pub mod Steps
+pub mod Dividing
 pub mod Rows

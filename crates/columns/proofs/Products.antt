@@ -125,7 +125,7 @@ module _ {A : Type 0} {f : Field A} (W : Working f) where
           go (yes e) ih = rw (more, grown-same m e) (omega arith)
           go (no d) ih = rw (more, grown-other m d, length-linear ops (p m) (grown f a p i m)) (omega arith)
 
-    scale-grown : (b a : A) (m : ℕ) → scale ops b (grown f a p i m) ≡ grown f (ops .mul b a) p i m
+    pub scale-grown : (b a : A) (m : ℕ) → scale ops b (grown f a p i m) ≡ grown f (ops .mul b a) p i m
     scale-grown b a zero = ap (scale ops b) (grown-none a) ∙ one-scaled b a ∙ sym (grown-none (ops .mul b a))
     scale-grown b a (suc m) = go (ℕ-discrete m i) (scale-grown b a m)
       where

@@ -1,4 +1,4 @@
--- The coefficients of all columns, factor by factor.
+-- The product over all points, for all columns, factor by factor.
 -- Assumes nothing.
 use mathlib.Core.Path.{_≡_, refl, sym, ap, ap₂, _∙_, subst}
 use mathlib.Core.List.{List, []}
@@ -12,16 +12,17 @@ use mir.Syntax.{w64}
 use lib.ListN.{length, getD}
 use Rattle.algebra.specs.Field.{Ops}
 use Rattle.algebra.specs.Poly.{coeff, linear}
-use Rattle.algebra.proofs.Ring.{add-zero, zero-add as add-zero-left, mul-zero, mul-comm, neg-mul, neg-zero}
+use Rattle.algebra.proofs.Ring.{add-zero, zero-add as add-zero-left, mul-zero, mul-comm, neg-zero}
 use Rattle.algebra.proofs.Poly.{coeff-head, coeff-tail, coeff-nil, coeff-linear-zero, coeff-linear-suc}
 use Rattle.algebra.specs.Coding.{Coding}
 use Rattle.algebra.specs.Shape.{Field, FieldLaws}
-use Rattle.algebra.specs.Plain.{minus, times, reduced, Working}
-use Rattle.algebra.proofs.Plain.{elem-zero, elem-minus, elem-times, elem-reduced, reduced-below}
-use Rattle.kernel.specs.Runs.{cell, Run, Inverses, filled, copied, parted, lookedUp, shifted}
-use Rattle.kernel.proofs.Rows.{row-end, row-before, row-in, row-zero, zero-cell, cell-is, cell-other}
-use Rattle.columns.specs.Columns.{column, differences, grown, Columns, Differences, Grown, Coefficients, Timed, carried, Timing}
-use Rattle.columns.proofs.Products.{differences-none as no-differences, grown-none, differences-same, differences-other, grown-same, grown-other, grown-length, grown-neg, coeff-past}
+use Rattle.algebra.specs.Plain.{minus, times, Working}
+use Rattle.algebra.proofs.Plain.{elem-zero, elem-one, elem-minus, elem-times}
+use Rattle.kernel.specs.Runs.{cell, Run, filled, copied, shifted}
+use Rattle.kernel.proofs.Rows.{row-end, row-before, row-in, zero-cell, cell-is, cell-other}
+use Rattle.columns.specs.Columns.{column, locator, Columns, Locator, Timed, carried, Timing}
+use Rattle.columns.proofs.Products.{coeff-past}
+use Rattle.columns.proofs.Quotients.{locator-none, locator-suc, locator-length}
 
 module _ {A : Type 0} {f : Field A} (W : Working f) where
   open Field f using (ops)
@@ -47,67 +48,7 @@ module _ {A : Type 0} {f : Field A} (W : Working f) where
   unfolding carried
   carried-more v was t c = refl
 
-  parted-row : (v : ℕ) (points : List ℕ) (i q : ℕ) (was is : List ℕ) → Run (parted f was 0 points (i * v) (q * v)) was is 0 v → (c : ℕ) → c < v →
-      cell f v is 0 c ≡ ops .mul (cell f v was 0 c) (ops .add (column f v points c i) (ops .neg (column f v points c q)))
-  unfolding parted column
-  parted-row v points i q was is r c h =
-      row-zero f _ was is v r c h ∙ elem-times W (getD was (0 + c) 0) (minus f (getD points (i * v + c) 0) (getD points (q * v + c) 0))
-      ∙ ap₂ (ops .mul) (sym (zero-cell f v was c)) (elem-minus W (getD points (i * v + c) 0) (getD points (q * v + c) 0) ∙ ap₂ (λ x y. ops .add x (ops .neg y)) (cell-is f v points i c) (cell-is f v points q c))
-
-  -- ---- the differences
-  pub differences-none : (v : ℕ) (points : List ℕ) (i : ℕ) (was is : List ℕ) (one : ℕ) → elem one ≡ ops .neg (ops .one) → Run (filled one) was is 0 v → Differences f v points i 0 is
-  unfolding filled
-  differences-none v points i was is one e r = record {
-    at = λ c h. row-zero f (filled one) was is v r c h ∙ e ∙ ap (ops .neg) (sym (no-differences W (column f v points c) i));
-  }
-
-  pub differences-skip : (v : ℕ) (points : List ℕ) (i q : ℕ) (out : List ℕ) → q ≡ i → Differences f v points i q out → Differences f v points i (q + 1) out
-  differences-skip v points i q out e d = record { at = λ c h. d .at c h ∙ ap (ops .neg) (sym (differences-same W (column f v points c) i q e)) }
-
-  pub differences-more : (v : ℕ) (points : List ℕ) (i q : ℕ) (was is : List ℕ) → ¬ (q ≡ i) → Run (parted f was 0 points (i * v) (q * v)) was is 0 v →
-      Differences f v points i q was → Differences f v points i (q + 1) is
-  differences-more v points i q was is n r d = record {
-    at = λ c h.
-        parted-row v points i q was is r c h ∙ ap (λ x. ops .mul x (ops .add (column f v points c i) (ops .neg (column f v points c q)))) (d .at c h)
-        ∙ neg-mul ops laws (differences f (column f v points c) i q) _ ∙ ap (ops .neg) (sym (differences-other W (column f v points c) i q n));
-  }
-
-  pub differences-end : (v : ℕ) (points : List ℕ) (i q m : ℕ) (out : List ℕ) → Differences f v points i q out → q ≤ m → m ≤ q → Differences f v points i m out
-  differences-end v points i q m out d h l = let e : q ≡ m = omega arith in subst (λ n. Differences f v points i n out) e d
-
-  -- ---- the polynomial of no factor
-  pub grown-start : (v m : ℕ) (points table : List ℕ) (i : ℕ) (mid new is : List ℕ) → i < m → Inverses f table → Differences f v points i m mid → Run (lookedUp f mid 0 table) mid new 0 v →
-      Run (filled 0) new is v (m * v - v) → Grown f v m points i 0 is
-  unfolding lookedUp filled
-  grown-start v m points table i mid new is hi inv d r z = record { at = at }
-    where
-      first : (c : ℕ) → c < v → elem (getD new c 0) ≡ ops .inv (ops .neg (differences f (column f v points c) i m))
-      first c h =
-          ap (λ (k : ℕ). elem (getD new k 0)) (sym (zero-add c)) ∙ ap elem (r .done c h)
-          ∙ inv .at (reduced f (getD mid (0 + c) 0)) (reduced-below W (getD mid (0 + c) 0))
-          ∙ ap (ops .inv) (elem-reduced W (getD mid (0 + c) 0) ∙ sym (zero-cell f v mid c) ∙ d .at c h)
-
-      at : (t c : ℕ) → t < m → c < v → cell f v is t c ≡ coeff ops (grown f (ops .inv (ops .neg (differences f (column f v points c) i m))) (column f v points c) i 0) t
-      at zero c ht hc =
-          zero-cell f v is c ∙ ap elem (z .low (0 + c) (omega arith)) ∙ ap (λ (k : ℕ). elem (getD new k 0)) (zero-add c) ∙ first c hc
-          ∙ sym (ap (λ l. coeff ops l 0) (grown-none W (column f v points c) i (ops .inv (ops .neg (differences f (column f v points c) i m)))) ∙ coeff-head ops (ops .inv (ops .neg (differences f (column f v points c) i m))) [])
-      at (suc t) c ht hc =
-          sym (cell-is f v is (suc t) c) ∙ ap (λ (k : ℕ). elem (getD is k 0)) place ∙ ap elem (z .done (t * v + c) inside) ∙ elem-zero W
-          ∙ sym (ap (λ l. coeff ops l (suc t)) (grown-none W (column f v points c) i (ops .inv (ops .neg (differences f (column f v points c) i m))))
-          ∙ coeff-tail ops (ops .inv (ops .neg (differences f (column f v points c) i m))) [] t ∙ coeff-nil ops t)
-        where
-          place : suc t * v + c ≡ v + (t * v + c)
-          place = let e : suc t * v ≡ t * v + v = ap (λ (k : ℕ). k * v) (sym (add-one t)) ∙ row-end t v in omega arith
-
-          inside : t * v + c < m * v - v
-          inside = let e = row-before (t + 1) m v (omega arith) in let k = row-end t v in omega arith
-
   -- ---- a factor
-  pub grown-skip : (v m : ℕ) (points : List ℕ) (i q : ℕ) (out : List ℕ) → q ≡ i → Grown f v m points i q out → Grown f v m points i (q + 1) out
-  grown-skip v m points i q out e g = record {
-    at = λ t c ht hc. g .at t c ht hc ∙ ap (λ l. coeff ops l t) (sym (grown-same W (column f v points c) i (ops .inv (ops .neg (differences f (column f v points c) i m))) q e));
-  }
-
   pub timing-none : (v q : ℕ) (points was before carry : List ℕ) → Run (filled 0) before carry 0 v → Timing f v q points was was carry 0
   unfolding filled
   timing-none v q points was before carry r = record {
@@ -145,13 +86,32 @@ module _ {A : Type 0} {f : Field A} (W : Working f) where
     above = λ s c b k. g .rest s c (omega arith) k;
   }
 
-  pub grown-more : (v m : ℕ) (points : List ℕ) (i q top : ℕ) (was is : List ℕ) → ¬ (q ≡ i) → q < m → top ≡ min (q + 1) (m - 1) → Grown f v m points i q was →
-      Timed f v q top points was is → Grown f v m points i (q + 1) is
+  -- ---- the product over all points
+  pub locator-start : (v m : ℕ) (points : List ℕ) (was mid is : List ℕ) → 0 < m → Run (filled 1) was mid 0 v → Run (filled 0) mid is v (m * v - v) → Locator f v m points 0 is
+  unfolding filled
+  locator-start v m points was mid is hm r z = record { at = at }
+    where
+      at : (t c : ℕ) → t < m → c < v → cell f v is t c ≡ coeff ops (locator f (column f v points c) 0) t
+      at zero c ht hc =
+          zero-cell f v is c ∙ ap elem (z .low (0 + c) (omega arith)) ∙ ap elem (r .done c hc) ∙ elem-one W
+          ∙ sym (ap (λ l. coeff ops l 0) (locator-none W (column f v points c)) ∙ coeff-head ops (ops .one) [])
+      at (suc t) c ht hc =
+          sym (cell-is f v is (suc t) c) ∙ ap (λ (k : ℕ). elem (getD is k 0)) place ∙ ap elem (z .done (t * v + c) inside) ∙ elem-zero W
+          ∙ sym (ap (λ l. coeff ops l (suc t)) (locator-none W (column f v points c)) ∙ coeff-tail ops (ops .one) [] t ∙ coeff-nil ops t)
+        where
+          place : suc t * v + c ≡ v + (t * v + c)
+          place = let e : suc t * v ≡ t * v + v = ap (λ (k : ℕ). k * v) (sym (add-one t)) ∙ row-end t v in omega arith
+
+          inside : t * v + c < m * v - v
+          inside = let e = row-before (t + 1) m v (omega arith) in let k = row-end t v in omega arith
+
+  pub locator-more : (v m : ℕ) (points : List ℕ) (q top : ℕ) (was is : List ℕ) → q < m → top ≡ min (q + 1) (m - 1) → Locator f v m points q was →
+      Timed f v q top points was is → Locator f v m points (q + 1) is
   unfolding column
-  grown-more v m points i q top was is n hq ht g w = record { at = at }
+  locator-more v m points q top was is hq ht g w = record { at = at }
     where
       N : ℕ → List A
-      N c = grown f (ops .inv (ops .neg (differences f (column f v points c) i m))) (column f v points c) i q
+      N c = locator f (column f v points c) q
 
       Q : ℕ → A
       Q c = column f v points c q
@@ -159,14 +119,11 @@ module _ {A : Type 0} {f : Field A} (W : Working f) where
       point : (c : ℕ) → cell f v points q c ≡ Q c
       point c = refl
 
-      next-is : (c : ℕ) → grown f (ops .inv (ops .neg (differences f (column f v points c) i m))) (column f v points c) i (q + 1) ≡ linear ops (Q c) (N c)
-      next-is c = grown-other W (column f v points c) i (ops .inv (ops .neg (differences f (column f v points c) i m))) q n
-
       old : (t c : ℕ) → t < m → c < v → cell f v was t c ≡ coeff ops (N c) t
       old t c h k = g .at t c h k
 
       short : (c : ℕ) → length (N c) ≤ q + 1
-      short c = grown-length W (column f v points c) i (ops .inv (ops .neg (differences f (column f v points c) i m))) q
+      short c = locator-length W (column f v points c) q
 
       step : (t c : ℕ) → t < m → c < v → cell f v is t c ≡ coeff ops (linear ops (Q c) (N c)) t
       step zero c h k =
@@ -186,34 +143,30 @@ module _ {A : Type 0} {f : Field A} (W : Working f) where
               zero-at : coeff ops (N c) (suc t) ≡ ops .zero
               zero-at = coeff-past W (N c) (suc t) (let e = short c in omega arith)
 
-      at : (t c : ℕ) → t < m → c < v → cell f v is t c ≡ coeff ops (grown f (ops .inv (ops .neg (differences f (column f v points c) i m))) (column f v points c) i (q + 1)) t
-      at t c h k = step t c h k ∙ ap (λ l. coeff ops l t) (sym (next-is c))
+      at : (t c : ℕ) → t < m → c < v → cell f v is t c ≡ coeff ops (locator f (column f v points c) (q + 1)) t
+      at t c h k = step t c h k ∙ ap (λ l. coeff ops l t) (sym (locator-suc W (column f v points c) q) ∙ ap (locator f (column f v points c)) (sym (add-one q)))
 
-  pub coefficients-of : (v m : ℕ) (points : List ℕ) (i q : ℕ) (out : List ℕ) → Grown f v m points i q out → q ≤ m → m ≤ q → Coefficients f v m points i out
-  coefficients-of v m points i q out g h l = record {
-    at = λ t c ht hc.
-        g .at t c ht hc ∙ ap (λ n. coeff ops (grown f (ops .inv (ops .neg (differences f (column f v points c) i m))) (column f v points c) i n) t) same
-        ∙ grown-neg W (column f v points c) i m t;
-  }
-    where
-      same : q ≡ m
-      same = omega arith
+  pub locator-end : (v m : ℕ) (points : List ℕ) (q : ℕ) (out : List ℕ) → Locator f v m points q out → q ≤ m → m ≤ q → Locator f v m points m out
+  locator-end v m points q out g h l = let e : q ≡ m = omega arith in subst (λ n. Locator f v m points n out) e g
 
 -- ---- places
 pub columns-next : (v m : ℕ) (points was is : List ℕ) → Columns v m points was → length is ≡ length was → Columns v m points is
-columns-next v m points was is s e = record { points-long = s .points-long; out-long = rw e (s .out-long) }
+columns-next v m points was is s e = record { columns-low = s .columns-low; points-long = s .points-long; out-long = rw e (s .out-long) }
 
-pub first-in : (v m i : ℕ) (points out : List ℕ) → Columns v m points out → i < m → 0 + v ≤ length out
-first-in v m i points out s h = let e = row-in out m v 0 (s .out-long) (omega arith) in omega arith
+row-out : (v m i : ℕ) (points out : List ℕ) → Columns v m points out → i < m → i * v + v ≤ length out
+row-out v m i points out s h = row-in out m v i (s .out-long) h
+
+pub first-in : (v m : ℕ) (points out : List ℕ) → Columns v m points out → 0 < m → 0 + v ≤ length out
+first-in v m points out s h = let e = row-out v m 0 points out s (omega arith) in omega arith
 
 pub point-in : (v m i : ℕ) (points out : List ℕ) → Columns v m points out → i < m → i * v + v ≤ length points
 point-in v m i points out s h = row-in points m v i (s .points-long) h
 
-pub rest-low : (v m i : ℕ) → i < m → v ≤ m * v
-rest-low v m i h = let e = row-before 0 m v (omega arith) in omega arith
+pub rest-low : (v m : ℕ) → 0 < m → v ≤ m * v
+rest-low v m h = let e = row-before 0 m v (omega arith) in omega arith
 
-pub rest-in : (v m i : ℕ) (points was is : List ℕ) → Columns v m points was → length is ≡ length was → i < m → v + (m * v - v) ≤ length is
-rest-in v m i points was is s e h = let k = rest-low v m i h in let l = s .out-long in omega arith
+pub rest-in : (v m : ℕ) (points was is : List ℕ) → Columns v m points was → length is ≡ length was → 0 < m → v + (m * v - v) ≤ length is
+rest-in v m points was is s e h = let k = rest-low v m h in let g = s .out-long in omega arith
 
 pub point-fits : (v m i : ℕ) (points out : List ℕ) → Columns v m points out → i < m → Fits w64 (length points) → Fits w64 (i * v)
 point-fits v m i points out s h f = let e = point-in v m i points out s h in omega arith
@@ -222,13 +175,10 @@ pub whole-fits : (v m : ℕ) (points out : List ℕ) → Columns v m points out 
 whole-fits v m points out s f = let e = s .points-long in omega arith
 
 pub shift-in : (v m t top : ℕ) (points was is : List ℕ) → Columns v m points was → length is ≡ length was → t ≤ top → top < m → t * v + v ≤ length is
-shift-in v m t top points was is s e l k = rw e (row-in was m v t (s .out-long) (omega arith))
+shift-in v m t top points was is s e l k = rw e (row-out v m t points was s (omega arith))
 
 pub shift-fits : (v m t top : ℕ) (points out : List ℕ) → Columns v m points out → t ≤ top → top < m → Fits w64 (length points) → Fits w64 (t * v)
 shift-fits v m t top points out s h l f = point-fits v m t points out s (omega arith) f
-
-pub first-next : (v m i : ℕ) (points was is : List ℕ) → Columns v m points was → length is ≡ length was → i < m → 0 + v ≤ length is
-first-next v m i points was is s e h = rw e (first-in v m i points was s h)
 
 pub top-in : (m q top : ℕ) → q < m → top ≡ min (q + 1) (m - 1) → top < m
 top-in m q top h e = omega arith

@@ -2,27 +2,33 @@
 -- Assumes nothing.
 use mathlib.Core.Path.{_≡_}
 use mathlib.Core.List.{List, [], _∷_}
-use Prim.Native.Nat.{ℕ, zero, suc, _+_, _*_, _/_, _%_, _<_, _≤_}
+use Prim.Native.Nat.{ℕ, zero, suc, _+_, _-_, _*_, _/_, _%_, _<_, _≤_, min}
 use lib.Dec.{eqb}
 use lib.ListN.{length, getD}
 use Rattle.algebra.specs.Field.{Ops}
 use Rattle.algebra.specs.Sum.{sum}
 use Rattle.algebra.specs.Poly.{coeff, linear}
-use Rattle.algebra.specs.Lagrange.{basis, solve}
+use Rattle.algebra.specs.Lagrange.{solve}
 use Rattle.algebra.specs.Erasure.{choose}
+use Rattle.algebra.specs.Locate.{gaps}
 use Rattle.algebra.specs.Coding.{Coding}
 use Rattle.algebra.specs.Shape.{Field}
-use Rattle.algebra.specs.Plain.{plus, times}
+use Rattle.algebra.specs.Plain.{plus, minus, times}
 use Rattle.kernel.specs.Runs.{cell}
 
 -- m rows of v columns
 pub record Columns (v m : ℕ) (points out : List ℕ) : Type 0 where
+  pub columns-low : 0 < v
   pub points-long : m * v ≤ length points
   pub out-long : m * v ≤ length out
 
--- the coefficients, each so many times
+-- the coefficients, each so many times ..
 unfoldable pub stretched : List ℕ → ℕ → ℕ → ℕ → ℕ
 stretched coefs at run j = getD coefs (at + j / run) 0
+
+-- .. and all v of them again and again
+unfoldable pub widened : List ℕ → ℕ → ℕ → ℕ → ℕ → ℕ
+widened coefs at v run j = getD coefs (at + j / run % v) 0
 
 -- these lie in their buffers
 pub record Places (to v run turns : ℕ) (found sums : List ℕ) (from : ℕ) (coefs : List ℕ) (at : ℕ) : Type 0 where
@@ -32,6 +38,10 @@ pub record Places (to v run turns : ℕ) (found sums : List ℕ) (from : ℕ) (c
   pub found-long : to + v * turns * run ≤ length found
   pub sums-long : from + v * turns * run ≤ length sums
   pub coefs-long : at + v ≤ length coefs
+
+-- the symbols of a room of blocks
+abbrev pub room : ℕ
+room = 1536
 
 -- what `combine` and `solve` are told: rows of w = v · turns · run places
 pub record Systems (w v run turns m : ℕ) (found sums coefs row : List ℕ) : Type 0 where
@@ -43,6 +53,13 @@ pub record Systems (w v run turns m : ℕ) (found sums coefs row : List ℕ) : T
   pub sums-long : m * w ≤ length sums
   pub coefs-long : m * v ≤ length coefs
   pub row-long : w ≤ length row
+
+-- the same where all places of a row have the same points: one column
+pub record Wholes (w v m : ℕ) (found sums coefs : List ℕ) : Type 0 where
+  pub one : v ≡ 1
+  pub found-long : m * w ≤ length found
+  pub sums-long : m * w ≤ length sums
+  pub coefs-long : m * v ≤ length coefs
 
 module _ {A : Type 0} (f : Field A) where
   open Field f using (ops)
@@ -62,18 +79,39 @@ module _ {A : Type 0} (f : Field A) where
   grown a p i zero = a ∷ []
   grown a p i (suc m) = choose (eqb m i) (grown a p i m) (linear ops (p m) (grown a p i m))
 
-  -- row 0 has less the product over the points 0 .. q - 1 but i
-  pub record Differences (v : ℕ) (points : List ℕ) (i q : ℕ) (out : List ℕ) : Type 0 where
-    pub at : (c : ℕ) → c < v → cell f v out 0 c ≡ ops .neg (differences (column v points c) i q)
+  -- the product, over the points 0 .. m - 1, of (X - q)
+  unfoldable pub locator : (ℕ → A) → ℕ → List A
+  locator p zero = ops .one ∷ []
+  locator p (suc m) = linear ops (p m) (locator p m)
 
-  -- the rows have the coefficients after the factors 0 .. q - 1
-  pub record Grown (v m : ℕ) (points : List ℕ) (i q : ℕ) (out : List ℕ) : Type 0 where
-    pub at : (t c : ℕ) → t < m → c < v →
-        cell f v out t c ≡ coeff ops (grown (ops .inv (ops .neg (differences (column v points c) i m))) (column v points c) i q) t
+  -- the rows have the coefficients of the product over the points 0 .. q - 1, but that of X^m
+  pub record Locator (v m : ℕ) (points : List ℕ) (q : ℕ) (out : List ℕ) : Type 0 where
+    pub at : (t c : ℕ) → t < m → c < v → cell f v out t c ≡ coeff ops (locator (column v points c) q) t
 
-  -- and after all; each is less the coefficient, for the right sides are less what is known
-  pub record Coefficients (v m : ℕ) (points : List ℕ) (i : ℕ) (out : List ℕ) : Type 0 where
-    pub at : (t c : ℕ) → t < m → c < v → cell f v out t c ≡ ops .neg (coeff ops (basis ops (column v points c) i m) t)
+  -- the product of the differences of point i with the k - 1 points after it, point 0 after the last
+  unfoldable pub turned : (ℕ → A) → ℕ → ℕ → ℕ → A
+  turned p m i k = ops .mul (gaps ops (λ j. p (suc i + j)) (min (k - 1) (m - 1 - i)) (p i)) (gaps ops p (i + k - m) (p i))
+
+  -- the rows have less these
+  pub record Turned (v m : ℕ) (points : List ℕ) (k : ℕ) (out : List ℕ) : Type 0 where
+    pub at : (i c : ℕ) → i < m → c < v → cell f v out i c ≡ ops .neg (turned (column v points c) m i k)
+
+  -- and, for each point, the inverse of less the product of its differences with the others
+  pub record Divisors (v m : ℕ) (points out : List ℕ) : Type 0 where
+    pub at : (i c : ℕ) → i < m → c < v → cell f v out i c ≡ ops .inv (ops .neg (differences (column v points c) i m))
+
+  -- what all rows go by
+  pub record Factored (v m : ℕ) (points product divs : List ℕ) : Type 0 where
+    pub columns-low : 0 < v
+    pub points-long : m * v ≤ length points
+    pub product-long : m * v ≤ length product
+    pub divs-long : m * v ≤ length divs
+    pub locators : Locator v m points m product
+    pub divisors : Divisors v m points divs
+
+  -- the rows have the product over the points but i, from the power t of X on
+  pub record Quotient (v m : ℕ) (points : List ℕ) (i t : ℕ) (out : List ℕ) : Type 0 where
+    pub at : (k c : ℕ) → t ≤ k → k < m → c < v → cell f v out k c ≡ coeff ops (grown (ops .one) (column v points c) i m) k
 
   -- the rows 0 .. top times (X - point q)
   pub record Timed (v q top : ℕ) (points was is : List ℕ) : Type 0 where
@@ -96,10 +134,40 @@ module _ {A : Type 0} (f : Field A) where
   unfoldable pub weighted : List ℕ → ℕ → ℕ → ℕ → List ℕ → ℕ → List ℕ → ℕ → ℕ → ℕ
   weighted found to v run sums from coefs at j = plus f (getD found (to + j) 0) (times f (getD sums (from + j) 0) (getD coefs (at + j / run % v) 0))
 
+  -- a buffer's run plus a run times another buffer's
+  unfoldable pub divided : List ℕ → ℕ → List ℕ → ℕ → List ℕ → ℕ → ℕ → ℕ
+  divided src from out next by at j = plus f (getD src (from + j) 0) (times f (getD out (next + j) 0) (getD by (at + j) 0))
+
+  -- a run times another buffer's
+  unfoldable pub scaled : List ℕ → ℕ → List ℕ → ℕ → ℕ → ℕ
+  scaled out to by at j = times f (getD out (to + j) 0) (getD by (at + j) 0)
+
+  -- a run times one symbol
+  unfoldable pub scaledBy : List ℕ → ℕ → ℕ → ℕ → ℕ
+  scaledBy out to x j = times f (getD out (to + j) 0) x
+
+  -- less another buffer's run
+  unfoldable pub negated : List ℕ → ℕ → ℕ → ℕ
+  negated src from j = minus f 0 (getD src (from + j) 0)
+
   -- row i is the sum of the first n rows of right sides, each times the coefficient of its column; the rest is as it was
   pub record Combined (w v run n i : ℕ) (sums coefs was is : List ℕ) : Type 0 where
     pub long : length is ≡ length was
     pub here : (j : ℕ) → j < w → cell f w is i j ≡ sum ops n (λ t. ops .mul (cell f w sums t j) (cell f v coefs t (j / run % v)))
+    pub small : (j : ℕ) → j < w → getD is (i * w + j) 0 < size
+    pub others : (x j : ℕ) → j < w → ¬ (x ≡ i) → getD is (x * w + j) 0 ≡ getD was (x * w + j) 0
+
+  -- row i times the columns' row i
+  pub record Divided (w v run i : ℕ) (coefs was is : List ℕ) : Type 0 where
+    pub long : length is ≡ length was
+    pub here : (j : ℕ) → j < w → cell f w is i j ≡ ops .mul (cell f w was i j) (cell f v coefs i (j / run % v))
+    pub small : (j : ℕ) → j < w → getD is (i * w + j) 0 < size
+    pub others : (x j : ℕ) → j < w → ¬ (x ≡ i) → getD is (x * w + j) 0 ≡ getD was (x * w + j) 0
+
+  -- row i is the unknown of point i whose checks make up for the sums; the rest is as it was
+  pub record RowSolved (w v run m i : ℕ) (sums points was is : List ℕ) : Type 0 where
+    pub long : length is ≡ length was
+    pub here : (j : ℕ) → j < w → cell f w is i j ≡ solve ops (column v points (j / run % v)) m (λ t. ops .neg (cell f w sums t j)) i
     pub small : (j : ℕ) → j < w → getD is (i * w + j) 0 < size
     pub others : (x j : ℕ) → j < w → ¬ (x ≡ i) → getD is (x * w + j) 0 ≡ getD was (x * w + j) 0
 

@@ -3,50 +3,26 @@
 // for each system; right sides and solutions have a row for each check and unknown, `run` places for each column, whose points are alike there, and the columns
 // come `turns` times over.
 // Promises the algebra's solution (`solve` in algebra/specs/Lagrange.antt) at every place, for any points and right sides.
+mod runs;
+
+use crate::runs::divide;
+use crate::runs::negate;
+use crate::runs::scale;
+use crate::runs::scale_by;
 use symbol257::plain::MINUS_ONE;
 ghost use mathlib.Core.Path.{_≡_};
 ghost use Prim.Native.Nat.{_+_, _-_, _*_, _<_, _≤_, min};
 ghost use lib.ListN.{length};
 ghost use Rattle.symbol257.specs.Elem.{gf257};
 ghost use Rattle.kernel.specs.Runs.{Run, Inverses};
-ghost use Rattle.columns.specs.Columns.{Columns, Differences, Grown, Timed, Coefficients, weighted, stretched, Places, Systems, Combined, Solved};
+ghost use Rattle.columns.specs.Columns.{Columns, Timed, Locator, Turned, Divisors, Factored, Quotient, room};
+ghost use Rattle.columns.specs.Columns.{weighted, stretched, widened, Places, Systems, Wholes, Combined, Divided, RowSolved, Solved};
+
+// The most points of all columns: the symbols of a room of blocks.
+const ROOM: usize = 1536;
 
 // Runs shorter than this are not treated as one.
 const RUN: usize = 16;
-
-// The product of differences, the next point's unless it is point i itself.
-fn part_other(out: &mut [u16], v: usize, m: usize, i: usize, q: usize, points: &[u16])
-    requires { ⌜ Columns v m (now points) (now out) × (i < m) × (q < m) × Differences gf257 v (now points) i q (now out) ⌝ }
-    ensures { λ _. ⌜ Differences gf257 v (now (points .entry)) i (q + 1) (now (out .exit)) ⌝ }
-{
-    if q == i {
-        return;
-    }
-    kernel257::part(out, 0, v, points, i * v, q * v);
-}
-
-// Less the product, over the other points q, of (point i - q), in row 0.
-fn differences(out: &mut [u16], v: usize, m: usize, i: usize, points: &[u16])
-    requires { ⌜ Columns v m (now points) (now out) × (i < m) ⌝ }
-    ensures { λ _. ⌜ Differences gf257 v (now (points .entry)) i m (now (out .exit)) ⌝ }
-{
-    kernel257::fill(out, 0, v, MINUS_ONE);
-    let mut q = 0usize;
-    while q < m {
-        part_other(out, v, m, i, q, points);
-        q += 1;
-    }
-}
-
-// The constant that the coefficients begin with: the inverse of that product.
-fn begin(out: &mut [u16], v: usize, m: usize, i: usize, points: &[u16], table: &[u16])
-    requires { ⌜ Columns v m (now points) (now out) × (i < m) × Inverses gf257 (now table) ⌝ }
-    ensures { λ _. ⌜ Grown gf257 v m (now (points .entry)) i 0 (now (out .exit)) ⌝ }
-{
-    differences(out, v, m, i, points);
-    kernel257::look_up(out, 0, v, table);
-    kernel257::fill(out, v, m * v - v, 0);
-}
 
 // (X - q) times the polynomials of rows 0 .. top, those above being zero. `carry` is room for a row.
 fn times(
@@ -77,36 +53,63 @@ fn top_row(m: usize, q: usize) -> usize
     if q + 1 < m { q + 1 } else { m - 1 }
 }
 
-// The next factor, unless it is that of point i itself.
-fn step(out: &mut [u16], carry: &mut [u16], v: usize, m: usize, i: usize, q: usize, points: &[u16])
-    requires { ⌜ Columns v m (now points) (now out) × (v ≤ length (now carry)) × (q < m) × Grown gf257 v m (now points) i q (now out) ⌝ }
-    ensures { λ _. ⌜ Grown gf257 v m (now (points .entry)) i (q + 1) (now (out .exit)) ⌝ }
+// The product of (X - q) over all points q; the coefficient of X^m is one and is not kept.
+fn locator(out: &mut [u16], carry: &mut [u16], v: usize, m: usize, points: &[u16])
+    requires { ⌜ Columns v m (now points) (now out) × (v ≤ length (now carry)) × (0 < m) ⌝ }
+    ensures { λ _. ⌜ Locator gf257 v m (now (points .entry)) m (now (out .exit)) ⌝ }
 {
-    if q == i {
-        return;
-    }
-    let top = top_row(m, q);
-    times(out, carry, v, m, top, q, points);
-}
-
-// Less the coefficients of the product, over the other points q, of (X - q) / (point i - q), a row for each power of X.
-fn coefficients(
-    out: &mut [u16],
-    carry: &mut [u16],
-    v: usize,
-    m: usize,
-    i: usize,
-    points: &[u16],
-    table: &[u16],
-)
-    requires { ⌜ Columns v m (now points) (now out) × (v ≤ length (now carry)) × (i < m) × Inverses gf257 (now table) ⌝ }
-    ensures { λ _. ⌜ Coefficients gf257 v m (now (points .entry)) i (now (out .exit)) ⌝ }
-{
-    begin(out, v, m, i, points, table);
+    kernel257::fill(out, 0, v, 1);
+    kernel257::fill(out, v, m * v - v, 0);
     let mut q = 0usize;
     while q < m {
-        step(out, carry, v, m, i, q, points);
+        let top = top_row(m, q);
+        times(out, carry, v, m, top, q, points);
         q += 1;
+    }
+}
+
+// The products of differences, each with the k-th next point: all rows at a time, in two runs.
+fn turn(out: &mut [u16], v: usize, m: usize, k: usize, points: &[u16])
+    requires { ⌜ Columns v m (now points) (now out) × (0 < k) × (k < m) × Turned gf257 v m (now points) k (now out) ⌝ }
+    ensures { λ _. ⌜ Turned gf257 v m (now (points .entry)) (k + 1) (now (out .exit)) ⌝ }
+{
+    kernel257::part(out, 0, (m - k) * v, points, 0, k * v);
+    kernel257::part(out, (m - k) * v, k * v, points, (m - k) * v, 0);
+}
+
+// The inverses of less the products of each point's differences with the others.
+fn divisors(out: &mut [u16], v: usize, m: usize, points: &[u16], table: &[u16])
+    requires { ⌜ Columns v m (now points) (now out) × (0 < m) × Inverses gf257 (now table) ⌝ }
+    ensures { λ _. ⌜ Divisors gf257 v m (now (points .entry)) (now (out .exit)) ⌝ }
+{
+    kernel257::fill(out, 0, m * v, MINUS_ONE);
+    let mut k = 1usize;
+    while k < m {
+        turn(out, v, m, k, points);
+        k += 1;
+    }
+    kernel257::look_up(out, 0, m * v, table);
+}
+
+// The product's quotient by (X - point i), from the highest power down.
+fn quotient(out: &mut [u16], v: usize, m: usize, i: usize, product: &[u16], points: &[u16])
+    requires { ⌜ Columns v m (now points) (now out) × (m * v ≤ length (now product)) × (i < m) × Locator gf257 v m (now points) m (now product) ⌝ }
+    ensures { λ _. ⌜ Quotient gf257 v m (now (points .entry)) i 0 (now (out .exit)) ⌝ }
+{
+    kernel257::fill(out, (m - 1) * v, v, 1);
+    let mut t = m - 1;
+    while 0 < t {
+        t -= 1;
+        divide(
+            out,
+            t * v,
+            v,
+            product,
+            (t + 1) * v,
+            (t + 1) * v,
+            points,
+            i * v,
+        );
     }
 }
 
@@ -141,7 +144,7 @@ fn add_columns(
 }
 
 // The coefficients of v columns, each so many times.
-fn spread(row: &mut [u16], v: usize, run: usize, coefs: &[u16], at: usize)
+fn spread_runs(row: &mut [u16], v: usize, run: usize, coefs: &[u16], at: usize)
     requires { ⌜ (v * run ≤ length (now row)) × (at + v ≤ length (now coefs)) ⌝ }
     ensures { λ _. ⌜ Run (stretched (now (coefs .entry)) at run) (now (row .entry)) (now (row .exit)) 0 (v * run) ⌝ }
 {
@@ -150,6 +153,27 @@ fn spread(row: &mut [u16], v: usize, run: usize, coefs: &[u16], at: usize)
         kernel257::fill(row, c * run, run, kernel257::at(coefs, at + c));
         c += 1;
     }
+}
+
+// The same; runs of one by a copy.
+fn spread(row: &mut [u16], v: usize, run: usize, coefs: &[u16], at: usize)
+    requires { ⌜ (v * run ≤ length (now row)) × (at + v ≤ length (now coefs)) ⌝ }
+    ensures { λ _. ⌜ Run (stretched (now (coefs .entry)) at run) (now (row .entry)) (now (row .exit)) 0 (v * run) ⌝ }
+{
+    if run == 1 {
+        kernel257::copy(row, 0, v, coefs, at);
+        return;
+    }
+    spread_runs(row, v, run, coefs, at);
+}
+
+// The same over and over: the coefficient of every place.
+fn widen(row: &mut [u16], v: usize, run: usize, turns: usize, coefs: &[u16], at: usize)
+    requires { ⌜ (0 < run) × (0 < v) × (0 < turns) × (v * turns * run ≤ length (now row)) × (at + v ≤ length (now coefs)) ⌝ }
+    ensures { λ _. ⌜ Run (widened (now (coefs .entry)) at v run) (now (row .entry)) (now (row .exit)) 0 (v * turns * run) ⌝ }
+{
+    spread(row, v, run, coefs, at);
+    kernel257::extend(row, v * run, turns);
 }
 
 // The same as `add_columns`; short runs by the coefficient of every place.
@@ -172,8 +196,7 @@ fn add_row(
         add_columns(found, to, v, run, turns, sums, from, coefs, at);
         return;
     }
-    spread(row, v, run, coefs, at);
-    kernel257::extend(row, v * run, turns);
+    widen(row, v, run, turns, coefs, at);
     kernel257::add_product(found, to, v * turns * run, sums, from, row, 0);
 }
 
@@ -201,8 +224,203 @@ fn combine(
     }
 }
 
-// The first n unknowns of every system, a row for each: those whose checks make up for the sums, so that the right sides are less these. `coefs` is room for a row of columns for each point, `row` for a row of places, and `table` has the
-// inverses of all symbols.
+// Row i divided by the products of differences of its columns.
+fn divide_row(
+    found: &mut [u16],
+    w: usize,
+    v: usize,
+    run: usize,
+    turns: usize,
+    i: usize,
+    divs: &[u16],
+    row: &mut [u16],
+)
+    requires { ⌜ (0 < run) × (0 < v) × (0 < turns) × (w ≡ v * turns * run) × (i * w + w ≤ length (now found)) × (i * v + v ≤ length (now divs)) × (w ≤ length (now row)) ⌝ }
+    ensures { λ _. ⌜ Divided gf257 w v run i (now (divs .entry)) (now (found .entry)) (now (found .exit)) ⌝ }
+{
+    widen(row, v, run, turns, divs, i * v);
+    scale(found, i * w, w, row, 0);
+}
+
+// Row i of what is found, combined and then divided.
+fn solve_columns(
+    found: &mut [u16],
+    w: usize,
+    v: usize,
+    run: usize,
+    turns: usize,
+    m: usize,
+    i: usize,
+    sums: &[u16],
+    points: &[u16],
+    divs: &[u16],
+    coefs: &[u16],
+    row: &mut [u16],
+)
+    requires { ⌜ Systems w v run turns m (now found) (now sums) (now coefs) (now row) × (i < m) × (m * v ≤ length (now divs)) × Divisors gf257 v m (now points) (now divs) × Quotient gf257 v m (now points) i 0 (now coefs) ⌝ }
+    ensures { λ _. ⌜ RowSolved gf257 w v run m i (now (sums .entry)) (now (points .entry)) (now (found .entry)) (now (found .exit)) ⌝ }
+{
+    combine(found, w, v, run, turns, m, i, sums, coefs, row);
+    divide_row(found, w, v, run, turns, i, divs, row);
+}
+
+// Row i of what is found where all places have the same points: the coefficients are divided, and not the row.
+fn solve_whole(
+    found: &mut [u16],
+    w: usize,
+    v: usize,
+    run: usize,
+    m: usize,
+    i: usize,
+    sums: &[u16],
+    points: &[u16],
+    divs: &[u16],
+    coefs: &mut [u16],
+)
+    requires { ⌜ Wholes w v m (now found) (now sums) (now coefs) × (i < m) × (m * v ≤ length (now divs)) × Divisors gf257 v m (now points) (now divs) × Quotient gf257 v m (now points) i 0 (now coefs) ⌝ }
+    ensures { λ _. ⌜ RowSolved gf257 w v run m i (now (sums .entry)) (now (points .entry)) (now (found .entry)) (now (found .exit)) ⌝ }
+{
+    scale_by(coefs, 0, m * v, kernel257::at(divs, i * v));
+    planes257::combine(found, w, m, i, sums, coefs, 0);
+}
+
+// Row i of what is found.
+fn solve_row(
+    found: &mut [u16],
+    w: usize,
+    v: usize,
+    run: usize,
+    turns: usize,
+    m: usize,
+    i: usize,
+    sums: &[u16],
+    points: &[u16],
+    product: &[u16],
+    divs: &[u16],
+    coefs: &mut [u16],
+    row: &mut [u16],
+)
+    requires { ⌜ Systems w v run turns m (now found) (now sums) (now coefs) (now row) × Factored gf257 v m (now points) (now product) (now divs) × (i < m) ⌝ }
+    ensures { λ _. ⌜ RowSolved gf257 w v run m i (now (sums .entry)) (now (points .entry)) (now (found .entry)) (now (found .exit)) ⌝ }
+{
+    quotient(coefs, v, m, i, product, points);
+    if run == w {
+        solve_whole(found, w, v, run, m, i, sums, points, divs, coefs);
+        return;
+    }
+    solve_columns(
+        found,
+        w,
+        v,
+        run,
+        turns,
+        m,
+        i,
+        sums,
+        points,
+        divs,
+        coefs,
+        row,
+    );
+}
+
+// The first n rows.
+fn solve_rows(
+    found: &mut [u16],
+    w: usize,
+    v: usize,
+    run: usize,
+    turns: usize,
+    m: usize,
+    n: usize,
+    sums: &[u16],
+    points: &[u16],
+    product: &[u16],
+    divs: &[u16],
+    coefs: &mut [u16],
+    row: &mut [u16],
+)
+    requires { ⌜ Systems w v run turns m (now found) (now sums) (now coefs) (now row) × Factored gf257 v m (now points) (now product) (now divs) × (n ≤ m) ⌝ }
+    ensures { λ _. ⌜ Solved gf257 w v run m (now (sums .entry)) (now (points .entry)) (now (found .exit)) n ⌝ }
+{
+    let mut i = 0usize;
+    while i < n {
+        solve_row(
+            found,
+            w,
+            v,
+            run,
+            turns,
+            m,
+            i,
+            sums,
+            points,
+            product,
+            divs,
+            coefs,
+            row,
+        );
+        i += 1;
+    }
+}
+
+// The product over all points and the divisors, which all rows go by.
+fn factor(
+    product: &mut [u16],
+    divs: &mut [u16],
+    carry: &mut [u16],
+    v: usize,
+    m: usize,
+    points: &[u16],
+    table: &[u16],
+)
+    requires { ⌜ Columns v m (now points) (now product) × Columns v m (now points) (now divs) × (v ≤ length (now carry)) × (0 < m) × Inverses gf257 (now table) ⌝ }
+    ensures { λ _. ⌜ Factored gf257 v m (now (points .entry)) (now (product .exit)) (now (divs .exit)) ⌝ }
+{
+    locator(product, carry, v, m, points);
+    divisors(divs, v, m, points, table);
+}
+
+// The first n rows of more than one, with room for what they go by.
+fn solve_many(
+    found: &mut [u16],
+    w: usize,
+    v: usize,
+    run: usize,
+    turns: usize,
+    m: usize,
+    n: usize,
+    sums: &[u16],
+    points: &[u16],
+    coefs: &mut [u16],
+    row: &mut [u16],
+    table: &[u16],
+)
+    requires { ⌜ Systems w v run turns m (now found) (now sums) (now coefs) (now row) × (m * v ≤ length (now points)) × Inverses gf257 (now table) × (n ≤ m) × (m * v ≤ room) × (0 < m) ⌝ }
+    ensures { λ _. ⌜ Solved gf257 w v run m (now (sums .entry)) (now (points .entry)) (now (found .exit)) n ⌝ }
+{
+    let mut product = [0u16; ROOM];
+    let mut divs = [0u16; ROOM];
+    factor(&mut product, &mut divs, row, v, m, points, table);
+    solve_rows(
+        found,
+        w,
+        v,
+        run,
+        turns,
+        m,
+        n,
+        sums,
+        points,
+        &product,
+        &divs,
+        coefs,
+        row,
+    );
+}
+
+// The first n unknowns of every system, a row for each: those whose checks make up for the sums, so that the right sides are less these. `coefs` is room for a
+// row of columns for each point, `row` for a row of places, and `table` has the inverses of all symbols.
 pub fn solve_first(
     found: &mut [u16],
     w: usize,
@@ -217,15 +435,30 @@ pub fn solve_first(
     row: &mut [u16],
     table: &[u16],
 )
-    requires { ⌜ Systems w v run turns m (now found) (now sums) (now coefs) (now row) × (m * v ≤ length (now points)) × Inverses gf257 (now table) × (n ≤ m) ⌝ }
+    requires { ⌜ Systems w v run turns m (now found) (now sums) (now coefs) (now row) × (m * v ≤ length (now points)) × Inverses gf257 (now table) × (n ≤ m) × (m * v ≤ room) ⌝ }
     ensures { λ _. ⌜ Solved gf257 w v run m (now (sums .entry)) (now (points .entry)) (now (found .exit)) n ⌝ }
 {
-    let mut i = 0usize;
-    while i < n {
-        coefficients(coefs, row, v, m, i, points, table);
-        combine(found, w, v, run, turns, m, i, sums, coefs, row);
-        i += 1;
+    if n == 0 {
+        return;
     }
+    if m == 1 {
+        negate(found, 0, w, sums, 0);
+        return;
+    }
+    solve_many(
+        found,
+        w,
+        v,
+        run,
+        turns,
+        m,
+        n,
+        sums,
+        points,
+        coefs,
+        row,
+        table,
+    );
 }
 
 // All of them.
@@ -242,7 +475,7 @@ pub fn solve(
     row: &mut [u16],
     table: &[u16],
 )
-    requires { ⌜ Systems w v run turns m (now found) (now sums) (now coefs) (now row) × (m * v ≤ length (now points)) × Inverses gf257 (now table) ⌝ }
+    requires { ⌜ Systems w v run turns m (now found) (now sums) (now coefs) (now row) × (m * v ≤ length (now points)) × Inverses gf257 (now table) × (m * v ≤ room) ⌝ }
     ensures { λ _. ⌜ Solved gf257 w v run m (now (sums .entry)) (now (points .entry)) (now (found .exit)) m ⌝ }
 {
     solve_first(

@@ -28,7 +28,7 @@ use Rattle.layout.proofs.Facts.{bounds}
 use Rattle.layout.proofs.Numbers.{layer-below}
 use Rattle.codeword.specs.Codeword.{shapeOf}
 use Rattle.codeword.proofs.Usable.{solvable}
-use Rattle.blocks.specs.Blocks.{Block}
+use Rattle.blocks.specs.Blocks.{roomLimit, Block}
 use Rattle.rule.specs.Rule.{groupAt, rackSymbol}
 use Rattle.rule.specs.Lost.{firstLost, lostPlace, Losses, Piece}
 use Rattle.rule.specs.Inner.{layerSum, lostSymbol}
@@ -40,6 +40,7 @@ use Rattle.group.specs.Inner.{Lying, LostPlaces, Rests, PutRows, foundAt
 pub space-next : (e w : ℕ) (rests found places coefs row cur rests′ found′ places′ coefs′ row′ cur′ : List ℕ) → Workspace e w rests found places coefs row cur → length rests′ ≡ length rests →
     length found′ ≡ length found → length places′ ≡ length places → length coefs′ ≡ length coefs → length row′ ≡ length row → length cur′ ≡ length cur → Workspace e w rests′ found′ places′ coefs′ row′ cur′
 space-next e w rests found places coefs row cur rests′ found′ places′ coefs′ row′ cur′ g a b c d f k = record {
+  few = g .few;
   rests-long = rw a (g .rests-long);
   found-long = rw b (g .found-long);
   places-long = rw c (g .places-long);
@@ -66,6 +67,9 @@ found-in e w rests found places coefs row cur found′ g a = rw a (g .found-long
 
 pub points-in : (e w : ℕ) (rests found places coefs row cur : List ℕ) → Workspace e w rests found places coefs row cur → e * 1 ≤ length places
 points-in e w rests found places coefs row cur g = rw (mul-one e) (g .places-long)
+
+pub points-few : (e w : ℕ) (rests found places coefs row cur : List ℕ) → Workspace e w rests found places coefs row cur → e * 1 ≤ roomLimit
+points-few e w rests found places coefs row cur g = rw (mul-one e) (g .few)
 
 module _ {A : Type 0} {f : Field A} (W : Working f) where
   open Field f using (ops)

@@ -15,6 +15,7 @@ use Rattle.kernel.specs.Runs.{cell, Inverses}
 use Rattle.layout.specs.declared.Layout.{Layout}
 use Rattle.layout.specs.Layout.{digits, layers, Cabinet}
 use Rattle.codeword.specs.Codeword.{shapeOf}
+use Rattle.blocks.specs.Blocks.{roomLimit}
 use Rattle.rule.specs.Rule.{rackSymbol}
 use Rattle.rule.specs.Lost.{lostPlace}
 use Rattle.sums.specs.Inner.{Groups}
@@ -67,6 +68,7 @@ pub record PutRows (total w start run stride : ℕ) (found was is : List ℕ) (n
 
 -- room for e rows of w symbols, and for what they are solved by
 pub record Workspace (e w : ℕ) (rests found places coefs row cur : List ℕ) : Type 0 where
+  pub few : e ≤ roomLimit
   pub rests-long : e * w ≤ length rests
   pub found-long : e * w ≤ length found
   pub places-long : e ≤ length places

@@ -125,6 +125,9 @@ module _ (l : Layout) (h p : ℕ) (helpers : List ℕ) (g : Grouped l h p helper
     pub points-room : (n : ℕ) (points′ : List ℕ) → n ≡ parityRacks l → length points′ ≡ length points → n * 1 ≤ length points′
     points-room n points′ en e = rw (mul-one n) (omega (arith, unknowns-high l (g .chosen .adm), m .points-long))
 
+  pub points-few : (n : ℕ) → n ≡ parityRacks l → n * 1 ≤ roomLimit
+  points-few n en = rw (mul-one n) (omega (arith, unknowns-high l (g .chosen .adm)))
+
   pub digits-first : (n s : ℕ) → n ≡ parityRacks l → s ≡ digits l → s ≤ n
   digits-first n s en es = omega (arith, digits-under l (g .chosen .adm))
 

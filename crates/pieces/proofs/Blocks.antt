@@ -88,6 +88,7 @@ module _ (N : ℕ) (l : Layout) (lost helpers shares host : List ℕ) (w first :
         block = g;
         sums-long = le-trans (fit .sums) (r .sums-long);
         room = record {
+          few = u;
           sides-long = le-trans u (r .sides-long);
           found-long = le-trans u (r .found-long);
           points-long = le-trans u (r .points-long);
@@ -120,6 +121,7 @@ module _ (N : ℕ) (l : Layout) (lost helpers shares host : List ℕ) (w first :
       let n : length lost ≤ trayLimit = omega (arith, few) in
       let u = lost-rows in
       record {
+        few = omega arith;
         rests-long = rw e1 (le-trans u (r .sides-long));
         found-long = rw e2 (le-trans u (r .found-long));
         places-long = omega (arith, e3, r .points-long);

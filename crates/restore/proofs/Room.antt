@@ -20,6 +20,7 @@ use Rattle.restore.specs.Inner.{Workspace}
 pub space-next : (l : Layout) (w : ℕ) (sums found points coefs row sums′ found′ points′ coefs′ row′ : List ℕ) → Workspace l w sums found points coefs row →
     length sums′ ≡ length sums → length found′ ≡ length found → length points′ ≡ length points → length coefs′ ≡ length coefs → length row′ ≡ length row → Workspace l w sums′ found′ points′ coefs′ row′
 space-next l w sums found points coefs row sums′ found′ points′ coefs′ row′ g a b c d e = record {
+  few = g .few;
   sums-long = rw a (g .sums-long);
   found-long = rw b (g .found-long);
   points-long = rw c (g .points-long);
@@ -42,7 +43,7 @@ erasing-next l total es c d p e = record { adm = p .adm; total-is = p .total-is;
 
 -- the arrays
 pub space : (l : Layout) (e : ℕ) → digits l ^ e ≤ blockLimit → checks l * digits l ^ e ≤ roomLimit → Workspace l (digits l ^ e) roomOf roomOf roomOf roomOf rowOf
-space l e h k = record { sums-long = fits; found-long = fits; points-long = fits; coefs-long = fits; row-long = rw row-long h }
+space l e h k = record { few = k; sums-long = fits; found-long = fits; points-long = fits; coefs-long = fits; row-long = rw row-long h }
   where
     fits : checks l * digits l ^ e ≤ length roomOf
     fits = rw room-long k

@@ -21,7 +21,7 @@ use Rattle.columns.specs.Columns.{column, Systems, Solved}
 use Rattle.layout.specs.declared.Layout.{Layout}
 use Rattle.layout.specs.Layout.{trays, digits, Cabinet}
 use Rattle.codeword.specs.Codeword.{symbolAt, pointAt}
-use Rattle.blocks.specs.Blocks.{Block}
+use Rattle.blocks.specs.Blocks.{roomLimit, Block}
 use Rattle.blocks.specs.Cycles.{Steady}
 use Rattle.blocks.proofs.Cycles.{run-low, columns-low, turns-low, width-is, columns-in}
 use Rattle.syndrome.specs.Syndrome.{entryOf, Listed, survivorAt, Sums}
@@ -45,6 +45,10 @@ pub points-room : (l : Layout) (w : ℕ) (es : List ℕ) (e run v turns : ℕ) (
     Workspace l w sums found points coefs row → length new ≡ length points → length es * v ≤ length new
 points-room l w es e run v turns sums found points new coefs row a k ew s g q =
     rw q (le-trans (mul-le-mul (k .few) (columns-in l es e w run v turns a ew s)) (g .points-long))
+
+pub points-few : (l : Layout) (w : ℕ) (es : List ℕ) (e run v turns : ℕ) (sums found points coefs row : List ℕ) → Cabinet l → Listed l es → w ≡ digits l ^ e → Steady l es e run v turns →
+    Workspace l w sums found points coefs row → length es * v ≤ roomLimit
+points-few l w es e run v turns sums found points coefs row a k ew s g = le-trans (mul-le-mul (k .few) (columns-in l es e w run v turns a ew s)) (g .few)
 
 module _ {A : Type 0} {f : Field A} (W : Working f) where
   open Field f using (ops)

@@ -13,7 +13,7 @@ use Rattle.kernel.specs.Runs.{cell}
 use Rattle.layout.specs.declared.Layout.{Layout}
 use Rattle.layout.specs.Layout.{trays, checks, layers}
 use Rattle.codeword.specs.Codeword.{symbolAt, pointAt}
-use Rattle.blocks.specs.Blocks.{Block}
+use Rattle.blocks.specs.Blocks.{roomLimit, Block}
 use Rattle.syndrome.specs.Syndrome.{entryOf, Listed}
 use Rattle.restore.specs.Restored.{restoredAt, LayerFits}
 
@@ -28,6 +28,7 @@ pub record Columns (l : Layout) (w first : ℕ) (es : List ℕ) (v run : ℕ) (p
 
 -- room for the checks of w layers, and for as many rows more
 pub record Workspace (l : Layout) (w : ℕ) (sums found points coefs row : List ℕ) : Type 0 where
+  pub few : checks l * w ≤ roomLimit
   pub sums-long : checks l * w ≤ length sums
   pub found-long : checks l * w ≤ length found
   pub points-long : checks l * w ≤ length points

@@ -27,6 +27,7 @@ use Rattle.layout.specs.declared.Layout.{Layout}
 use Rattle.layout.specs.Layout.{digits, parityRacks, trayLimit, Cabinet}
 use Rattle.layout.proofs.Facts.{bounds}
 use Rattle.codeword.specs.Codeword.{shapeOf}
+use Rattle.blocks.specs.Blocks.{roomLimit}
 use Rattle.sums.specs.Inner.{unknownPoint, rightSide, sumAt, Chosen, Cycle, PointsTo, Workspace, FoundSums, RowTimes, Weighing, Weighed, SidesTo, SumsTo, Summing}
 use Rattle.sums.proofs.Steps.{digits-under, sums-high}
 use Rattle.sums.proofs.Points.{columns-in}
@@ -73,6 +74,7 @@ module _ (l : Layout) (h w first : ℕ) (helpers shares : List ℕ) (e : ℕ) (s
     (g : Summing l h w first helpers shares e sums sides found points coefs row cur) where
   pub space-of : (sides′ row′ : List ℕ) → length sides′ ≡ length sides → length row′ ≡ length row → Workspace l w sides′ found points coefs row′
   space-of sides′ row′ es er = record {
+    few = g .room .few;
     sides-long = rw es (g .room .sides-long);
     found-long = g .room .found-long;
     points-long = g .room .points-long;
@@ -101,6 +103,7 @@ module _ (l : Layout) (h w first : ℕ) (helpers shares : List ℕ) (e : ℕ) (s
     block = g .block;
     sums-long = rw e1 (g .sums-long);
     room = record {
+      few = g .room .few;
       sides-long = rw e2 (g .room .sides-long);
       found-long = rw e3 (g .room .found-long);
       points-long = rw e4 (g .room .points-long);
@@ -132,6 +135,9 @@ module _ {A : Type 0} {f : Field A} (W : Working f) where
       coefs-long = rw en (le-trans (mul-le-mul (le-refl (parityRacks l)) (columns-in W l h w first helpers v run g)) (k .coefs-long));
       row-long = rw e (k .row-long);
     }
+
+    pub points-few : (n : ℕ) (sides found points coefs row : List ℕ) → n ≡ parityRacks l → Workspace l w sides found points coefs row → n * v ≤ roomLimit
+    points-few n sides found points coefs row en k = rw en (le-trans (mul-le-mul (le-refl (parityRacks l)) (columns-in W l h w first helpers v run g)) (k .few))
 
     pub found-of : (n s : ℕ) (sides points found : List ℕ) → Cabinet l → n ≡ parityRacks l → s ≡ digits l → PointsTo f l h first helpers v run (parityRacks l) points →
         Solved f w v run n sides points found s → FoundSums f l h w first helpers sides found

@@ -18,7 +18,7 @@ use Rattle.kernel.specs.Runs.{cell}
 use Rattle.layout.specs.declared.Layout.{Layout}
 use Rattle.layout.specs.Layout.{digits, groups, parityRacks, trayLimit, Cabinet}
 use Rattle.codeword.specs.Codeword.{shapeOf, pointAt}
-use Rattle.blocks.specs.Blocks.{Block}
+use Rattle.blocks.specs.Blocks.{roomLimit, Block}
 use Rattle.rule.specs.Lost.{sentSymbol}
 
 abbrev pub helperAt : List ℕ → ℕ → ℕ
@@ -72,6 +72,7 @@ pub record Pointed (l : Layout) (h w first : ℕ) (helpers : List ℕ) (v run : 
 
 -- room for the R checks of a block, and for as many rows more
 pub record Workspace (l : Layout) (w : ℕ) (sides found points coefs row : List ℕ) : Type 0 where
+  pub few : parityRacks l * w ≤ roomLimit
   pub sides-long : parityRacks l * w ≤ length sides
   pub found-long : parityRacks l * w ≤ length found
   pub points-long : parityRacks l * w ≤ length points

@@ -1,6 +1,6 @@
 use Prim.Native.Nat.{_-_}
 use Rattle.symbol.proofs.Working.{working}
-use Rattle.columns.proofs.Rows.{row-wide, period-room, period-fits, turns-room, count-fits, width-fits, wide-room}
+use Rattle.columns.proofs.Rows.{row-wide, count-fits, width-fits, wide-room}
 use borrow.Author.Needs.{needs}
 use Rattle.columns.proofs.add_row.Statement.{statement}
 use Rattle.columns.proofs.add_row.Tie as tie
@@ -11,9 +11,7 @@ add-row-spec =
     (λ c κs. search needs)
     (λ c. search needs)
     (λ c. search needs)
-    (λ c κs. (search period-room, search needs))
-    (λ c. search period-fits)
-    (λ c κs. (search turns-room, search needs))
+    (λ c κs. (search needs, search needs, search needs, search needs, search needs))
     (λ c. search count-fits)
     (λ c. search width-fits)
     (λ c κs. (search needs, search needs, search wide-room))

@@ -1,7 +1,7 @@
 -- Made by tools/twin.py from crates/columns/proofs/add_row/Proof.antt.
 use Prim.Native.Nat.{_-_}
 use Rattle.symbol257.proofs.Working.{working}
-use Rattle.columns.proofs.Rows.{row-wide, period-room, period-fits, turns-room, count-fits, width-fits, wide-room}
+use Rattle.columns.proofs.Rows.{row-wide, count-fits, width-fits, wide-room}
 use borrow.Author.Needs.{needs}
 use Rattle.columns257.proofs.add_row.Statement.{statement}
 use Rattle.columns257.proofs.add_row.Tie as tie
@@ -12,9 +12,7 @@ add-row-spec =
     (λ c κs. search needs)
     (λ c. search needs)
     (λ c. search needs)
-    (λ c κs. (search period-room, search needs))
-    (λ c. search period-fits)
-    (λ c κs. (search turns-room, search needs))
+    (λ c κs. (search needs, search needs, search needs, search needs, search needs))
     (λ c. search count-fits)
     (λ c. search width-fits)
     (λ c κs. (search needs, search needs, search wide-room))

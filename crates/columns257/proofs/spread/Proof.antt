@@ -1,31 +1,15 @@
 -- Made by tools/twin.py from crates/columns/proofs/spread/Proof.antt.
-use mathlib.Core.Path.{_≡_, refl}
-use Prim.Native.Nat.{_-_, _*_, _≤_}
-use native.Mathlib.Omega.{arith}
-use lib.ListN.{length}
 use borrow.Author.Needs.{needs}
-use Rattle.kernel.specs.Runs.{Run}
-use Rattle.columns.specs.Columns.{stretched}
-use Rattle.columns.proofs.Rows.{spread-none, spread-more, spread-end, spread-in, spread-fits}
+use Rattle.columns.proofs.Rows.{spread-one, one-in}
 use Rattle.columns257.proofs.spread.Statement.{statement}
 use Rattle.columns257.proofs.spread.Tie as tie
 
-abbrev Inv-loop : tie.InvT-loop
-Inv-loop row₀ v run coefs at c₀ row c = (c ≤ v) × (length row ≡ length row₀) × Run (stretched coefs at run) row₀ row 0 (c * run)
-
-abbrev μ-loop : tie.MeasureT-loop
-μ-loop row₀ v run coefs at c₀ row c = v - c
-
 pub spread-spec : {M : Type 1} → statement M
 spread-spec =
-    tie.close (tie.spec Inv-loop μ-loop
-    (λ c. (omega arith, refl, spread-none _ _ _ _))
-    (λ c. search spread-fits)
-    (λ c. omega arith)
-    (λ c κs. omega arith)
-    (λ c κs. search spread-in)
-    (λ c. omega arith)
-    (λ c. omega arith)
-    (λ c. (omega arith, search needs, search spread-more))
+    tie.close (tie.spec
+    (λ c κs. (search one-in, search needs))
     (λ c. search needs)
-    (λ c. search spread-end))
+    (λ c. search spread-one)
+    (λ c κs. search needs)
+    (λ c. search needs)
+    (λ c. search needs))

@@ -1,7 +1,7 @@
 use mathlib.Core.Path.{_∙_}
 use borrow.Author.Needs.{needs}
 use Rattle.symbol.proofs.Working.{working}
-use Rattle.multipliers.proofs.Sides.{pointed-one, space-of, systems-one, points-room, digits-first, multipliers-of}
+use Rattle.multipliers.proofs.Sides.{pointed-one, space-of, systems-one, points-room, points-few, digits-first, multipliers-of}
 use Rattle.multipliers.proofs.solve_sides.Statement.{statement}
 use Rattle.multipliers.proofs.solve_sides.Tie as tie
 
@@ -22,6 +22,7 @@ solve-first-requires c κs =
           _ (o .unknown-points .last .0) e (k .0),
       s .pre .2,
       digits-first (a .l) (a .h) (a .p) (a .helpers .now) (s .pre .0) _ _ e (m .digit-count .ensures),
+      points-few (a .l) (a .h) (a .p) (a .helpers .now) (s .pre .0) _ e,
     )
 
 returns : tie.Need-returns

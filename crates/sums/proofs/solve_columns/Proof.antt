@@ -1,6 +1,6 @@
 use Rattle.symbol.proofs.Working.{working}
 use Rattle.sums.proofs.Points.{pointed-of}
-use Rattle.sums.proofs.Rows.{systems-of, points-room, first-under, found-of}
+use Rattle.sums.proofs.Rows.{systems-of, points-room, points-few, first-under, found-of}
 use borrow.Author.Needs.{needs}
 use Rattle.sums.proofs.solve_columns.Statement.{statement}
 use Rattle.sums.proofs.solve_columns.Tie as tie
@@ -21,7 +21,7 @@ unknown-points-requires : tie.Need-unknown-points-requires
 unknown-points-requires c κs = search (pointed-of working)
 
 solve-first-requires : tie.Need-solve-first-requires
-solve-first-requires c κs = (search (systems-of working), search (points-room working), search needs, search (first-under working))
+solve-first-requires c κs = (search (systems-of working), search (points-room working), search needs, search (first-under working), search (points-few working))
 
 same-length : tie.Need-same-length
 same-length c = search needs
