@@ -65,7 +65,7 @@ use Rattle.box_repair.proofs.Exact.{share-unique, repair-unique, repair-exact}
 use Rattle.box_repair.proofs.Eight.{eight-exactly as differing-eight}
 use Rattle.box_repair.proofs.Examples.{worked-examples as box-examples}
 use Rattle.claims.specs.Claims.{Demand1, Demand2, EachRepair, Demand3, Document01, Requests, OneTray, Correcting, Cards, Least, Claims, Claims256, Claims257, Box}
-use Rattle.claims.proofs.Refused.{measure-numbers, test-grounds, share-refused, add-refused, many-refused, add-many-refused, repair-grounds, write-refused}
+use Rattle.claims.proofs.Refused.{measure-is, test-grounds, share-refused, add-refused, many-refused, add-many-refused, repair-grounds, write-refused}
 use Rattle.claims.proofs.Refused.{read-refused, margin-refused, scrub-refused, reset-refused, part-refused, repair-other, many-other, add-many-other}
 use Rattle.claims.proofs.Refused.{part-other, print-other, card-other, by-card-other, correcting-other, box-refused}
 use Rattle.claims.proofs.Survivors.{erased-only, none-erased, stops}
@@ -86,7 +86,7 @@ module _ {A : Type 0} {f : Field A} (W : Working f) (ed : Edition) (fit : Proper
 
   demand1 : Demand1 f ed l
   demand1 = record {
-    measure = measure-numbers (f .order) l;
+    measure = measure-is (f .order) l;
     test = test-grounds f l;
     store = λ given c d n p. (p .answer, λ h. p .unchanged (λ e. h (sym (p .answer) ∙ e)));
     recover = λ es c d n p. (p .refused, p .unchanged);

@@ -24,9 +24,10 @@ use Rattle.symbol.specs.Elem.{gf256}
 use Rattle.symbol257.specs.Elem.{gf257}
 use Rattle.layout.specs.declared.Layout.{Layout}
 use Rattle.layout.specs.declared.Layer.{Layer}
+use Rattle.layout.specs.declared.Measured.the-variants.{Known as Measures, Refused as NoMeasure}
 use Rattle.layout.specs.Layout.{trays, wholeRacks, parityRacks, checks, digits, layers, groups, traffic, admissible, admissibleWith, measured}
 use Rattle.codeword.specs.declared.Tested.{Tested}
-use Rattle.codeword.specs.declared.Tested.the-variants.{Sound, Bad}
+use Rattle.codeword.specs.declared.Tested.the-variants.{Sound, Bad, Refused as NoTest}
 use Rattle.codeword.specs.Codeword.{shapeOf, symbolAt, pointAt, checkAt, Codeword}
 use Rattle.codeword.specs.Test.{testRefusal, FirstBad, TestAnswer}
 use Rattle.store.specs.Store.{storeRefusal, Begins, Stores, StoreAnswer}
@@ -60,7 +61,6 @@ use Rattle.scrub.specs.declared.Report.{Report}
 use Rattle.scrub.specs.declared.Report.the-variants.{Refused as NoWalk}
 use Rattle.scrub.specs.Scrub.{badLayer, scrubRefusal, scrubbed, begun}
 use Rattle.scrub.specs.Calls.{Calls as Walks, Walked}
-use Rattle.gesarumbo.specs.Boundary.{measureNumbers, testNumbers}
 use Rattle.bench_book.specs.Table.{AllHold, benchBook}
 use Rattle.box_words.specs.Box.{Data, Word, wordOf}
 use Rattle.box_words.specs.Store.{storeRefusal as boxStoreRefusal, storeBuffer as boxStoreBuffer}
@@ -92,10 +92,8 @@ OthersAlike l lost host host′ =
 -- changes no byte of any buffer it was lent": a call's grounds, in their order, are one definition, ..Refusal, which the call answers; every other number is
 -- then zero, every part empty and every buffer as it was. (h is the host rack, i the helper, x the tray fed.)
 pub record Demand1 {A : Type 0} (f : Field A) (ed : Edition) (l : Layout) : Type 0 where
-  pub measure : measureNumbers (measured (f .order) l) ≡ cond (admissible (f .order) l) (record { refusal = 0; layers = layers l; checks = checks l; traffic = traffic l })
-      (record { refusal = 1; layers = 0; checks = 0; traffic = 0 })
-  pub test : (c : List ℕ) (r : Tested) → TestAnswer f l c r → (testNumbers r .refusal ≡ testRefusal f l c)
-      × (Refuses (testRefusal f l c) → testNumbers r ≡ record { refusal = testRefusal f l c; verdict = 0; layer = 0; check = 0 })
+  pub measure : measured (f .order) l ≡ cond (admissible (f .order) l) (Measures (layers l) (checks l) (traffic l)) (NoMeasure 1)
+  pub test : (c : List ℕ) (r : Tested) → TestAnswer f l c r → (n : ℕ) → (r ≡ NoTest n) ↔ ((n ≡ testRefusal f l c) × Refuses n)
   pub store : (given c d : List ℕ) (n : ℕ) → StoreAnswer f l given c d n → Grounded (storeRefusal f l given (length c)) n c d
   pub recover : (es c d : List ℕ) (n : ℕ) → RecoverAnswer f l es c d n → (Refuses (recoverRefusal f l es c) → n ≡ recoverRefusal f l es c) × (Refuses n → d ≡ c)
   pub share : (h i : ℕ) (rack out : List ℕ) → Refuses (sharesRefusal f l 1 h i rack (length out)) → sharesBuffer f l 1 h i rack out ≡ out

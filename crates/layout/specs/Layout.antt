@@ -98,14 +98,3 @@ pub record AdmissibleWith (N e : ℕ) (l : Layout) : Type 0 where
 -- the answer of the layout call
 unfoldable pub measured : ℕ → Layout → Measured
 measured N l = cond (admissible N l) (Known (layers l) (checks l) (traffic l)) (Refused 1)
-
--- document 01's numbers for each answer: the refusal (0 for none), L, r and the traffic
-pub record Numbers : Type 0 where
-  pub refusal : ℕ
-  pub layers : ℕ
-  pub checks : ℕ
-  pub traffic : ℕ
-
-abbrev pub numbersOf : Measured → Numbers
-numbersOf (Known total r cost) = record { refusal = 0; layers = total; checks = r; traffic = cost }
-numbersOf (Refused e) = record { refusal = e; layers = 0; checks = 0; traffic = 0 }
