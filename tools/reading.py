@@ -117,7 +117,7 @@ def written(page):
         elif (kind, title) in closures:
             line = '| %s | %s |' % (title, closures.pop((kind, title)))
         elif line.startswith('| | in all'):
-            line = re.sub(r'[\d,]+ \|$', '{:,} |'.format(sum(lines.values())), line)
+            line = re.sub(r'[\d,]+ \| \|$', '{:,} | |'.format(sum(lines.values())), line)
         out.append(line)
     for path in sorted(missing):
         print('docs/READING.md: %s has definitions to believe and is not listed' % path)
