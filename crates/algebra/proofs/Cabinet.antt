@@ -183,7 +183,8 @@ module _ {A : Type 0} (sh : Shape A) (fits : Fits sh) (h : ℕ) (host : h < sh .
     solution-word = record { at = λ w l. sym (group-check sh fits h host a (λ b i. ρ i (layerOf s h p b)) w m) ∙ sym (sum-checks m ρ w) ∙ sol .checks w l }
 
     pub solution-sent : (k : ℕ) → k < d → ¬ (helper k ≡ h) →
-        groupWord sh h (digit s (layerOf s h p 0)) m (λ b i. ρ i (layerOf s h p b)) (helperPlace s h helper k) ≡ pow o (point sh (helper k) (digit s (layerOf s h p 0) (helper k)) 0) m ⊗ share k
+        groupWord sh h (digit s (layerOf s h p 0)) m (λ b i. ρ i (layerOf s h p b)) (helperPlace s h helper k)
+        ≡ pow o (point sh (helper k) (digit s (layerOf s h p 0) (helper k)) 0) m ⊗ share k
     unfolding groupWord helperPlace a
     solution-sent k l d′ =
         join-add s _ _ (unskip h (helper k))

@@ -48,7 +48,8 @@ module _ {A : Type 0} (sh : Shape A) (fits : Fits sh) (h : ℕ) (host : h < sh .
       ∙ sum-add o L s _ _
       ∙ ap₂ _⊕_
       (sum-congr o s _ _ (λ b l. sym (ap₂ (λ x y. pow o x w ⊗ y) (join-low s _ _ b l) (join-low s _ _ b l))))
-      (sum-swap o L s (B - 1) _ ∙ sum-congr o (B - 1) _ _ (λ j l. pull (pow o (P (skip h j) (a (skip h j))) w) (Q m (skip h j) (a (skip h j))) (λ b. ρ b (skip h j)) ∙ sym (ap₂ (λ x y. pow o x w ⊗ y) (join-add s _ _ j) (join-add s _ _ j))))
+      (sum-swap o L s (B - 1) _ ∙ sum-congr o (B - 1) _ _ (λ j l. pull (pow o (P (skip h j) (a (skip h j))) w) (Q m (skip h j) (a (skip h j))) (λ b. ρ b (skip h j))
+      ∙ sym (ap₂ (λ x y. pow o x w ⊗ y) (join-add s _ _ j) (join-add s _ _ j))))
       ∙ sym (sum-split o L s (B - 1) _)
     where
       pull : (x y : A) (f : ℕ → A) → sum o s (λ b. x ⊗ (y ⊗ f b)) ≡ x ⊗ (y ⊗ sum o s f)
@@ -77,12 +78,14 @@ module _ {A : Type 0} (sh : Shape A) (fits : Fits sh) (h : ℕ) (host : h < sh .
       go x y k l (yes p) (yes q) e = (P-apart h x h y host p host q (sym (group-low x p) ∙ e ∙ group-low y q)) .1
       go x y k l (yes p) (no q) e =
           let i = inside y l (omega arith) in
-          absurd (skip-other h (y - s) (sym ((P-apart h x (skip h (y - s)) (a (skip h (y - s))) host p i (ha (skip h (y - s)) i) (sym (group-low x p) ∙ e ∙ group-high y (omega arith))) .0)))
+          absurd (skip-other h (y - s) (sym ((P-apart h x (skip h (y - s)) (a (skip h (y - s))) host p i (ha (skip h (y - s)) i)
+          (sym (group-low x p) ∙ e ∙ group-high y (omega arith))) .0)))
       go x y k l (no p) (yes q) e =
           let i = inside x k (omega arith) in
           absurd (skip-other h (x - s) ((P-apart (skip h (x - s)) (a (skip h (x - s))) h y i (ha (skip h (x - s)) i) host q (sym (group-high x (omega arith)) ∙ e ∙ group-low y q)) .0))
       go x y k l (no p) (no q) e =
           let i = inside x k (omega arith) in
           let j = inside y l (omega arith) in
-          let f = skip-apart h (x - s) (y - s) ((P-apart (skip h (x - s)) (a (skip h (x - s))) (skip h (y - s)) (a (skip h (y - s))) i (ha (skip h (x - s)) i) j (ha (skip h (y - s)) j) (sym (group-high x (omega arith)) ∙ e ∙ group-high y (omega arith))) .0) in
+          let f = skip-apart h (x - s) (y - s) ((P-apart (skip h (x - s)) (a (skip h (x - s))) (skip h (y - s)) (a (skip h (y - s))) i (ha (skip h (x - s)) i) j
+          (ha (skip h (y - s)) j) (sym (group-high x (omega arith)) ∙ e ∙ group-high y (omega arith))) .0) in
           omega arith

@@ -50,7 +50,8 @@ module _ {A : Type 0} (sh : Shape A) (fits : Fits sh) where
   unfolding trayPoint
   trays-distinct a ha = record {
     apart = λ x y h k e.
-        let w = point-apart (x / u) (a (x / u)) (x % u) (y / u) (a (y / u)) (y % u) (rack-of x h) (ha (x / u) (rack-of x h)) (mod-lt x some-places) (rack-of y k) (ha (y / u) (rack-of y k)) (mod-lt y some-places) e in
+        let w = point-apart (x / u) (a (x / u)) (x % u) (y / u) (a (y / u)) (y % u) (rack-of x h) (ha (x / u) (rack-of x h)) (mod-lt x some-places) (rack-of y k)
+        (ha (y / u) (rack-of y k)) (mod-lt y some-places) e in
         sym (div-add-mod' x u) ∙ ap₂ (λ p q. p * u + q) (w .0) (w .2) ∙ div-add-mod' y u;
   }
 
@@ -82,7 +83,9 @@ module _ {A : Type 0} (sh : Shape A) (fits : Fits sh) where
   -- the point of a place is that of place 0, times a power of a root of one
   pub point-split : (i a g : ℕ) → point sh i a g ≡ point sh i a 0 ⊗ pow o (pow o z (N / u)) g
   unfolding point
-  point-split i a g = pow-add o L z (i * s + a) (g * (N / u)) ∙ ap₂ _⊗_ (ap (pow o z) (sym (plus-zero (i * s + a)) ∙ ap (λ x. i * s + a + x) (sym (zero-times (N / u))))) (ap (pow o z) (times-comm g (N / u)) ∙ pow-mul o L z (N / u) g)
+  point-split i a g = pow-add o L z (i * s + a) (g * (N / u))
+      ∙ ap₂ _⊗_ (ap (pow o z) (sym (plus-zero (i * s + a)) ∙ ap (λ x. i * s + a + x) (sym (zero-times (N / u))))) (ap (pow o z) (times-comm g (N / u))
+      ∙ pow-mul o L z (N / u) g)
 
   root-one : pow o (pow o z (N / u)) u ≡ 𝟙
   root-one = sym (pow-mul o L z (N / u) u) ∙ ap (pow o z) (times-comm (N / u) u ∙ divides) ∙ root .full
@@ -121,7 +124,8 @@ module _ {A : Type 0} (sh : Shape A) (fits : Fits sh) where
   unfolding place
   places-distinct = record {
     apart = λ g f k l e.
-        let x = root .apart (g * (N / u)) (f * (N / u)) (omega (arith, exponent 0 0 g some-racks some-digits k)) (omega (arith, exponent 0 0 f some-racks some-digits l)) (as-power g ∙ e ∙ sym (as-power f)) in
+        let x = root .apart (g * (N / u)) (f * (N / u)) (omega (arith, exponent 0 0 g some-racks some-digits k))
+        (omega (arith, exponent 0 0 f some-racks some-digits l)) (as-power g ∙ e ∙ sym (as-power f)) in
         (digits-same (N / u) g f 0 0 some some (omega (arith, x))) .0;
   }
     where

@@ -25,10 +25,11 @@ module _ {A : Type 0} (sh : Shape A) where
   unfoldable pub place : ℕ → A
   place g = pow o (pow o z (N / u)) g
 
-  -- the sum over the trays of rack i, each times the m-th power of its place's factor; with m = 0 document 01's rack sum
-  unfoldable pub rackSum : (ℕ → A) → ℕ → ℕ → A
-  rackSum c m i = sum o u (λ g. o .mul (pow o (place g) m) (c (i * u + g)))
-
   -- the check t = u·w + m of a layer, in terms of the rack sums ρ of weight m
   unfoldable pub rackCheck : (ℕ → ℕ) → ℕ → (ℕ → A) → ℕ → A
   rackCheck a m ρ w = check o (rackPoint a) B (λ i. o .mul (pow o (point i (a i) 0) m) (ρ i)) w
+
+  -- ---- what only code and proofs need
+  -- the sum over the trays of rack i, each times the m-th power of its place's factor; with m = 0 document 01's rack sum
+  unfoldable pub rackSum : (ℕ → A) → ℕ → ℕ → A
+  rackSum c m i = sum o u (λ g. o .mul (pow o (place g) m) (c (i * u + g)))

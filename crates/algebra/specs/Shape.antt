@@ -33,6 +33,7 @@ pub record Shape (A : Type 0) : Type 0 where
   pub size : ℕ
   pub digits : ℕ
 
+-- ---- what only code and proofs need
 -- what the construction needs of these
 pub record Fits {A : Type 0} (sh : Shape A) : Type 0 where
   pub laws : Laws (sh .ops)

@@ -8,7 +8,7 @@ use borrow.Author.Tests.{eqb-true, ltb-true}
 use lib.Dec.{eqb, ltb}
 use lib.IntN.{ℤ}
 use lib.ListN.{length, getD}
-use Rattle.lists.specs.Lists.{all, table}
+use Rattle.lists.specs.Lists.{all, allBelow, table}
 use Rattle.lists.proofs.Bools.{both, all-holds}
 use Rattle.algebra.specs.Field.{Ops}
 use Rattle.algebra.specs.Coding.{InRange}
@@ -23,15 +23,15 @@ use Rattle.symbol.specs.Elem.{Elem, elem, ops, gf256, coding}
 use Rattle.symbol.proofs.Elem.{elem-path, val-zero}
 use Rattle.symbol.proofs.Working.{working}
 use Rattle.layout.specs.declared.Layout.{Layout}
-use Rattle.layout.specs.Layout.{trays, checks, layers, admissible, sizeAllowed, measured}
+use Rattle.layout.specs.Layout.{trays, checks, layers, admissible, lostCountFits, sizeAllowed, measured}
 use Rattle.layout.proofs.Facts.{admissible-facts}
 use Rattle.range.specs.Range.{symbolsFrom}
 use Rattle.codeword.specs.Codeword.{symbolAt, pointAt, checkAt, Codeword}
 use Rattle.rule.specs.Rule.{weightedSum, shareSymbol}
-use Rattle.share.specs.Share.{shareOf, shareRefusal}
+use Rattle.share.specs.Many.{sharesRefusal, sharesOf}
 use Rattle.store.specs.Store.{Begins, Stores, storeRefusal}
 use Rattle.store.proofs.Trays.{store-exists}
-use Rattle.margin.specs.Margin.{live, marginOf, marginRefusal, statesKnown}
+use Rattle.margin.specs.Margin.{live, marginOf, marginRefusal}
 use Rattle.bench_book.specs.Table.{AllHold, benchBook, cabinet, tray0, tray1, tray2}
 
 -- the test that c is what storing the data gives: an admissible layout, the lengths, bytes, checks that are zero, and the data in front
@@ -76,5 +76,45 @@ stored = (refl, refl)
 
 -- THE BENCH BOOK
 pub worked-examples : AllHold benchBook
-unfolding measured admissible sizeAllowed storeRefusal symbolsFrom shareRefusal shareOf table shareSymbol groupSum groupOf weightedSum place symbolAt choose sum pow ops elem _⊕_ _⊗_ shiftAdd mulz marginRefusal marginOf live statesKnown all
-worked-examples = (refl, (refl, (refl, (refl, (refl, (refl, (refl, (refl, (refl, (refl, (refl, (refl, ((refl, is-stored _ _ _ (stored .0)), ((refl, is-stored _ _ _ (stored .1)), ((refl, refl), ((refl, refl), (refl, ((refl, refl), ((refl, refl), ((refl, refl), ((refl, refl), tt)))))))))))))))))))))
+unfolding measured admissible sizeAllowed storeRefusal symbolsFrom sharesRefusal lostCountFits sharesOf table shareSymbol groupSum groupOf weightedSum place symbolAt
+    choose sum pow ops elem _⊕_ _⊗_ shiftAdd mulz marginRefusal marginOf live allBelow all
+worked-examples = (
+  refl,
+  (
+    refl,
+    (
+      refl,
+      (
+        refl,
+        (
+          refl,
+          (
+            refl,
+            (
+              refl,
+              (
+                refl,
+                (
+                  refl,
+                  (
+                    refl,
+                    (
+                      refl,
+                      (
+                        refl,
+                        (
+                          (refl, is-stored _ _ _ (stored .0)),
+                          ((refl, is-stored _ _ _ (stored .1)), ((refl, refl), ((refl, refl), (refl, ((refl, refl), ((refl, refl), ((refl, refl), ((refl, refl), tt)))))))),
+                        ),
+                      ),
+                    ),
+                  ),
+                ),
+              ),
+            ),
+          ),
+        ),
+      ),
+    ),
+  ),
+)

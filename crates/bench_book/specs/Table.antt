@@ -1,15 +1,18 @@
 -- The starred lines of document 01's bench book, as document 02 changed them, as one table, and what it claims of each.
 -- Assumes nothing.
 use mathlib.Core.Path.{_≡_}
+use mathlib.Core.Bool.{cond}
 use mathlib.Core.List.{List, [], _∷_, _++_}
 use Prim.Native.Nat.{ℕ}
+use lib.Dec.{eqb}
 use lib.IntN.{ℤ, pos, negsuc}
 use lib.ListN.{length, replicate}
 use Rattle.symbol.specs.Elem.{gf256}
 use Rattle.layout.specs.declared.Layout.{Layout}
-use Rattle.layout.specs.Layout.{Numbers, numbersOf, measured}
+use Rattle.layout.specs.declared.Measured.the-variants.{Known, Refused}
+use Rattle.layout.specs.Layout.{measured}
 use Rattle.store.specs.Store.{Stores, storeRefusal}
-use Rattle.share.specs.Share.{shareOf, shareRefusal}
+use Rattle.share.specs.Many.{sharesRefusal, sharesOf}
 use Rattle.margin.specs.Margin.{marginRefusal, marginOf}
 
 -- a line of the bench book
@@ -24,9 +27,9 @@ pub data Line : Type 0 where
   margins : Layout → List ℕ → ℤ → Line
 
 abbrev pub Holds : Line → Type 0
-Holds (measures N l refusal total r cost) = numbersOf (measured N l) ≡ record { refusal = refusal; layers = total; checks = r; traffic = cost }
+Holds (measures N l refusal total r cost) = measured N l ≡ cond (eqb refusal 0) (Known total r cost) (Refused refusal)
 Holds (stores l given c) = (storeRefusal gf256 l given (length c) ≡ 0) × Stores gf256 l given c
-Holds (shares l host helper rack share) = (shareRefusal gf256 l host helper rack (length share) ≡ 0) × (shareOf gf256 l 0 host rack ≡ share)
+Holds (shares l host helper rack share) = (sharesRefusal gf256 l 1 host helper rack (length share) ≡ 0) × (sharesOf gf256 l 1 host rack ≡ share)
 Holds (margins l states margin) = (marginRefusal (gf256 .order) l states ≡ 0) × (marginOf l states ≡ margin)
 
 abbrev pub AllHold : List Line → Type 0

@@ -12,9 +12,9 @@ use Rattle.layout.specs.Layout.{digits, layers, groups, AdmissibleWith}
 use Rattle.layout.proofs.Numbers.{whole-low}
 use Rattle.codeword.specs.Codeword.{Codeword}
 use Rattle.codeword.proofs.Usable.{solvable}
-use Rattle.rule.specs.Rule.{rackPart, Helpers, weightedSum, shareSymbol, RuledOne}
-use Rattle.card.specs.Card.{cardSum, Right, OneCard, Carded}
-use Rattle.card.proofs.Right.{one-card, carded-ruled, ruled-carded}
+use Rattle.rule.specs.Rule.{rackPart, Helpers, weightedSum, shareSymbol}
+use Rattle.card.specs.Card.{cardSum, Right, OneCard}
+use Rattle.card.proofs.Right.{one-card}
 
 -- a card is right for every tray of the rack or for none
 pub right-rack : {A : Type 0} (f : Field A) (l : Layout) (x y : ℕ) (helpers : List ℕ) (p : ℕ) (card : List ℕ) → x / l .size ≡ y / l .size → Right f l x helpers p card →
@@ -24,13 +24,7 @@ right-rack f l x y helpers p card e r = record {
       cardSum f l card (λ k. shareSymbol f l 0 h (rackPart l c (getD helpers k 0)) p) (digit (digits l) j h) ≡ weightedSum f l 0 (rackPart l c h) j) e (r .gives);
 }
 
-module _ {A : Type 0} {f : Field A} (W : Working f) (l : Layout) (a : AdmissibleWith (f .order) 0 l) (x : ℕ) (helpers : List ℕ) (help : Helpers l x helpers) (p : ℕ) (inside : p < groups l) where
+module _ {A : Type 0} {f : Field A} (W : Working f) (l : Layout) (a : AdmissibleWith (f .order) 0 l) (x : ℕ) (helpers : List ℕ) (help : Helpers l x helpers) (p : ℕ)
+    (inside : p < groups l) where
   pub one-card-at : OneCard f l x helpers p
   one-card-at = one-card f l (solvable W l a) x helpers help p inside (whole-low l (a .admissible .cabinet))
-
-  module _ (card : List ℕ) (right : Right f l x helpers p card) (shares host spare : List ℕ) where
-    pub carded-ruled-at : Carded f l x p card shares host spare → RuledOne f l x helpers shares host p spare
-    carded-ruled-at = carded-ruled f l (solvable W l a) x helpers help p inside (whole-low l (a .admissible .cabinet)) card right shares host spare
-
-    pub ruled-carded-at : RuledOne f l x helpers shares host p spare → Carded f l x p card shares host spare
-    ruled-carded-at = ruled-carded f l (solvable W l a) x helpers help p inside (whole-low l (a .admissible .cabinet)) card right shares host spare

@@ -1,7 +1,7 @@
 -- A card is right exactly when its multipliers are those that the solver finds; there is one such card; and a repair by it is document 01's, on any shares.
 -- Assumes nothing.
 use mathlib.Core.Path.{_≡_, refl, sym, _∙_, ap, ap₂, subst}
-use mathlib.Core.List.{List, [], _∷_}
+use mathlib.Core.List.{List, []}
 use Prim.Native.Nat.{ℕ, _+_, _-_, _*_, _/_, _%_, _^_, _≤_, _<_}
 use native.Mathlib.Nat.{mod-lt, div-add-mod', div-lt-iff-lt-mul}
 use native.Mathlib.Omega.{arith}
@@ -31,11 +31,9 @@ use Rattle.layout.proofs.Numbers.{checks-fit}
 use Rattle.codeword.specs.Codeword.{shapeOf, symbolAt, Codeword, Solvable}
 use Rattle.codeword.proofs.Buffers.{to-word}
 use Rattle.codeword.proofs.Words.{bufferOf, buffer-symbol, buffer-codeword}
-use Rattle.rule.specs.Rule.{rackPart, trayPart, Helpers, groupAt, weightedSum, shareSymbol, sharedSymbol, soundSum, RuledOne}
-use Rattle.rule.specs.Lost.{Of}
+use Rattle.rule.specs.Rule.{rackPart, Helpers, groupAt, weightedSum, shareSymbol, sharedSymbol, soundSum, RuledOne}
 use Rattle.rule.proofs.Racks.{rack-at, share-word, group-congr}
 use Rattle.rule.proofs.Rule.{host-in, helping, solution-sums, witness-sums, witness-solves}
-use Rattle.rule.proofs.Single.{one-exact}
 use Rattle.card.specs.Card.{multiplier, cardSum, Right, OneCard, Carded}
 use Rattle.card.specs.Inner.{rightMultiplier}
 use Rattle.card.proofs.Reach.{lift, sums, reached, reached-share}
@@ -106,7 +104,8 @@ module _ {A : Type 0} (f : Field A) (l : Layout) (ok : Solvable f l) (x : ℕ) (
 
       pub stored-codeword : Codeword f l stored
       unfolding stored word
-      stored-codeword = buffer-codeword f l _ (ok .usable) (reached (shapeOf f l) (ok .usable .fits) h (host-in f l ok x helpers help) p group (λ k. getD helpers k 0) (l .helpers) (parityRacks l)
+      stored-codeword = buffer-codeword f l _ (ok .usable) (reached (shapeOf f l) (ok .usable .fits) h (host-in f l ok x helpers help) p group
+          (λ k. getD helpers k 0) (l .helpers) (parityRacks l)
           (helping f l ok x helpers help) narrow share (checks l) (checks-fit l))
 
       -- every d-tuple is the share symbols of a codeword
@@ -185,7 +184,8 @@ module _ {A : Type 0} (f : Field A) (l : Layout) (ok : Solvable f l) (x : ℕ) (
         cell n = f .coding .val (rightMultiplier f l h helpers p (n / l .helpers) (n % l .helpers))
 
         within : (n : ℕ) → n < length (table cell (digits l * l .helpers)) → getD (table cell (digits l * l .helpers)) n 0 < f .coding .size
-        within n q = subst (λ y. y < f .coding .size) (sym (table-at cell (digits l * l .helpers) n (rw (table-length cell (digits l * l .helpers)) at q))) (ok .usable .field .coded .val-below _)
+        within n q = subst (λ y. y < f .coding .size) (sym (table-at cell (digits l * l .helpers) n (rw (table-length cell (digits l * l .helpers)) at q)))
+            (ok .usable .field .coded .val-below _)
 
         agrees : Agrees (table cell (digits l * l .helpers))
         agrees b k hb hk = unfold multiplier in
@@ -194,11 +194,13 @@ module _ {A : Type 0} (f : Field A) (l : Layout) (ok : Solvable f l) (x : ℕ) (
 
     -- on any shares a right card gives the host rack sums of the rule of repair
     pub right-sums : (card : List ℕ) → Right f l x helpers p card → (share : ℕ → A) (b : ℕ) → b < digits l →
-        cardSum f l card share b ≡ hostSum (shapeOf f l) (x / l .size) (digit (digits l) (layerOf (digits l) (x / l .size) p 0)) (λ k. getD helpers k 0) (l .helpers) (parityRacks l) 0 share b
+        cardSum f l card share b ≡ hostSum (shapeOf f l) (x / l .size) (digit (digits l) (layerOf (digits l) (x / l .size) p 0)) (λ k. getD helpers k 0) (l .helpers)
+        (parityRacks l) 0 share b
     right-sums card right share b hb = card-found card (right-agrees card right) share b hb ∙ sym (found-is share b)
 
     module _ (card : List ℕ) (right : Right f l x helpers p card) (shares host spare : List ℕ) where
-      host-sum : (j : ℕ) → groupAt l x j ≡ p → (rack : ℕ → ℕ → A) → Solution (shapeOf f l) 0 (x / l .size) p (λ k. getD helpers k 0) (l .helpers) (parityRacks l) (sharedSymbol f l shares p) rack →
+      host-sum : (j : ℕ) → groupAt l x j ≡ p → (rack : ℕ → ℕ → A) → Solution (shapeOf f l) 0 (x / l .size) p (λ k. getD helpers k 0) (l .helpers) (parityRacks l)
+          (sharedSymbol f l shares p) rack →
           cardSum f l card (sharedSymbol f l shares p) (digit (digits l) j h) ≡ rack h j
       host-sum j e rack sol =
           right-sums card right (sharedSymbol f l shares p) (digit (digits l) j h) (digit-below (digits l) (ok .usable .fits .some-digits) j h)
@@ -216,8 +218,3 @@ module _ {A : Type 0} (f : Field A) (l : Layout) (ok : Solvable f l) (x : ℕ) (
 
       pub ruled-carded : RuledOne f l x helpers shares host p spare → Carded f l x p card shares host spare
       ruled-carded r = record { holds = λ j hj e. r .holds j hj e ∙ ap (λ y. f .coding .val (add y (neg (soundSum f l x host j)))) (sym (host-sum j e (r .sums) (r .solution))) }
-
-      -- a repair by card on a codeword's shares and sound trays gives the codeword's lost tray
-      pub carded-exact : (c : List ℕ) → Of f l (x ∷ []) helpers shares host c → Carded f l x p card shares host spare →
-          (j : ℕ) → j < layers l → groupAt l x j ≡ p → getD spare j 0 ≡ getD (trayPart l c x) j 0
-      carded-exact c of q = one-exact f l ok x helpers help shares host c of p inside spare (carded-ruled q)

@@ -109,7 +109,8 @@ module _ {A : Type 0} {f : Field A} (W : Working f) (l : Layout) (x : ℕ) (help
   -- ---- the repair
   module _ (card shares host old : List ℕ) where
     -- a repair by card that is done answers and writes what the repair of that group does
-    pub card-as-repair : (new : List ℕ) (g c t : ℕ) → CardDone f l x helpers card shares host group old new g c t → RepairAnswer f l (x ∷ []) helpers shares host group 1 old new (Done g c t)
+    pub card-as-repair : (new : List ℕ) (g c t : ℕ) → CardDone f l x helpers card shares host group old new g c t →
+        RepairAnswer f l (x ∷ []) helpers shares host group 1 old new (Done g c t)
     card-as-repair new g c t d = d .piece
 
     pub card-report : (new : List ℕ) (g c t : ℕ) → CardDone f l x helpers card shares host group old new g c t →
@@ -135,7 +136,8 @@ module _ {A : Type 0} {f : Field A} (W : Working f) (l : Layout) (x : ℕ) (help
         ∙ ap (λ y. getD y j 0) (one-part f l ok x helpers (made .help) w (of .codeword .long))
 
     module _ (new new′ : List ℕ) where
-      both-refused : (e e′ : ℕ) → CardRefused f l x helpers card shares host group old new e → CardRefused f l x helpers card shares host group old new′ e′ → (Refused e ≡ Refused e′) × (new ≡ new′)
+      both-refused : (e e′ : ℕ) → CardRefused f l x helpers card shares host group old new e → CardRefused f l x helpers card shares host group old new′ e′ →
+          (Refused e ≡ Refused e′) × (new ≡ new′)
       both-refused e e′ p q = (ap Refused (judged-unique _ e e′ (p .refused) (q .refused)), p .kept ∙ sym (q .kept))
 
       done-refused : {B : Type 0} (z : Judged (repairGround f l x helpers group card shares host (length old)) (Right f l x helpers group card) 0) (e : ℕ) →

@@ -159,7 +159,8 @@ module _ {A : Type 0} (f : Field A) (l : Layout) (x : ℕ) (helpers : List ℕ) 
         pub stop-spare : ¬ (spare ≡ n) → 2 ≡ repairGround f l x helpers group card shares host spare
         stop-spare d = repair-2 (λ p q r t. d (t ∙ sym en))
 
-        module _ (s g : ℕ) (es : s ≡ digits l) (eg : g ≡ groups l) (ec : length card ≡ s * l .helpers) (ed : length shares ≡ l .helpers * g) (eh : length host ≡ l .size * n) (et : spare ≡ n)
+        module _ (s g : ℕ) (es : s ≡ digits l) (eg : g ≡ groups l) (ec : length card ≡ s * l .helpers) (ed : length shares ≡ l .helpers * g)
+            (eh : length host ≡ l .size * n) (et : spare ≡ n)
             (i : Bool) (ei : i ≡ inLayout l x helpers group) where
           lengths-true : lengths ≡ true
           unfolding lengths

@@ -21,7 +21,8 @@ module _ {A : Type 0} (f : Field A) (l : Layout) (x : ℕ) (helpers shares host 
   unfolding lostPlace
   sound host′ alike j hj g hg out = alike j hj g hg (out 0 (omega arith))
 
-  pub as-pieces : {G crossed toCome : ℕ} {spare : List ℕ} → CardCalls f l x helpers shares host start G crossed toCome spare → Calls f l (x ∷ []) helpers shares host start G crossed toCome spare
+  pub as-pieces : {G crossed toCome : ℕ} {spare : List ℕ} → CardCalls f l x helpers shares host start G crossed toCome spare →
+      Calls f l (x ∷ []) helpers shares host start G crossed toCome spare
   as-pieces CardCalls.none = subst (λ n. Calls f l (x ∷ []) helpers shares host start 0 0 n start) (one-mul (traffic l)) Calls.none
   as-pieces (piece before budget host′ spare′ g c t alike r) = done (as-pieces before) budget host′ spare′ g c t (sound host′ alike) r
   as-pieces (card before by host′ spare′ g c t alike r) = done (as-pieces before) 1 host′ spare′ g c t (sound host′ alike) (r .piece)
@@ -30,6 +31,7 @@ module _ {A : Type 0} (f : Field A) (l : Layout) (x : ℕ) (helpers shares host 
       subst (λ y. Calls f l (x ∷ []) helpers shares host start G k m y) (sym (r .kept)) (as-pieces before)
 
 -- the cutting claim for a list of pieces and cards
-pub cards-cutting : {A : Type 0} {f : Field A} (W : Working f) (l : Layout) → AdmissibleWith (f .order) 0 l → (x : ℕ) (helpers shares host : List ℕ) → Helpers l x helpers → (start : List ℕ) →
+pub cards-cutting : {A : Type 0} {f : Field A} (W : Working f) (l : Layout) → AdmissibleWith (f .order) 0 l → (x : ℕ) (helpers shares host : List ℕ) →
+    Helpers l x helpers → (start : List ℕ) →
     {G crossed toCome : ℕ} {spare : List ℕ} → CardCalls f l x helpers shares host start G crossed toCome spare → CutOne f l x helpers shares host start G crossed toCome spare
 cards-cutting {f = f} W l a x helpers shares host help start calls = cutting-one W l a x helpers shares host help start (as-pieces f l x helpers shares host start calls)

@@ -1,7 +1,8 @@
 -- THE THEOREMS: everything on the page (specs/Claims.antt) holds for every layout, over both fields, and of the box. Each line names what proves it.
 -- Assumes nothing.
 use mathlib.Core.Path.{_≡_, refl, sym, ap, subst, _∙_}
-use mathlib.Core.List.{List}
+use mathlib.Core.Bool.{true}
+use mathlib.Core.List.{List, [], _∷_}
 use Prim.Native.Nat.{ℕ, _*_, _<_}
 use native.Mathlib.Omega.{arith}
 use lib.ListN.{length}
@@ -14,7 +15,8 @@ use Rattle.symbol.proofs.Working.{working as working-256}
 use Rattle.symbol257.specs.Elem.{elem as elem-257, gf257}
 use Rattle.symbol257.proofs.Working.{working as working-257}
 use Rattle.layout.specs.declared.Layout.{Layout}
-use Rattle.layout.specs.Layout.{digits, AdmissibleWith}
+use Rattle.layout.specs.Layout.{digits, admissible, admissibleWith, Admissible, AdmissibleWith}
+use Rattle.layout.proofs.Facts.{admissible-facts, with-facts}
 use Rattle.layout.proofs.Numbers.{product-high, whole-low, parity-low, group-below}
 use Rattle.codeword.specs.declared.Tested.the-variants.{Sound}
 use Rattle.codeword.specs.Codeword.{shapeOf}
@@ -27,13 +29,13 @@ use Rattle.store.proofs.Settled.{old-bytes-unread, answer-unique as stored-uniq
 use Rattle.recover.proofs.Settled.{never-looks, answer-unique as recovered-unique, eight-exactly, codeword-returns}
 use Rattle.rule.specs.Rule.{Helpers}
 use Rattle.rule.proofs.Instances.{rule-one-at}
-use Rattle.rule.proofs.Single.{one-lost, lost-one}
+use Rattle.rule.proofs.Single.{one-loss, one-lost, lost-one}
 use Rattle.share.proofs.Weights.{weight-is}
 use Rattle.share.proofs.Feeds.{feeds-call, twice-cancels}
 use Rattle.repair.specs.declared.Repaired.{Repaired}
 use Rattle.repair.specs.Repair.{RepairAnswer}
 use Rattle.repair.proofs.Unique.{repaired-unique}
-use Rattle.repair.proofs.Cutting.{cutting, same-group}
+use Rattle.repair.proofs.Cutting.{cutting}
 use Rattle.repair.proofs.Exact.{of-sent, sent-by-calls, exact-by-calls}
 use Rattle.repair.proofs.Single.{cutting-one, exact-one-by-calls}
 use Rattle.reading.proofs.ReadsTheCodeword.{reads-the-codeword, empty-run}
@@ -41,7 +43,7 @@ use Rattle.correcting.proofs.Unique.{correcting-unique}
 use Rattle.correcting.proofs.Calls.{exact-by-calls as correcting-by-calls}
 use Rattle.card.proofs.Instances.{one-card-at}
 use Rattle.cards.proofs.Claims.{printed-unique, carded-unique}
-use Rattle.cards.proofs.Mixed.{cards-cutting}
+use Rattle.cards.proofs.Mixed.{as-pieces}
 use Rattle.least.proofs.Instances.{truly-least-at}
 use Rattle.least.proofs.Calls.{share-message}
 use Rattle.image.specs.declared.Edition.{Edition}
@@ -62,20 +64,29 @@ use Rattle.box_repair.proofs.Tops.{tops-equal}
 use Rattle.box_repair.proofs.Exact.{share-unique, repair-unique, repair-exact}
 use Rattle.box_repair.proofs.Eight.{eight-exactly as differing-eight}
 use Rattle.box_repair.proofs.Examples.{worked-examples as box-examples}
-use Rattle.claims.specs.Claims.{Demand1, Demand2, EachRepair, Demand3, Document01, Requests, Correcting, Cards, Least, Claims, Claims256, Claims257, Box}
-use Rattle.claims.proofs.Refused.{measure-numbers, test-grounds, share-refused, add-refused, many-refused, add-many-refused, repair-grounds, write-refused, read-refused, margin-refused, scrub-refused, reset-refused, part-refused, repair-other, many-other, add-many-other, part-other, print-other, card-other, by-card-other, correcting-other, box-refused}
+use Rattle.claims.specs.Claims.{Demand1, Demand2, EachRepair, Demand3, Document01, Requests, OneTray, Correcting, Cards, Least, Claims, Claims256, Claims257, Box}
+use Rattle.claims.proofs.Refused.{measure-is, test-grounds, share-refused, add-refused, many-refused, add-many-refused, repair-grounds, write-refused}
+use Rattle.claims.proofs.Refused.{read-refused, margin-refused, scrub-refused, reset-refused, part-refused, repair-other, many-other, add-many-other}
+use Rattle.claims.proofs.Refused.{part-other, print-other, card-other, by-card-other, correcting-other, box-refused}
 use Rattle.claims.proofs.Survivors.{erased-only, none-erased, stops}
-use Rattle.claims.proofs.Spares.{own-groups, reports, nothing, lost-unread, no-ground}
+use Rattle.claims.proofs.Spares.{own-groups, reports, nothing, lost-unread, no-ground, same-group-of}
 use Rattle.claims.proofs.Words.{group-agrees, margin-live, of-store, of-spare, done-only, steps}
 use Rattle.claims.proofs.Points.{every-symbol, rack-sums, nought-written, nought-read}
-use Rattle.claims.proofs.Fed.{one-share, feeds-are, fed-once, fed-often, cancels}
+use Rattle.claims.proofs.Fed.{one-share, feeds-are, share-one, share-add-one, fed-once, fed-often, cancels}
 use Rattle.claims.proofs.Corrected.{correcting-grounds, fourteen-exactly, printed-grounds, tested-exactly, by-card-exactly, as-the-repair}
 use Rattle.claims.proofs.Fields.{adds-256, adds-257, multiplies-257, sizes-of-256, sizes-of-257}
 
 module _ {A : Type 0} {f : Field A} (W : Working f) (ed : Edition) (fit : Proper ed) (l : Layout) where
+  -- an admissible layout, as facts
+  fit-so : admissible (f .order) l ≡ true → Admissible (f .order) l
+  fit-so = admissible-facts (f .order) l
+
+  fit-with : (e : ℕ) → admissibleWith (f .order) e l ≡ true → AdmissibleWith (f .order) e l
+  fit-with e = with-facts (f .order) e l
+
   demand1 : Demand1 f ed l
   demand1 = record {
-    measure = measure-numbers (f .order) l;
+    measure = measure-is (f .order) l;
     test = test-grounds f l;
     store = λ given c d n p. (p .answer, λ h. p .unchanged (λ e. h (sym (p .answer) ∙ e)));
     recover = λ es c d n p. (p .refused, p .unchanged);
@@ -102,7 +113,7 @@ module _ {A : Type 0} {f : Field A} (W : Working f) (ed : Edition) (fit : Proper
   demand2 : Demand2 f l
   demand2 = record {
     stored = λ given c d n p e. let w = p .done e in (w .codeword, w .begins, w .only);
-    storable = store-exists W l;
+    storable = λ a. store-exists W l (fit-so a);
     stored-anew = old-bytes-unread f l;
     recovered = codeword-returns f l;
     refused-exactly = eight-exactly f l;
@@ -127,16 +138,14 @@ module _ {A : Type 0} {f : Field A} (W : Working f) (ed : Edition) (fit : Proper
   demand3 : AdmissibleWith (f .order) 0 l → Demand3 f l
   demand3 a = record {
     each = each;
-    exact-one = exact-one-by-calls W l a;
     exact = exact-by-calls W l a;
-    cutting-one = λ x helpers given shares host start G crossed toCome spare. cutting-one W l a x helpers shares host given start;
     cutting = λ lost helpers given shares host start G crossed toCome spare. cutting W l a lost helpers given shares host start;
     exact-cut = λ lost helpers shares host c p start G crossed toCome spare calls e.
         let cut = cutting W l a lost helpers (p .setting .losses) shares host start calls in (
           cut .whole e c (of-sent f l (usable W l (a .admissible)) lost helpers shares host c (sent-by-calls W l a lost helpers shares host c p)),
           cut .crossed-is ∙ ap (λ g. length lost * (l .helpers * g)) e,
         );
-    same-group = same-group W l;
+    same-group = same-group-of W l;
     fixed = rule-one-at W l a;
   }
 
@@ -144,12 +153,12 @@ module _ {A : Type 0} {f : Field A} (W : Working f) (ed : Edition) (fit : Proper
   document01 = record {
     field = W .field;
     every-symbol = every-symbol W;
-    room = λ a. (omega (arith, product-high l (a .cabinet), W .room), whole-low l (a .cabinet), parity-low l (a .cabinet));
-    points-differ = λ a. points-distinct f l (usable W l a);
-    powers-differ = λ a. powers-apart (shapeOf f l) (usable W l a .fits);
-    rack-sums = λ a. rack-sums f l (usable W l a);
-    groups-agree = λ a h j k hh hj hk.
-        (group-below l (a .cabinet) h j hh hj, group-agrees (digits l) (usable W l a .fits .some-digits) (l .racks) h j k hh hj hk);
+    room = λ t. let a = fit-so t in (omega (arith, product-high l (a .cabinet), W .room), whole-low l (a .cabinet), parity-low l (a .cabinet));
+    points-differ = λ t. points-distinct f l (usable W l (fit-so t));
+    powers-differ = λ t. powers-apart (shapeOf f l) (usable W l (fit-so t) .fits);
+    rack-sums = λ t. rack-sums f l (usable W l (fit-so t));
+    groups-agree = λ t h j k hh hj hk.
+        let a = fit-so t in (group-below l (a .cabinet) h j hh hj, group-agrees (digits l) (usable W l a .fits .some-digits) (l .racks) h j k hh hj hk);
     accepted-exactly = accepted-exactly ed fit;
     formed-exactly = formed-exactly ed fit;
     margin-range = margin-range (f .order) l;
@@ -161,30 +170,57 @@ module _ {A : Type 0} {f : Field A} (W : Working f) (ed : Edition) (fit : Proper
   requests = record {
     weights = weight-is f l (W .field);
     one-share = one-share W l;
-    one-rule = λ a x helpers shares host p spare.
-        (one-lost f l (usable W l a) x helpers shares host p spare, lost-one f l (usable W l a) x helpers shares host p spare);
     nought-written = nought-written ed l;
     nought-read = nought-read ed fit l;
     looks = steps f l;
     walked = λ c w r. walked f l c (W .field);
-    bad-layer = λ c j. (bad-broken f l c j, broken-bad f l c j (W .field .coded));
+    bad-layer = λ c j. (
+      λ e. let b = bad-broken f l c j e in (b .at, b .check-in, b .broken),
+      λ w. broken-bad f l c j (W .field .coded) (record { at = w .0; check-in = w .1; broken = w .2 }),
+    );
     part-of = λ codeword spare lost done tray first end z. (
       of-store (f .order) l codeword spare lost done tray first end z,
       λ e. (of-spare (f .order) l codeword spare lost done tray first end z e, done-only (f .order) l codeword spare lost done tray first end z e),
     );
     empty-run = λ codeword spare lost done tray first. empty-run (f .order) l codeword spare lost done tray first .1;
-    part-right = reads-the-codeword W l;
+    part-right = λ lost helpers shares host start G crossed toCome c codeword spare done chosen of calls far store.
+        reads-the-codeword W l (record { 0 = lost }) c codeword spare done
+        (record {
+          helpers = helpers;
+          shares = shares;
+          host = host;
+          start = start;
+          G = G;
+          crossed = crossed;
+          toCome = toCome;
+          chosen = chosen;
+          of = of;
+          calls =
+              calls;
+          far-enough = far;
+          store = store;
+        });
     feeds-are = feeds-are W l;
     fed-once = fed-once W l;
     fed-once-many = feeds-call W l;
     fed-often = fed-often W l;
   }
 
+  one-tray : OneTray f l
+  one-tray = record {
+    exact = λ t. exact-one-by-calls W l (fit-with 0 t);
+    cutting = λ t x helpers given shares host start G crossed toCome spare. cutting-one W l (fit-with 0 t) x helpers shares host given start;
+    rule = λ t x helpers shares host p spare.
+        let u = usable W l (fit-so t) in (one-lost f l u x helpers shares host p spare, lost-one f l u x helpers shares host p spare);
+    share = share-one W l;
+    share-add = share-add-one W l;
+  }
+
   wrong-share : Correcting f l
   wrong-share = record {
     grounds = correcting-grounds W l;
     one = correcting-unique W l;
-    exact = correcting-by-calls W l;
+    exact = λ t. correcting-by-calls W l (fit-with 1 t);
     fourteen-exactly = fourteen-exactly W l;
     pieces-other = λ d. (repair-other f l d, many-other f l d, add-many-other f l d, part-other f l d);
     cards-other = λ d x helpers group. (print-other f l d x helpers group, card-other f l d x helpers group, by-card-other f l d x helpers group);
@@ -193,14 +229,15 @@ module _ {A : Type 0} {f : Field A} (W : Working f) (ed : Edition) (fit : Proper
 
   cards : (x : ℕ) (helpers : List ℕ) (group : ℕ) → Cards f l x helpers group
   cards x helpers group = record {
-    one-card = λ a help inside. one-card-at W l a x helpers help group inside;
+    one-card = λ t help inside. one-card-at W l (fit-with 0 t) x helpers help group inside;
     printed = printed-grounds f l x helpers group;
     print-one = printed-unique W l x helpers group;
     accepted-exactly = tested-exactly f l x helpers group;
     repair-exactly = by-card-exactly f l x helpers group;
     repair-one = carded-unique W l x helpers group;
     as-the-repair = as-the-repair W l x helpers group;
-    cutting = λ a help shares host start G crossed toCome spare. cards-cutting W l a x helpers shares host help start;
+    cutting = λ t help shares host start G crossed toCome spare calls.
+        cutting W l (fit-with 0 t) (x ∷ []) helpers (one-loss f l (solvable W l (fit-with 0 t)) x helpers help) shares host start (as-pieces f l x helpers shares host start calls);
   }
 
   least : AdmissibleWith (f .order) 0 l → (x : ℕ) (helpers : List ℕ) → Helpers l x helpers → Least f l x helpers
@@ -208,7 +245,19 @@ module _ {A : Type 0} {f : Field A} (W : Working f) (ed : Edition) (fit : Proper
 
   -- over any field with what the code needs, and an edition of its images
   pub claims-at : (ed .order ≡ f .order) × (ed .size ≡ f .coding .size) → Claims f ed l
-  claims-at same = record { images = same; first = demand1; second = demand2; third = demand3; own = document01; requests = requests; wrong-share = wrong-share; cards = cards; least = least }
+  claims-at same = record {
+    images = same;
+    first = demand1;
+    second = demand2;
+    third = λ t. demand3 (fit-with 0 t);
+    own = document01;
+    requests = requests;
+    one-tray =
+        one-tray;
+    wrong-share = wrong-share;
+    cards = cards;
+    least = λ t. least (fit-with 0 t);
+  }
 
 pub claims-256 : (l : Layout) → Claims256 l
 unfolding elem-256
@@ -216,7 +265,7 @@ claims-256 l = record {
   claims = claims-at working-256 edition1 proper1 l (refl, refl);
   adds = adds-256;
   root = (refl, refl, refl);
-  sizes = sizes-of-256 l;
+  sizes = λ t. sizes-of-256 l (admissible-facts 255 l t);
   fed-twice = twice-cancels l;
   cancels = cancels l;
   other-edition = other-refused-both .0;
@@ -230,7 +279,7 @@ claims-257 l = record {
   adds = adds-257;
   multiplies = multiplies-257;
   root = (refl, refl, refl);
-  sizes = sizes-of-257 l;
+  sizes = λ t. sizes-of-257 l (admissible-facts 256 l t);
   other-edition = other-refused-both .1;
 }
 

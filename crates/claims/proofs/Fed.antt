@@ -18,26 +18,34 @@ use Rattle.layout.specs.declared.Layout.{Layout}
 use Rattle.layout.specs.Layout.{groups}
 use Rattle.range.specs.Range.{symbolsFrom}
 use Rattle.rule.specs.Rule.{trayPart}
-use Rattle.share.specs.Share.{shareRefusal, shareBuffer, addBuffer}
-use Rattle.share.specs.Many.{manyRefusal, manyBuffer, addManyBuffer, fedBuffer, partAt}
+use Rattle.share.specs.One.{shareRefusal, shareBuffer, addRefusal, addBuffer}
+use Rattle.share.specs.Many.{sharesRefusal, sharesBuffer, fedRefusal, manyRefusal, manyBuffer, addManyBuffer, fedBuffer, partAt}
 use Rattle.share.specs.Feeds.{count, odd, cleared, Feeds}
-use Rattle.share.proofs.Refusals.{Shareable, rack-shareable, symbols-range, one-refusal, buffer-done, many-plain, many-same, many-done, add-many-done}
+use Rattle.share.proofs.Refusals.{Shareable, rack-shareable, symbols-range, one-refusal, one-add-refusal, buffer-done, many-plain, many-same, many-done, add-many-done}
 use Rattle.share.proofs.Weights.{one-shares, one-buffer, one-add-buffer}
 use Rattle.share.proofs.Feeds.{feeds-sum, feeds-cancel}
 use Rattle.share.proofs.OneShare.{feeds-share}
 
 module _ {A : Type 0} {f : Field A} (W : Working f) (l : Layout) where
   -- with e = 1 and E = 0 the call for e shares is the call for one
-  pub one-share : l .errors ≡ 0 → (h i : ℕ) (rack out : List ℕ) → (manyBuffer f l 1 h i rack out ≡ shareBuffer f l h i rack out)
-      × (manyRefusal f l 1 h i rack (length out) ≡ shareRefusal f l h i rack (length out))
+  pub one-share : l .errors ≡ 0 → (h i : ℕ) (rack out : List ℕ) → (manyBuffer f l 1 h i rack out ≡ sharesBuffer f l 1 h i rack out)
+      × (manyRefusal f l 1 h i rack (length out) ≡ sharesRefusal f l 1 h i rack (length out))
   one-share z h i rack out =
       let p = many-done f l 1 h i rack out _ _ z refl refl in
-      (sym (p .1) ∙ one-buffer f l W h i rack out, sym (p .0) ∙ one-refusal W l h i rack (length out))
+      (sym (p .1), sym (p .0))
 
   -- a step of a list of feeds is what the calls leave
-  pub feeds-are : (h x : ℕ) (tray held : List ℕ) → (fedBuffer f l 1 h x tray held ≡ addBuffer f l h x tray held)
-      × (l .errors ≡ 0 → (e : ℕ) → fedBuffer f l e h x tray held ≡ addManyBuffer f l e h x tray held)
-  feeds-are h x tray held = (one-add-buffer f l W h x tray held, λ z e. add-many-done f l e h x tray held _ _ z refl refl .1)
+  pub feeds-are : l .errors ≡ 0 → (e h x : ℕ) (tray held : List ℕ) → fedBuffer f l e h x tray held ≡ addManyBuffer f l e h x tray held
+  feeds-are z e h x tray held = add-many-done f l e h x tray held _ _ z refl refl .1
+
+  -- with e = 1 they are the calls for one share in document 01's words
+  pub share-one : (h i : ℕ) (rack out : List ℕ) → (sharesRefusal f l 1 h i rack (length out) ≡ shareRefusal f l h i rack (length out))
+      × (sharesBuffer f l 1 h i rack out ≡ shareBuffer f l h i rack out)
+  share-one h i rack out = (one-refusal W l h i rack (length out), one-buffer f l W h i rack out)
+
+  pub share-add-one : (h x : ℕ) (tray held : List ℕ) → (fedRefusal f l 1 h x tray held ≡ addRefusal f l h x tray held)
+      × (fedBuffer f l 1 h x tray held ≡ addBuffer f l h x tray held)
+  share-add-one h x tray held = (one-add-refusal W l h x tray held, one-add-buffer f l W h x tray held)
 
   cleared-long : length (cleared f l 1) ≡ 1 * groups l
   unfolding cleared
@@ -48,17 +56,18 @@ module _ {A : Type 0} {f : Field A} (W : Working f) (l : Layout) where
   cleared-range = record { at = λ n h. rw (table-at (λ n. f .coding .val (f .ops .zero)) (1 * groups l) n (rw cleared-long at h)) (W .field .coded .val-below _) }
 
   -- each tray fed once, in any order, gives document 01's share, with either E
-  pub fed-once : (h i : ℕ) (rack out : List ℕ) → shareRefusal f l h i rack (length out) ≡ 0 → (places held : List ℕ) →
-      Feeds f l 1 h i rack (cleared f l 1) places held → ((g : ℕ) → g < l .size → count g places ≡ 1) → held ≡ shareBuffer f l h i rack out
-  fed-once h i rack out z places held feeds once =
-      let q = one-refusal W l h i rack (length out) ∙ z in
+  pub fed-once : (h i : ℕ) (rack out : List ℕ) → sharesRefusal f l 1 h i rack (length out) ≡ 0 → (places held : List ℕ) →
+      Feeds f l 1 h i rack (cleared f l 1) places held → ((g : ℕ) → g < l .size → count g places ≡ 1) → held ≡ sharesBuffer f l 1 h i rack out
+  fed-once h i rack out q places held feeds once =
       let p = rack-shareable W l 1 h i rack (length out) q in
-      feeds-share W l (p .adm) h i (p .host-in) (p .helper-in) (p .differ) rack (p .long) (symbols-range f rack (p .symbols-so)) (cleared f l 1) (cleared-long ∙ one-mul (groups l)) cleared-range refl
+      feeds-share W l (p .adm) h i (p .host-in) (p .helper-in) (p .differ) rack (p .long) (symbols-range f rack (p .symbols-so)) (cleared f l 1)
+      (cleared-long ∙ one-mul (groups l)) cleared-range refl
       places held feeds once
-      ∙ sym (one-shares f l h rack) ∙ buffer-done f l 1 h i rack out q ∙ one-buffer f l W h i rack out
+      ∙ sym (one-shares f l h rack) ∙ buffer-done f l 1 h i rack out q
 
   -- what the call with e is given
-  shared : (e h i : ℕ) (rack out : List ℕ) → manyRefusal f l e h i rack (length out) ≡ 0 → Shareable (f .order) l e (l .size) h i (length rack) (length out) (symbolsFrom f rack 0 (length rack))
+  shared : (e h i : ℕ) (rack out : List ℕ) → manyRefusal f l e h i rack (length out) ≡ 0 → Shareable (f .order) l e (l .size) h i (length rack) (length out)
+      (symbolsFrom f rack 0 (length rack))
   shared e h i rack out z = rack-shareable W l e h i rack (length out) (many-same f l e h i rack out (many-plain f l e h i rack out z) ∙ z)
 
   pub fed-often : (e h i : ℕ) (rack start : List ℕ) → manyRefusal f l e h i rack (length start) ≡ 0 → InRange (f .coding) start → (places held : List ℕ) →
@@ -66,11 +75,13 @@ module _ {A : Type 0} {f : Field A} (W : Working f) (l : Layout) where
       (λ g. sum (f .ops) (count g places) (λ k. partAt f l h (i * l .size + g) (trayPart l rack g) n))))) (e * groups l)
   fed-often e h i rack start z range places held feeds =
       let p = shared e h i rack start z in
-      feeds-sum W l e (p .adm) h i (p .host-in) (p .helper-in) (p .some) (p .few) (p .differ) rack (p .long) (symbols-range f rack (p .symbols-so)) start (p .room-long) range places held feeds
+      feeds-sum W l e (p .adm) h i (p .host-in) (p .helper-in) (p .some) (p .few) (p .differ) rack (p .long) (symbols-range f rack (p .symbols-so)) start
+      (p .room-long) range places held feeds
 
 pub cancels : (l : Layout) (e h i : ℕ) (rack start : List ℕ) → manyRefusal gf256 l e h i rack (length start) ≡ 0 → InRange (gf256 .coding) start → (places held : List ℕ) →
     Feeds gf256 l e h i rack start places held → held ≡ table (λ n. gf256 .coding .val (gf256 .ops .add (gf256 .coding .elem (getD start n 0)) (sum (gf256 .ops) (l .size)
     (λ g. choose (odd (count g places)) (partAt gf256 l h (i * l .size + g) (trayPart l rack g) n) (gf256 .ops .zero))))) (e * groups l)
 cancels l e h i rack start z range places held feeds =
     let p = shared working-256 l e h i rack start z in
-    feeds-cancel l e (p .adm) h i (p .host-in) (p .helper-in) (p .some) (p .few) (p .differ) rack (p .long) (symbols-range gf256 rack (p .symbols-so)) start (p .room-long) range places held feeds
+    feeds-cancel l e (p .adm) h i (p .host-in) (p .helper-in) (p .some) (p .few) (p .differ) rack (p .long) (symbols-range gf256 rack (p .symbols-so)) start
+    (p .room-long) range places held feeds

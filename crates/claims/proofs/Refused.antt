@@ -1,22 +1,25 @@
 -- What each call does when it is refused, read off its contract. Over any field and edition.
 -- Assumes nothing.
-use mathlib.Core.Path.{_≡_, refl, sym, ap, _∙_}
+use mathlib.Core.Path.{_≡_, refl, sym, ap, subst, _∙_}
 use mathlib.Core.Bool.{Bool, true, false, cond}
 use mathlib.Core.List.{List, []}
+use mathlib.Core.Logic.{_↔_, ⊎-elim}
 use Prim.Native.Nat.{ℕ}
+use native.Mathlib.Nat.{eq-zero-or-pos}
+use native.Mathlib.Omega.{arith}
 use borrow.Author.Tests.{ne-eqb}
 use lib.Dec.{eqb}
 use lib.ListN.{length}
 use Rattle.algebra.specs.Shape.{Field}
 use Rattle.layout.specs.declared.Layout.{Layout}
-use Rattle.layout.specs.declared.Measured.the-variants.{Known, Refused as NoMeasure}
-use Rattle.layout.specs.Layout.{checks, layers, traffic, admissible, admissibleWith, measured, numbersOf as measures}
+use Rattle.layout.specs.declared.Measured.the-variants.{Known as Measures, Refused as NoMeasure}
+use Rattle.layout.specs.Layout.{checks, layers, traffic, admissible, admissibleWith, measured}
 use Rattle.layout.proofs.Facts.{with-other}
 use Rattle.codeword.specs.declared.Tested.{Tested}
-use Rattle.codeword.specs.declared.Tested.the-variants.{Sound, Bad, Refused as NoTest}
-use Rattle.codeword.specs.Test.{testRefusal, TestAnswer, numbersOf as verdict}
-use Rattle.share.specs.Share.{shareRefusal, shareBuffer, addRefusal, addBuffer}
-use Rattle.share.specs.Many.{manyRefusal, manyBuffer, addManyRefusal, addManyBuffer}
+use Rattle.codeword.specs.declared.Tested.the-variants.{Refused as NoTest}
+use Rattle.codeword.specs.Test.{testRefusal, TestAnswer}
+use Rattle.codeword.proofs.Unique.{tested-unique}
+use Rattle.share.specs.Many.{sharesRefusal, sharesBuffer, fedRefusal, fedBuffer, manyRefusal, manyBuffer, addManyRefusal, addManyBuffer}
 use Rattle.repair.specs.declared.Repaired.{Repaired}
 use Rattle.repair.specs.declared.Repaired.the-variants.{Done, Refused}
 use Rattle.repair.specs.Repair.{repairRefusal, report, RepairAnswer}
@@ -43,15 +46,9 @@ not-taken true a b h = absurd (h refl)
 not-taken false a b h = refl
 
 module _ (N : ℕ) (l : Layout) where
-  pub measure-numbers : measures (measured N l) ≡ cond (admissible N l) (record { refusal = 0; layers = layers l; checks = checks l; traffic = traffic l })
-      (record { refusal = 1; layers = 0; checks = 0; traffic = 0 })
+  pub measure-is : measured N l ≡ cond (admissible N l) (Measures (layers l) (checks l) (traffic l)) (NoMeasure 1)
   unfolding measured
-  measure-numbers = go (admissible N l)
-    where
-      go : (t : Bool) → measures (cond t (Known (layers l) (checks l) (traffic l)) (NoMeasure 1)) ≡
-          cond t (record { refusal = 0; layers = layers l; checks = checks l; traffic = traffic l }) (record { refusal = 1; layers = 0; checks = 0; traffic = 0 })
-      go true = refl
-      go false = refl
+  measure-is = refl
 
   pub margin-refused : (states : List ℕ) → Refuses (marginRefusal N l states) → marginAnswer N l states ≡ NoMargin (marginRefusal N l states)
   unfolding marginAnswer
@@ -68,18 +65,18 @@ module _ (N : ℕ) (l : Layout) where
   part-refused codeword spare lost done tray first end h = refused _ _ _ h
 
 module _ {A : Type 0} (f : Field A) (l : Layout) where
-  pub test-grounds : (c : List ℕ) (r : Tested) → TestAnswer f l c r →
-      (verdict r .refusal ≡ testRefusal f l c) × (Refuses (testRefusal f l c) → verdict r ≡ record { refusal = testRefusal f l c; verdict = 0; layer = 0; check = 0 })
-  test-grounds c Sound p = (sym (p .0), λ h. absurd (h (p .0)))
-  test-grounds c (Bad j t) p = (sym (p .0), λ h. absurd (h (p .0)))
-  test-grounds c (NoTest e) p = (p .0, λ h i. record { refusal = p .0 i; verdict = 0; layer = 0; check = 0 })
+  pub test-grounds : (c : List ℕ) (r : Tested) → TestAnswer f l c r → (n : ℕ) → (r ≡ NoTest n) ↔ ((n ≡ testRefusal f l c) × Refuses n)
+  test-grounds c r p n = (
+    λ q. let t : TestAnswer f l c (NoTest n) = subst (λ y. TestAnswer f l c y) q p in (t .0, λ z. omega (arith, t .1, z)),
+    λ w. tested-unique f l c r (NoTest n) p (w .0, ⊎-elim (λ z. absurd (w .1 z)) (λ h. h) (eq-zero-or-pos n)),
+  )
 
-  pub share-refused : (host helper : ℕ) (rack out : List ℕ) → Refuses (shareRefusal f l host helper rack (length out)) → shareBuffer f l host helper rack out ≡ out
-  unfolding shareBuffer
+  pub share-refused : (host helper : ℕ) (rack out : List ℕ) → Refuses (sharesRefusal f l 1 host helper rack (length out)) → sharesBuffer f l 1 host helper rack out ≡ out
+  unfolding sharesBuffer
   share-refused host helper rack out h = refused _ _ _ h
 
-  pub add-refused : (host x : ℕ) (symbols held : List ℕ) → Refuses (addRefusal f l host x symbols held) → addBuffer f l host x symbols held ≡ held
-  unfolding addBuffer
+  pub add-refused : (host x : ℕ) (symbols held : List ℕ) → Refuses (fedRefusal f l 1 host x symbols held) → fedBuffer f l 1 host x symbols held ≡ held
+  unfolding fedBuffer
   add-refused host x symbols held h = refused _ _ _ h
 
   pub many-refused : (e host helper : ℕ) (rack out : List ℕ) → Refuses (manyRefusal f l e host helper rack (length out)) → manyBuffer f l e host helper rack out ≡ out

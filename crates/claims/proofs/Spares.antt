@@ -26,7 +26,7 @@ use Rattle.codeword.specs.Codeword.{symbolAt, Solvable}
 use Rattle.codeword.proofs.Usable.{usable, solvable}
 use Rattle.codeword.proofs.Buffers.{layers-pos}
 use Rattle.rule.specs.Rule.{groupAt, Outside}
-use Rattle.rule.specs.Lost.{firstLost, lostPlace, Losses, SoundAlike, Piece}
+use Rattle.rule.specs.Lost.{firstLost, lostPlace, Losses, sentSymbol, SoundAlike, Piece}
 use Rattle.rule.proofs.Lost.{ruled-same}
 use Rattle.seen.specs.Seen.{layerSymbol, soundSymbols, pieceSymbols}
 use Rattle.seen.proofs.Piece.{passes}
@@ -35,6 +35,7 @@ use Rattle.repair.specs.declared.Repaired.the-variants.{Done, Refused}
 use Rattle.repair.specs.Repair.{repairRefusal, report, RepairDone, RepairAnswer}
 use Rattle.repair.proofs.Refusals.{repairable}
 use Rattle.repair.proofs.Pieces.{kept-at}
+use Rattle.repair.proofs.Cutting.{same-group}
 use Rattle.claims.specs.Claims.{OthersAlike}
 
 module _ {A : Type 0} {f : Field A} (W : Working f) (l : Layout) (lost helpers shares host : List ℕ) (first budget : ℕ) (old new : List ℕ) where
@@ -88,7 +89,8 @@ module _ {A : Type 0} {f : Field A} (W : Working f) (l : Layout) (lost helpers s
         Piece f l lost helpers shares host first g old new → Piece f l lost helpers shares host′ first g old new′ → new ≡ new′
     same-piece ok given g within old-long a b =
         ext-getD 0 new new′ (a .long ∙ sym (b .long))
-        (λ n hn. kept-at (length lost) (layers l) (layers-pos f l (ok .usable)) n new′ new (omega (arith, hn, a .long, old-long)) (λ i hi j hj _. at i hi j hj (groupAt l (firstLost l lost) j) refl))
+        (λ n hn. kept-at (length lost) (layers l) (layers-pos f l (ok .usable)) n new′ new (omega (arith, hn, a .long, old-long))
+        (λ i hi j hj _. at i hi j hj (groupAt l (firstLost l lost) j) refl))
       where
         at : (i : ℕ) → i < length lost → (j : ℕ) → j < layers l → (p : ℕ) → groupAt l (firstLost l lost) j ≡ p →
             getD new (i * layers l + j) 0 ≡ getD new′ (i * layers l + j) 0
@@ -139,6 +141,23 @@ module _ {A : Type 0} {f : Field A} (W : Working f) (l : Layout) (lost helpers s
     lost-unread (Done g c t) (Refused e) p q = absurd (omega (arith, p .accepted, same-ground, q .refused, q .ground))
     lost-unread (Refused e) (Done g c t) p q = absurd (omega (arith, q .accepted, same-ground, p .refused, p .ground))
     lost-unread (Refused e) (Refused e′) p q = (ap Refused (p .refused ∙ same-ground ∙ sym (q .refused)), p .kept ∙ sym (q .kept))
+
+-- two calls that both do a group, alike in what they are given of it, write the same there: a refused one does none
+module _ {A : Type 0} {f : Field A} (W : Working f) (l : Layout) (lost helpers shares host shares′ host′ : List ℕ) (first budget first′ budget′ : ℕ) (old new old′ new′ : List ℕ) where
+  none-done : (n p : ℕ) → n ≤ p → p < n + 0 → ⊥
+  none-done n p a b = omega arith
+
+  pub same-group-of : (r r′ : Repaired) →
+      RepairAnswer f l lost helpers shares host first budget old new r → RepairAnswer f l lost helpers shares′ host′ first′ budget′ old′ new′ r′ →
+      (p : ℕ) → (first ≤ p) × (p < first + report r .groupsDone) → (first′ ≤ p) × (p < first′ + report r′ .groupsDone) →
+      ((m k : ℕ) → m < length lost → k < l .helpers → sentSymbol f l (length lost) shares m p k ≡ sentSymbol f l (length lost) shares′ m p k) →
+      ((j : ℕ) → j < layers l → groupAt l (firstLost l lost) j ≡ p → SoundAlike f l lost j host host′) →
+      (i : ℕ) → i < length lost → (j : ℕ) → j < layers l → groupAt l (firstLost l lost) j ≡ p → getD new (i * layers l + j) 0 ≡ getD new′ (i * layers l + j) 0
+  same-group-of (Done g c t) (Done g′ c′ t′) a b p d e =
+      same-group W l lost helpers (record { shares = shares; host = host; first = first; budget = budget; old = old; new = new; done = g; crossed = c; toCome = t; answer = a })
+      (record { shares = shares′; host = host′; first = first′; budget = budget′; old = old′; new = new′; done = g′; crossed = c′; toCome = t′; answer = b }) p d e
+  same-group-of (Done g c t) (Refused n) a b p d e = absurd (none-done first′ p (e .0) (e .1))
+  same-group-of (Refused n) r′ a b p d e = absurd (none-done first p (d .0) (d .1))
 
 -- a call that has nothing to do looks at nothing, so that its grounds are those of a budget of 0 from group 0 on
 module _ {A : Type 0} (f : Field A) (l : Layout) (lost helpers shares host : List ℕ) (spare : ℕ) where

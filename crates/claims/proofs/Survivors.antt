@@ -62,7 +62,8 @@ module _ {A : Type 0} (f : Field A) (l : Layout) where
       let x : k / layers l < trays l = div-lt-iff-lt-mul (layers-pos f l ok) .1 (subst (λ n. k < n) long h) in
       subst (λ n. getD c n 0 < f .coding .size) (div-add-mod' k (layers l))
       (symbols-all f c (k / layers l * layers l) (layers l) (all-holds _ (trays l) t (k / layers l) x) (k % layers l) (mod-lt k (layers-pos f l ok))))))
-      (λ t. all-true _ (trays l) (λ x h. sym (symbols-true f c (x * layers l) (layers l) (λ j k. below-all c (f .coding .size) t (x * layers l + j) (cell-read c (trays l) (layers l) x j long h k)))))
+      (λ t. all-true _ (trays l) (λ x h. sym (symbols-true f c (x * layers l) (layers l) (λ j k. below-all c (f .coding .size) t (x * layers l + j)
+      (cell-read c (trays l) (layers l) x j long h k)))))
 
   -- with none erased there are the grounds of a test
   shorter : (t : Bool) → unless (allBelow [] (trays l) && t) 3 (unless (strictlyRising []) 4 (unless (leb 0 (checks l)) 5 0)) ≡ unless t 3 0

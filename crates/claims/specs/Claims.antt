@@ -24,26 +24,26 @@ use Rattle.symbol.specs.Elem.{gf256}
 use Rattle.symbol257.specs.Elem.{gf257}
 use Rattle.layout.specs.declared.Layout.{Layout}
 use Rattle.layout.specs.declared.Layer.{Layer}
-use Rattle.layout.specs.declared.Tray.{Tray}
-use Rattle.layout.specs.Layout.{trays, wholeRacks, parityRacks, checks, digits, layers, groups, traffic, admissible, Admissible, AdmissibleWith, measured, numbersOf as measures}
+use Rattle.layout.specs.declared.Measured.the-variants.{Known as Measures, Refused as NoMeasure}
+use Rattle.layout.specs.Layout.{trays, wholeRacks, parityRacks, checks, digits, layers, groups, traffic, admissible, admissibleWith, measured}
 use Rattle.codeword.specs.declared.Tested.{Tested}
-use Rattle.codeword.specs.declared.Tested.the-variants.{Sound, Bad}
+use Rattle.codeword.specs.declared.Tested.the-variants.{Sound, Bad, Refused as NoTest}
 use Rattle.codeword.specs.Codeword.{shapeOf, symbolAt, pointAt, checkAt, Codeword}
-use Rattle.codeword.specs.Test.{testRefusal, FirstBad, TestAnswer, numbersOf as verdict}
+use Rattle.codeword.specs.Test.{testRefusal, FirstBad, TestAnswer}
 use Rattle.store.specs.Store.{storeRefusal, Begins, Stores, StoreAnswer}
 use Rattle.recover.specs.Recover.{recoverRefusal, Survivors, RecoverAnswer}
 use Rattle.rule.specs.Rule.{rackPart, trayPart, Helpers, groupAt, Outside, shareSymbol, RuledOne}
 use Rattle.rule.specs.Lost.{firstLost, lostPart, Losses, sentSymbol, SoundAlike, Ruled, One, Of}
-use Rattle.share.specs.Share.{shareRefusal, shareOf, shareBuffer, addRefusal, addBuffer}
-use Rattle.share.specs.Many.{manyRefusal, manyBuffer, addManyRefusal, addManyBuffer, fedBuffer, partAt}
+use Rattle.share.specs.Share.{shareOf}
+use Rattle.share.specs.Many.{sharesRefusal, sharesBuffer, manyRefusal, manyBuffer, fedRefusal, fedBuffer, addManyRefusal, addManyBuffer, partAt}
+use Rattle.share.specs.One.{shareRefusal, shareBuffer, addRefusal, addBuffer}
 use Rattle.share.specs.Feeds.{count, odd, cleared, Feeds}
 use Rattle.repair.specs.declared.Repaired.{Repaired}
 use Rattle.repair.specs.Repair.{repairRefusal, report, RepairAnswer}
-use Rattle.repair.specs.Calls.{Calls, Cut, DoneCall, Does}
+use Rattle.repair.specs.Calls.{Calls, Cut}
 use Rattle.repair.specs.Exact.{Called}
 use Rattle.repair.specs.One.{CutOne, CalledOne}
 use Rattle.reading.specs.Reading.{partRefusal, partGiven}
-use Rattle.reading.specs.Repairing.{Repairing}
 use Rattle.correcting.specs.declared.Corrected.{Corrected}
 use Rattle.correcting.specs.Correcting.{correctingRefusal, NoneHold, Names, CorrectingAnswer, report as corrected}
 use Rattle.correcting.specs.Calls.{CalledWrong}
@@ -60,7 +60,7 @@ use Rattle.scrub.specs.declared.Walk.{Walk}
 use Rattle.scrub.specs.declared.Report.{Report}
 use Rattle.scrub.specs.declared.Report.the-variants.{Refused as NoWalk}
 use Rattle.scrub.specs.Scrub.{badLayer, scrubRefusal, scrubbed, begun}
-use Rattle.scrub.specs.Calls.{Calls as Walks, Walked, Broken}
+use Rattle.scrub.specs.Calls.{Calls as Walks, Walked}
 use Rattle.bench_book.specs.Table.{AllHold, benchBook}
 use Rattle.box_words.specs.Box.{Data, Word, wordOf}
 use Rattle.box_words.specs.Store.{storeRefusal as boxStoreRefusal, storeBuffer as boxStoreBuffer}
@@ -92,14 +92,12 @@ OthersAlike l lost host host′ =
 -- changes no byte of any buffer it was lent": a call's grounds, in their order, are one definition, ..Refusal, which the call answers; every other number is
 -- then zero, every part empty and every buffer as it was. (h is the host rack, i the helper, x the tray fed.)
 pub record Demand1 {A : Type 0} (f : Field A) (ed : Edition) (l : Layout) : Type 0 where
-  pub measure : measures (measured (f .order) l) ≡ cond (admissible (f .order) l) (record { refusal = 0; layers = layers l; checks = checks l; traffic = traffic l })
-      (record { refusal = 1; layers = 0; checks = 0; traffic = 0 })
-  pub test : (c : List ℕ) (r : Tested) → TestAnswer f l c r → (verdict r .refusal ≡ testRefusal f l c)
-      × (Refuses (testRefusal f l c) → verdict r ≡ record { refusal = testRefusal f l c; verdict = 0; layer = 0; check = 0 })
+  pub measure : measured (f .order) l ≡ cond (admissible (f .order) l) (Measures (layers l) (checks l) (traffic l)) (NoMeasure 1)
+  pub test : (c : List ℕ) (r : Tested) → TestAnswer f l c r → (n : ℕ) → (r ≡ NoTest n) ↔ ((n ≡ testRefusal f l c) × Refuses n)
   pub store : (given c d : List ℕ) (n : ℕ) → StoreAnswer f l given c d n → Grounded (storeRefusal f l given (length c)) n c d
   pub recover : (es c d : List ℕ) (n : ℕ) → RecoverAnswer f l es c d n → (Refuses (recoverRefusal f l es c) → n ≡ recoverRefusal f l es c) × (Refuses n → d ≡ c)
-  pub share : (h i : ℕ) (rack out : List ℕ) → Refuses (shareRefusal f l h i rack (length out)) → shareBuffer f l h i rack out ≡ out
-  pub share-add : (h x : ℕ) (tray held : List ℕ) → Refuses (addRefusal f l h x tray held) → addBuffer f l h x tray held ≡ held
+  pub share : (h i : ℕ) (rack out : List ℕ) → Refuses (sharesRefusal f l 1 h i rack (length out)) → sharesBuffer f l 1 h i rack out ≡ out
+  pub share-add : (h x : ℕ) (tray held : List ℕ) → Refuses (fedRefusal f l 1 h x tray held) → fedBuffer f l 1 h x tray held ≡ held
   pub share-many : (e h i : ℕ) (rack out : List ℕ) → Refuses (manyRefusal f l e h i rack (length out)) → manyBuffer f l e h i rack out ≡ out
   pub share-add-many : (e h x : ℕ) (tray held : List ℕ) → Refuses (addManyRefusal f l e h x tray held) → addManyBuffer f l e h x tray held ≡ held
   pub repair : (lost helpers shares host : List ℕ) (first budget : ℕ) (old new : List ℕ) (r : Repaired) →
@@ -138,7 +136,7 @@ pub record Demand2 {A : Type 0} (f : Field A) (l : Layout) : Type 0 where
       Codeword f l d × Begins given d × ((e : List ℕ) → Codeword f l e → Begins given e → e ≡ d)
   pub stored-anew : (given c c′ d d′ : List ℕ) (n n′ : ℕ) → StoreAnswer f l given c d n → StoreAnswer f l given c′ d′ n′ → length c ≡ length c′ →
       (n ≡ n′) × (n ≡ 0 → d ≡ d′)
-  pub storable : Admissible (f .order) l → (given : List ℕ) → length given ≡ l .dimension * layers l → InRange (f .coding) given → (d : List ℕ) × Stores f l given d
+  pub storable : admissible (f .order) l ≡ true → (given : List ℕ) → length given ≡ l .dimension * layers l → InRange (f .coding) given → (d : List ℕ) × Stores f l given d
   -- "Recovering, from any k or more trays, gives back that codeword": w, of which the buffer has all trays but those listed, r or fewer
   pub recovered : (es c d : List ℕ) (n : ℕ) → RecoverAnswer f l es c d n → recoverRefusal f l es c ≡ 0 →
       (w : List ℕ) → Codeword f l w → Survivors l es c w → (n ≡ 0) × (d ≡ w)
@@ -176,33 +174,29 @@ pub record EachRepair {A : Type 0} (f : Field A) (l : Layout) (lost helpers shar
   pub lost-unread : (host′ new′ : List ℕ) → length host ≡ length host′ → OthersAlike l lost host host′ →
       (r′ : Repaired) → RepairAnswer f l lost helpers shares host′ first budget old new′ r′ → (r ≡ r′) × (new ≡ new′)
 
--- DEMAND 3, as W1 reads it: "e lost trays of one rack"; for e = 1 also in document 01's own words
+-- DEMAND 3, as W1 reads it: "e lost trays of one rack"; for e = 1 it is document 01's (`OneTray`)
 pub record Demand3 {A : Type 0} (f : Field A) (l : Layout) : Type 0 where
   pub each : (lost helpers shares host : List ℕ) (first budget : ℕ) (old new : List ℕ) (r : Repaired) →
       RepairAnswer f l lost helpers shares host first budget old new r → EachRepair f l lost helpers shares host first budget old new r
   -- "For each admissible layout, codeword, single lost tray and choice of d helper racks out of the others, a helper works out its share of L/s symbols
   -- from its own trays. The lost tray comes back exactly from these shares and the sound trays of its own rack", d times L/s crossing: the shares are
   -- what the share calls left
-  pub exact-one : (x : ℕ) (helpers shares host c : List ℕ) → CalledOne f l x helpers shares host c → (budget : ℕ) → groups l ≤ budget →
-      (spare new : List ℕ) → length spare ≡ layers l → (r : Repaired) → RepairAnswer f l (x ∷ []) helpers shares host 0 budget spare new r →
-      (report r .refusal ≡ 0) × (report r .crossed ≡ traffic l) × (new ≡ trayPart l c x)
   pub exact : (lost helpers shares host c : List ℕ) → Called f l lost helpers shares host c → (budget : ℕ) → groups l ≤ budget →
       (spare new : List ℕ) → length spare ≡ length lost * layers l → (r : Repaired) → RepairAnswer f l lost helpers shares host 0 budget spare new r →
       (report r .refusal ≡ 0) × (report r .crossed ≡ length lost * traffic l) × (new ≡ lostPart l lost c)
-  -- "A repair may be cut. Take any list of its pieces over one spare, refused ones included" (`Calls`) ..: THE CUTTING CLAIM (`CutOne`; `Cut` for e trays)
-  pub cutting-one : (x : ℕ) (helpers : List ℕ) → Helpers l x helpers → (shares host start : List ℕ) (G crossed toCome : ℕ) (spare : List ℕ) →
-      Calls f l (x ∷ []) helpers shares host start G crossed toCome spare → CutOne f l x helpers shares host start G crossed toCome spare
+  -- "A repair may be cut. Take any list of its pieces over one spare, refused ones included" (`Calls`) ..: THE CUTTING CLAIM (`Cut`)
   pub cutting : (lost helpers : List ℕ) → Losses l lost helpers → (shares host start : List ℕ) (G crossed toCome : ℕ) (spare : List ℕ) →
       Calls f l lost helpers shares host start G crossed toCome spare → Cut f l lost helpers shares host start G crossed toCome spare
   -- so a repair in pieces too gives back the lost trays from what the share calls left
   pub exact-cut : (lost helpers shares host c : List ℕ) → Called f l lost helpers shares host c → (start : List ℕ) (G crossed toCome : ℕ) (spare : List ℕ) →
       Calls f l lost helpers shares host start G crossed toCome spare → G ≡ groups l → (spare ≡ lostPart l lost c) × (crossed ≡ length lost * traffic l)
   -- "Two pieces over the same layout, lost tray and helpers that both do a group, alike in its d share symbols and sound host symbols, write the same there."
-  pub same-group : (lost helpers : List ℕ) (one two : DoneCall f l lost helpers) (p : ℕ) → Does one p → Does two p →
-      ((m k : ℕ) → m < length lost → k < l .helpers → sentSymbol f l (length lost) (one .shares) m p k ≡ sentSymbol f l (length lost) (two .shares) m p k) →
-      ((j : ℕ) → j < layers l → groupAt l (firstLost l lost) j ≡ p → SoundAlike f l lost j (one .host) (two .host)) →
-      (i : ℕ) → i < length lost → (j : ℕ) → j < layers l → groupAt l (firstLost l lost) j ≡ p →
-      getD (one .new) (i * layers l + j) 0 ≡ getD (two .new) (i * layers l + j) 0
+  pub same-group : (lost helpers shares host shares′ host′ : List ℕ) (first budget first′ budget′ : ℕ) (old new old′ new′ : List ℕ) (r r′ : Repaired) →
+      RepairAnswer f l lost helpers shares host first budget old new r → RepairAnswer f l lost helpers shares′ host′ first′ budget′ old′ new′ r′ →
+      (p : ℕ) → (first ≤ p) × (p < first + report r .groupsDone) → (first′ ≤ p) × (p < first′ + report r′ .groupsDone) →
+      ((m k : ℕ) → m < length lost → k < l .helpers → sentSymbol f l (length lost) shares m p k ≡ sentSymbol f l (length lost) shares′ m p k) →
+      ((j : ℕ) → j < layers l → groupAt l (firstLost l lost) j ≡ p → SoundAlike f l lost j host host′) →
+      (i : ℕ) → i < length lost → (j : ℕ) → j < layers l → groupAt l (firstLost l lost) j ≡ p → getD new (i * layers l + j) 0 ≡ getD new′ (i * layers l + j) 0
   -- 01: "What it writes is fixed for any shares: .. the one solution of the R checks" (`Ruled`): in each group there is one outcome and only one
   pub fixed : (lost helpers : List ℕ) → Losses l lost helpers → (shares host : List ℕ) → One f l lost helpers shares host
 
@@ -212,17 +206,17 @@ pub record Document01 {A : Type 0} (f : Field A) (ed : Edition) (l : Layout) : T
   pub field : FieldLaws f
   pub every-symbol : (x : A) → ¬ (x ≡ f .ops .zero) → (i : ℕ) × (i < f .order) × (pow (f .ops) (f .root) i ≡ x)
   -- "It then follows that n·s ≤ 255"; K ≥ 1 and R ≥ 1
-  pub room : Admissible (f .order) l → (trays l * digits l ≤ f .order) × (1 ≤ wholeRacks l) × (1 ≤ parityRacks l)
+  pub room : admissible (f .order) l ≡ true → (trays l * digits l ≤ f .order) × (1 ≤ wholeRacks l) × (1 ≤ parityRacks l)
   -- "Within a layer all points differ. The u-th powers of the points of two different pairs (i, a) differ too, and repair needs this." (slip 1)
-  pub points-differ : Admissible (f .order) l → (j : ℕ) → Distinct (pointAt f l j) (trays l)
-  pub powers-differ : Admissible (f .order) l → (i a g i′ a′ g′ : ℕ) → i < l .racks → a < digits l → i′ < l .racks → a′ < digits l →
+  pub points-differ : admissible (f .order) l ≡ true → (j : ℕ) → Distinct (pointAt f l j) (trays l)
+  pub powers-differ : admissible (f .order) l ≡ true → (i a g i′ a′ g′ : ℕ) → i < l .racks → a < digits l → i′ < l .racks → a′ < digits l →
       pow (f .ops) (point (shapeOf f l) i a g) (l .size) ≡ pow (f .ops) (point (shapeOf f l) i′ a′ g′) (l .size) → (i ≡ i′) × (a ≡ a′)
   -- "For t = u·w, w from 0 to R − 1, the checks speak only of rack sums (the exclusive or of the u trays)."
-  pub rack-sums : Admissible (f .order) l → (c : List ℕ) (j w : ℕ) → checkAt f l c j (l .size * w) ≡
+  pub rack-sums : admissible (f .order) l ≡ true → (c : List ℕ) (j w : ℕ) → checkAt f l c j (l .size * w) ≡
       check (f .ops) (λ i. pow (f .ops) (point (shapeOf f l) i (digit (digits l) j i) 0) (l .size)) (l .racks)
       (λ i. sum (f .ops) (l .size) (λ g. symbolAt f l c (i * l .size + g) j)) w
   -- "For a host rack h, the layers fall into L/s groups: those that agree in all digits but digit h."
-  pub groups-agree : Admissible (f .order) l → (h j k : ℕ) → h < l .racks → j < layers l → k < layers l → (groupOf (digits l) h j < groups l)
+  pub groups-agree : admissible (f .order) l ≡ true → (h j k : ℕ) → h < l .racks → j < layers l → k < layers l → (groupOf (digits l) h j < groups l)
       × ((groupOf (digits l) h j ≡ groupOf (digits l) h k) ↔ ((i : ℕ) → i < l .racks → ¬ (i ≡ h) → digit (digits l) j i ≡ digit (digits l) k i))
   -- Tray image: what a read accepts is exactly what a write of a live tray makes; ground 9 is the header's table, rule by rule (`Rules`)
   pub accepted-exactly : AcceptedExactly ed
@@ -239,10 +233,8 @@ pub record Document01 {A : Type 0} (f : Field A) (ed : Edition) (l : Layout) : T
 pub record Requests {A : Type 0} (f : Field A) (ed : Edition) (l : Layout) : Type 0 where
   -- W1: "the tray at place g is multiplied by z to the power g·m·(255/u)"; "With e = 1 the bytes are those of today."
   pub weights : (g m : ℕ) → pow (f .ops) (place (shapeOf f l) g) m ≡ pow (f .ops) (f .root) (g * m * (f .order / l .size))
-  pub one-share : l .errors ≡ 0 → (h i : ℕ) (rack out : List ℕ) → (manyBuffer f l 1 h i rack out ≡ shareBuffer f l h i rack out)
-      × (manyRefusal f l 1 h i rack (length out) ≡ shareRefusal f l h i rack (length out))
-  pub one-rule : Admissible (f .order) l → (x : ℕ) (helpers shares host : List ℕ) (p : ℕ) (spare : List ℕ) →
-      Ruled f l (x ∷ []) helpers shares host p spare ↔ RuledOne f l x helpers shares host p spare
+  pub one-share : l .errors ≡ 0 → (h i : ℕ) (rack out : List ℕ) → (manyBuffer f l 1 h i rack out ≡ sharesBuffer f l 1 h i rack out)
+      × (manyRefusal f l 1 h i rack (length out) ≡ sharesRefusal f l 1 h i rack (length out))
   -- W5: "Writing such an image is refused with 3, and reading one with 9, also when 0 is the volume expected. A demonstration image of volume 0 gets 9 too"
   pub nought-written : admissible (ed .order) l ≡ true → (tray state : ℕ) (symbols : List ℕ) → length symbols ≡ layers l →
       writeRefusal ed l tray state 0 symbols (imageLength ed l) ≡ 3
@@ -252,29 +244,45 @@ pub record Requests {A : Type 0} (f : Field A) (ed : Edition) (l : Layout) : Typ
   pub looks : (c : List ℕ) (w : Walk) (budget : ℕ) → scrubRefusal f l c w budget ≡ 0 →
       scrubbed f l c w budget .walk .next ≡ w .next + min budget (layers l - w .next)
   pub walked : (c : List ℕ) (w : Walk) (r : Report) → Walks f l c w r → Walked f l c w r
-  pub bad-layer : (c : List ℕ) (j : ℕ) → (badLayer f l c j ≡ true) ↔ Broken f l c j
+  pub bad-layer : (c : List ℕ) (j : ℕ) → (badLayer f l c j ≡ true) ↔ ((t : ℕ) × (t < checks l) × (¬ (checkAt f l c j t ≡ f .ops .zero)))
   -- W7: "the store for a tray that isn't lost, the spare for the lost one where every layer asked for is in a done group." "An empty run is an empty part."
   pub part-of : (codeword spare : List ℕ) (lost done tray first end : ℕ) → partRefusal (f .order) l (length codeword) (length spare) lost done tray first end ≡ 0 →
       (¬ (tray ≡ lost) → partGiven (f .order) l codeword spare lost done tray first end ≡ take (end - first) (drop (tray * layers l + first) codeword))
       × (tray ≡ lost → (partGiven (f .order) l codeword spare lost done tray first end ≡ take (end - first) (drop first spare))
       × ((j : ℕ) → first ≤ j → j < end → groupAt l lost j < done))
   pub empty-run : (codeword spare : List ℕ) (lost done tray first : ℕ) → partGiven (f .order) l codeword spare lost done tray first first ≡ []
-  -- "If the spare was written by pieces as the third demand says .. (`Repairing`), the part must equal that codeword's."
-  pub part-right : (x : Tray) (c codeword spare : List ℕ) (done : ℕ) → Repairing f l x c codeword spare done → (tray first end : ℕ) →
-      partRefusal (f .order) l (length codeword) (length spare) (x .0) done tray first end ≡ 0 →
-      partGiven (f .order) l codeword spare (x .0) done tray first end ≡ take (end - first) (drop first (trayPart l c tray))
+  -- "If the spare was written by pieces as the third demand says .., the part must equal that codeword's": by calls as of the cutting claim, from the shares and
+  -- sound trays of the codeword c, at least as far as the groups given as done, where the store's other trays are those of c
+  pub part-right : (lost : ℕ) (helpers shares host start : List ℕ) (G crossed toCome : ℕ) (c codeword spare : List ℕ) (done : ℕ) → Helpers l lost helpers →
+      Of f l (lost ∷ []) helpers shares host c → Calls f l (lost ∷ []) helpers shares host start G crossed toCome spare → done ≤ G →
+      ((y : ℕ) → y < trays l → ¬ (y ≡ lost) → trayPart l codeword y ≡ trayPart l c y) →
+      (tray first end : ℕ) → partRefusal (f .order) l (length codeword) (length spare) lost done tray first end ≡ 0 →
+      partGiven (f .order) l codeword spare lost done tray first end ≡ take (end - first) (drop first (trayPart l c tray))
   -- W8: "the buffer holds what it held, plus this tray's part": a step of `Feeds` is what the call for one share leaves, and with E = 0 the call for e
-  pub feeds-are : (h x : ℕ) (tray held : List ℕ) → (fedBuffer f l 1 h x tray held ≡ addBuffer f l h x tray held)
-      × (l .errors ≡ 0 → (e : ℕ) → fedBuffer f l e h x tray held ≡ addManyBuffer f l e h x tray held)
+  pub feeds-are : l .errors ≡ 0 → (e h x : ℕ) (tray held : List ℕ) → fedBuffer f l e h x tray held ≡ addManyBuffer f l e h x tray held
   -- "Whoever calls it clears first and feeds all u trays. In any order of trays, each fed once, the share is that of document 01, or W1's where e is given."
-  pub fed-once : (h i : ℕ) (rack out : List ℕ) → shareRefusal f l h i rack (length out) ≡ 0 → (places held : List ℕ) →
-      Feeds f l 1 h i rack (cleared f l 1) places held → ((g : ℕ) → g < l .size → count g places ≡ 1) → held ≡ shareBuffer f l h i rack out
+  pub fed-once : (h i : ℕ) (rack out : List ℕ) → sharesRefusal f l 1 h i rack (length out) ≡ 0 → (places held : List ℕ) →
+      Feeds f l 1 h i rack (cleared f l 1) places held → ((g : ℕ) → g < l .size → count g places ≡ 1) → held ≡ sharesBuffer f l 1 h i rack out
   pub fed-once-many : (e h i : ℕ) (rack out : List ℕ) → manyRefusal f l e h i rack (length out) ≡ 0 → (places held : List ℕ) →
       Feeds f l e h i rack (cleared f l e) places held → ((g : ℕ) → g < l .size → count g places ≡ 1) → held ≡ manyBuffer f l e h i rack out
   -- W10: "a tray fed twice (W8) counts twice", and fed n times n times; among bytes it cancels (`Claims256`)
   pub fed-often : (e h i : ℕ) (rack start : List ℕ) → manyRefusal f l e h i rack (length start) ≡ 0 → InRange (f .coding) start → (places held : List ℕ) →
       Feeds f l e h i rack start places held → held ≡ table (λ n. f .coding .val (f .ops .add (f .coding .elem (getD start n 0)) (sum (f .ops) (l .size)
       (λ g. sum (f .ops) (count g places) (λ k. partAt f l h (i * l .size + g) (trayPart l rack g) n))))) (e * groups l)
+
+-- ONE LOST TRAY, in document 01's own words: this follows from the claims for e trays and e shares above and need not be read
+pub record OneTray {A : Type 0} (f : Field A) (l : Layout) : Type 0 where
+  pub exact : admissibleWith (f .order) 0 l ≡ true → (x : ℕ) (helpers shares host c : List ℕ) → CalledOne f l x helpers shares host c → (budget : ℕ) → groups l ≤ budget →
+      (spare new : List ℕ) → length spare ≡ layers l → (r : Repaired) → RepairAnswer f l (x ∷ []) helpers shares host 0 budget spare new r →
+      (report r .refusal ≡ 0) × (report r .crossed ≡ traffic l) × (new ≡ trayPart l c x)
+  pub cutting : admissibleWith (f .order) 0 l ≡ true → (x : ℕ) (helpers : List ℕ) → Helpers l x helpers → (shares host start : List ℕ) (G crossed toCome : ℕ) (spare : List ℕ) →
+      Calls f l (x ∷ []) helpers shares host start G crossed toCome spare → CutOne f l x helpers shares host start G crossed toCome spare
+  pub rule : admissible (f .order) l ≡ true → (x : ℕ) (helpers shares host : List ℕ) (p : ℕ) (spare : List ℕ) →
+      Ruled f l (x ∷ []) helpers shares host p spare ↔ RuledOne f l x helpers shares host p spare
+  pub share : (h i : ℕ) (rack out : List ℕ) → (sharesRefusal f l 1 h i rack (length out) ≡ shareRefusal f l h i rack (length out))
+      × (sharesBuffer f l 1 h i rack out ≡ shareBuffer f l h i rack out)
+  pub share-add : (h x : ℕ) (tray held : List ℕ) → (fedRefusal f l 1 h x tray held ≡ addRefusal f l h x tray held)
+      × (fedBuffer f l 1 h x tray held ≡ addBuffer f l h x tray held)
 
 -- W12, A RACK THAT ANSWERS WRONGLY: the repair of one lost tray with E = 1
 pub record Correcting {A : Type 0} (f : Field A) (l : Layout) : Type 0 where
@@ -286,7 +294,7 @@ pub record Correcting {A : Type 0} (f : Field A) (l : Layout) : Type 0 where
       CorrectingAnswer f l x helpers shares host old new r → CorrectingAnswer f l x helpers shares host old new′ r′ → (r ≡ r′) × (new ≡ new′)
   -- "if at most one helper's share is wrong, in any of its symbols, each still one of the field, the tray is exact, and a rack is named exactly when its share
   -- differs anywhere, else B" (`Names`): all shares but the k-th are what the share calls left
-  pub exact : AdmissibleWith (f .order) 1 l → (x : ℕ) (helpers shares host c : List ℕ) (k : ℕ) → CalledWrong f l x helpers shares host c k →
+  pub exact : admissibleWith (f .order) 1 l ≡ true → (x : ℕ) (helpers shares host c : List ℕ) (k : ℕ) → CalledWrong f l x helpers shares host c k →
       (old new : List ℕ) → length old ≡ layers l → (r : Corrected) → CorrectingAnswer f l x helpers shares host old new r →
       (corrected r .refusal ≡ 0) × (corrected r .crossed ≡ traffic l)
       × Names f l x helpers shares (λ p i. shareSymbol f l 0 (x / l .size) (rackPart l c (getD helpers i 0)) p) (corrected r .rack) × (new ≡ trayPart l c x)
@@ -307,7 +315,7 @@ pub record Correcting {A : Type 0} (f : Field A) (l : Layout) : Type 0 where
 -- W13, REPAIR CARDS: for a lost tray x, its helpers and a group
 pub record Cards {A : Type 0} (f : Field A) (l : Layout) (x : ℕ) (helpers : List ℕ) (group : ℕ) : Type 0 where
   -- exactly one card is right, the one printed; another ground changes no symbol
-  pub one-card : AdmissibleWith (f .order) 0 l → Helpers l x helpers → group < groups l → OneCard f l x helpers group
+  pub one-card : admissibleWith (f .order) 0 l ≡ true → Helpers l x helpers → group < groups l → OneCard f l x helpers group
   pub printed : (old new : List ℕ) (e : ℕ) → PrintAnswer f l x helpers group old new e →
       Grounded (printGround f l x helpers group (length old)) e old new × (e ≡ 0 → Right f l x helpers group new)
   pub print-one : (old new new′ : List ℕ) (e e′ : ℕ) → PrintAnswer f l x helpers group old new e → PrintAnswer f l x helpers group old new′ e′ → (e ≡ e′) × (new ≡ new′)
@@ -328,8 +336,8 @@ pub record Cards {A : Type 0} (f : Field A) (l : Layout) (x : ℕ) (helpers : Li
       × ((new′ : List ℕ) (r′ : Repaired) → RepairAnswer f l (x ∷ []) helpers shares host group 1 old new′ r′ → (r ≡ r′) × (new ≡ new′))
       × ((w : List ℕ) → Of f l (x ∷ []) helpers shares host w → (j : ℕ) → j < layers l → groupAt l x j ≡ group → getD new j 0 ≡ getD (trayPart l w x) j 0)
   -- so the cutting claim holds of every list of pieces and repairs by card
-  pub cutting : AdmissibleWith (f .order) 0 l → Helpers l x helpers → (shares host start : List ℕ) (G crossed toCome : ℕ) (spare : List ℕ) →
-      CardCalls f l x helpers shares host start G crossed toCome spare → CutOne f l x helpers shares host start G crossed toCome spare
+  pub cutting : admissibleWith (f .order) 0 l ≡ true → Helpers l x helpers → (shares host start : List ℕ) (G crossed toCome : ℕ) (spare : List ℕ) →
+      CardCalls f l x helpers shares host start G crossed toCome spare → Cut f l (x ∷ []) helpers shares host start G crossed toCome spare
 
 -- W14, IS IT TRULY THE LEAST? For E = 0, a lost tray x and d helpers
 pub record Least {A : Type 0} (f : Field A) (l : Layout) (x : ℕ) (helpers : List ℕ) : Type 0 where
@@ -345,12 +353,13 @@ pub record Claims {A : Type 0} (f : Field A) (ed : Edition) (l : Layout) : Type 
   pub images : (ed .order ≡ f .order) × (ed .size ≡ f .coding .size)
   pub first : Demand1 f ed l
   pub second : Demand2 f l
-  pub third : AdmissibleWith (f .order) 0 l → Demand3 f l
+  pub third : admissibleWith (f .order) 0 l ≡ true → Demand3 f l
   pub own : Document01 f ed l
   pub requests : Requests f ed l
+  pub one-tray : OneTray f l
   pub wrong-share : Correcting f l
   pub cards : (x : ℕ) (helpers : List ℕ) (group : ℕ) → Cards f l x helpers group
-  pub least : AdmissibleWith (f .order) 0 l → (x : ℕ) (helpers : List ℕ) → Helpers l x helpers → Least f l x helpers
+  pub least : admissibleWith (f .order) 0 l ≡ true → (x : ℕ) (helpers : List ℕ) → Helpers l x helpers → Least f l x helpers
 
 -- THE FIELD OF 256
 pub record Claims256 (l : Layout) : Type 0 where
@@ -359,7 +368,7 @@ pub record Claims256 (l : Layout) : Type 0 where
   pub adds : (a b : ℕ) → a < 256 → b < 256 → gf256 .coding .val (gf256 .ops .add (gf256 .coding .elem a) (gf256 .coding .elem b)) ≡ bitXor a b
   pub root : (gf256 .coding .val (gf256 .root) ≡ 2) × (gf256 .order ≡ 255) × (gf256 .coding .size ≡ 256)
   -- "u is 1, 3, 5, 15 or 17"
-  pub sizes : Admissible 255 l → (l .size ≡ 1) ⊎ (l .size ≡ 3) ⊎ (l .size ≡ 5) ⊎ (l .size ≡ 15) ⊎ (l .size ≡ 17)
+  pub sizes : admissible 255 l ≡ true → (l .size ≡ 1) ⊎ (l .size ≡ 3) ⊎ (l .size ≡ 5) ⊎ (l .size ≡ 15) ⊎ (l .size ≡ 17)
   -- W8: "A tray fed twice cancels, and the claim says so."
   pub fed-twice : (e h x : ℕ) (tray held : List ℕ) → InRange (gf256 .coding) held →
       addManyBuffer gf256 l e h x tray (addManyBuffer gf256 l e h x tray held) ≡ held
@@ -379,7 +388,7 @@ pub record Claims257 (l : Layout) : Type 0 where
   pub multiplies : (a b : ℕ) → gf257 .coding .val (gf257 .ops .mul (gf257 .coding .elem a) (gf257 .coding .elem b)) ≡ (a * b) % 257
   pub root : (gf257 .coding .val (gf257 .root) ≡ 3) × (gf257 .order ≡ 256) × (gf257 .coding .size ≡ 257)
   -- "with u = 1, 2, 4, 8 or 16"
-  pub sizes : Admissible 256 l → (l .size ≡ 1) ⊎ (l .size ≡ 2) ⊎ (l .size ≡ 4) ⊎ (l .size ≡ 8) ⊎ (l .size ≡ 16)
+  pub sizes : admissible 256 l ≡ true → (l .size ≡ 1) ⊎ (l .size ≡ 2) ⊎ (l .size ≡ 4) ⊎ (l .size ≡ 8) ⊎ (l .size ≡ 16)
   pub other-edition : OtherRefused edition2 edition1
 
 -- THE SIXTEEN-TRAY BOX (W11)

@@ -34,6 +34,7 @@ module _ {A : Type 0} (f : Field A) (l : Layout) where
     pub symbols : InRange (f .coding) c
     pub holds : (j : ℕ) → j < layers l → (t : ℕ) → t < checks l → checkAt c j t ≡ f .ops .zero
 
+-- ---- what only code and proofs need
 -- what the theorems ask of a field and a layout; every layout that is admissible for the field has it (`usable`)
 pub record Usable {A : Type 0} (f : Field A) (l : Layout) : Type 0 where
   pub field : FieldLaws f

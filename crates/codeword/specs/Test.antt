@@ -33,15 +33,3 @@ module _ {A : Type 0} (f : Field A) (l : Layout) (c : List ℕ) where
   TestAnswer Sound = (testRefusal f l c ≡ 0) × Codeword f l c
   TestAnswer (Bad j t) = (testRefusal f l c ≡ 0) × FirstBad (j .0) t
   TestAnswer (Refused e) = (e ≡ testRefusal f l c) × (0 < e)
-
--- document 01's numbers for each answer: the refusal (0 for none), the verdict (1 sound, 2 bad), the layer and the check
-pub record Numbers : Type 0 where
-  pub refusal : ℕ
-  pub verdict : ℕ
-  pub layer : ℕ
-  pub check : ℕ
-
-abbrev pub numbersOf : Tested → Numbers
-numbersOf Sound = record { refusal = 0; verdict = 1; layer = 0; check = 0 }
-numbersOf (Bad j t) = record { refusal = 0; verdict = 2; layer = j .0; check = t }
-numbersOf (Refused e) = record { refusal = e; verdict = 0; layer = 0; check = 0 }

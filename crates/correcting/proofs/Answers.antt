@@ -117,7 +117,8 @@ module _ {A : Type 0} (f : Field A) (l : Layout) (a : Cabinet l) (one : l .error
   abbrev LocatedBy : ℕ → ℕ → ℕ → ℕ → ℕ → Type 0
   LocatedBy k d s m F = Located (by s) h (helperAt helpers) d m F k (sharedBy F)
 
-  pub clean-here : Clean (shapeOf f (plainLayout 2 l)) h (helperAt helpers) (plainLayout 2 l .helpers) (parityRacks (plainLayout 2 l)) (groups (plainLayout 2 l)) (sharedSymbol f (plainLayout 2 l) shares) →
+  pub clean-here : Clean (shapeOf f (plainLayout 2 l)) h (helperAt helpers) (plainLayout 2 l .helpers) (parityRacks (plainLayout 2 l)) (groups (plainLayout 2 l))
+      (sharedSymbol f (plainLayout 2 l) shares) →
       Clean (shapeOf f l) h (λ k. getD helpers k 0) (l .helpers) (parityRacks l - 2) (groups l) (sharedSymbol f l shares)
   unfolding plainLayout sharedSymbol
   clean-here = move CleanBy _ _ _ _ _ _ _ _ (all-helpers l) (plain-digits l a one 2 two-racks) (plain-unknowns l a one 2 two-racks) (plain-groups l a one 2 two-racks)
@@ -127,7 +128,8 @@ module _ {A : Type 0} (f : Field A) (l : Layout) (a : Cabinet l) (one : l .error
   unfolding plainLayout sharedSymbol
   clean-there = move CleanBy _ _ _ _ _ _ _ _ (sym (all-helpers l)) (sym (plain-digits l a one 2 two-racks)) (sym (plain-unknowns l a one 2 two-racks)) (sym (plain-groups l a one 2 two-racks))
 
-  pub located-here : (k : ℕ) → Located (shapeOf f (plainLayout 2 l)) h (helperAt helpers) (plainLayout 2 l .helpers) (parityRacks (plainLayout 2 l)) (groups (plainLayout 2 l)) k (sharedSymbol f (plainLayout 2 l) shares) →
+  pub located-here : (k : ℕ) → Located (shapeOf f (plainLayout 2 l)) h (helperAt helpers) (plainLayout 2 l .helpers) (parityRacks (plainLayout 2 l))
+      (groups (plainLayout 2 l)) k (sharedSymbol f (plainLayout 2 l) shares) →
       Located (shapeOf f l) h (λ k. getD helpers k 0) (l .helpers) (parityRacks l - 2) (groups l) k (sharedSymbol f l shares)
   unfolding plainLayout sharedSymbol
   located-here k = move (LocatedBy k) _ _ _ _ _ _ _ _ (all-helpers l) (plain-digits l a one 2 two-racks) (plain-unknowns l a one 2 two-racks) (plain-groups l a one 2 two-racks)
@@ -135,7 +137,8 @@ module _ {A : Type 0} (f : Field A) (l : Layout) (a : Cabinet l) (one : l .error
   pub located-there : (k : ℕ) → Located (shapeOf f l) h (λ k. getD helpers k 0) (l .helpers) (parityRacks l - 2) (groups l) k (sharedSymbol f l shares) →
       Located (shapeOf f (plainLayout 2 l)) h (helperAt helpers) (plainLayout 2 l .helpers) (parityRacks (plainLayout 2 l)) (groups (plainLayout 2 l)) k (sharedSymbol f (plainLayout 2 l) shares)
   unfolding plainLayout sharedSymbol
-  located-there k = move (LocatedBy k) _ _ _ _ _ _ _ _ (sym (all-helpers l)) (sym (plain-digits l a one 2 two-racks)) (sym (plain-unknowns l a one 2 two-racks)) (sym (plain-groups l a one 2 two-racks))
+  located-there k = move (LocatedBy k) _ _ _ _ _ _ _ _ (sym (all-helpers l)) (sym (plain-digits l a one 2 two-racks)) (sym (plain-unknowns l a one 2 two-racks))
+      (sym (plain-groups l a one 2 two-racks))
 
 -- ---- the answers
 module _ {A : Type 0} {f : Field A} (W : Working f) (l : Layout) (x : ℕ) (helpers shares host old : List ℕ) where
@@ -237,7 +240,8 @@ module _ {A : Type 0} {f : Field A} (W : Working f) (l : Layout) (x : ℕ) (help
           }
 
       -- the checks hold
-      pub clean-answer : (new : List ℕ) → r ≡ length helpers → Rebuilt f l 2 x helpers shares host old new → CorrectingDone f l x helpers shares host old new (report (Done (l .racks) (length shares)))
+      pub clean-answer : (new : List ℕ) → r ≡ length helpers → Rebuilt f l 2 x helpers shares host old new →
+          CorrectingDone f l x helpers shares host old new (report (Done (l .racks) (length shares)))
       unfolding shared
       clean-answer new q m =
           let g = clean-hold W l (acc .adm) x helpers (acc .help) shared

@@ -52,7 +52,8 @@ module _ {A : Type 0} {f : Field A} (W : Working f) (l : Layout) (adm : Admissib
   true-hold = record {
     sums = λ p i j. rackSum (shapeOf f l) (λ y. symbolAt f l c y j) 0 i;
     solution = λ p q.
-        let sol = codeword-solution (shapeOf f l) (ok .fits) h (host-in W l adm x helpers (g .setting .help)) p (rw (groups-are l (adm .admissible .cabinet)) at q) 0 (λ k. getD helpers k 0) (l .helpers) (parityRacks l) (checks l)
+        let sol = codeword-solution (shapeOf f l) (ok .fits) h (host-in W l adm x helpers (g .setting .help)) p (rw (groups-are l (adm .admissible .cabinet)) at q) 0
+        (λ k. getD helpers k 0) (l .helpers) (parityRacks l) (checks l)
         (λ w hw. enough l (adm .admissible .cabinet) w 0 hw (omega (arith, mod-lt (l .dimension) (ok .fits .some-places)))) (symbolAt f l c) (to-word f l c (g .setting .codeword)) in
         record { given = λ i hi. sol .given i hi ∙ sym (share-word f l 0 h c (getD helpers i 0) p); checks = sol .checks };
   }

@@ -174,10 +174,12 @@ module _ {A : Type 0} {f : Field A} (W : Working f) (l : Layout) (adm : Admissib
 
     -- the rack sums that all shares fix are a solution for those taken
     restricted : (p : ℕ) → p < groups l →
-        Solution (shapeOf f (plainLayout n l)) 0 (x / l .size) p (λ i. getD left i 0) (plainLayout n l .helpers) (parityRacks (plainLayout n l)) (sharedSymbol f (plainLayout n l) sent p) (hold .sums p)
+        Solution (shapeOf f (plainLayout n l)) 0 (x / l .size) p (λ i. getD left i 0) (plainLayout n l .helpers) (parityRacks (plainLayout n l))
+        (sharedSymbol f (plainLayout n l) sent p) (hold .sums p)
     unfolding plainLayout
     restricted p hp =
-        subst (λ sh. Solution sh 0 h p (λ i. getD left i 0) (l .helpers - (2 - n)) (parityRacks (plainLayout n l)) (sharedSymbol f (plainLayout n l) sent p) (hold .sums p)) (plain-shape l a one n r f)
+        subst (λ sh. Solution sh 0 h p (λ i. getD left i 0) (l .helpers - (2 - n)) (parityRacks (plainLayout n l)) (sharedSymbol f (plainLayout n l) sent p)
+        (hold .sums p)) (plain-shape l a one n r f)
         (record {
           given = λ i q.
               ap (λ y. groupSum (shapeOf f l) h p (hold .sums p y)) (same-rack i q)

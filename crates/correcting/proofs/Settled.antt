@@ -37,7 +37,8 @@ module _ {A : Type 0} {f : Field A} (W : Working f) (l : Layout) (adm : Admissib
             at = w .helper;
             inside = w .helper-in;
             alike = record {
-              at = λ p i k q e. n .right i p q k (λ z. e (rising-places (λ k. getD helpers k 0) (l .helpers) (l .racks) (chosen-rising W l adm x helpers ch) .apart i (w .helper) q (w .helper-in) (z ∙ sym (w .is-rack))));
+              at = λ p i k q e. n .right i p q k (λ z. e (rising-places (λ k. getD helpers k 0) (l .helpers) (l .racks) (chosen-rising W l adm x helpers ch) .apart i
+                  (w .helper) q (w .helper-in) (z ∙ sym (w .is-rack))));
             };
           }
 

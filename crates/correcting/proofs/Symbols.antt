@@ -55,9 +55,6 @@ module _ (l : Layout) (x : ℕ) where
     pub after-in : (x % l .size + 1) * total + (l .size - (x % l .size + 1)) * total ≤ length host
     after-in = let e = parts in omega arith
 
-pub whole-in : (shares : List ℕ) → 0 + length shares ≤ length shares
-whole-in shares = omega arith
-
 -- ---- the answers of the three tests
 module _ {A : Type 0} (f : Field A) (l : Layout) (x : ℕ) (shares host : List ℕ) where
   pub seen-shares : (a : Bool) → a ≡ symbolsFrom f shares 0 (length shares) → not a ≡ true → false ≡ seenSymbols f l x shares host
@@ -94,11 +91,13 @@ seen-all f l adm x helpers shares host c s =
     before : (k : ℕ) → k < x % l .size * layers l → getD host (0 + k) 0 < f .coding .size
     before k h =
         let g : k / layers l < x % l .size = div-lt-iff-lt-mul pos .1 h in
-        subst (λ n. getD host n 0 < f .coding .size) (div-add-mod' k (layers l) ∙ sym (zero-add k)) (s .host-range (k / layers l) (k % layers l) (let p = place-in in omega arith) (mod-lt k pos) (λ e. omega arith))
+        subst (λ n. getD host n 0 < f .coding .size) (div-add-mod' k (layers l) ∙ sym (zero-add k))
+        (s .host-range (k / layers l) (k % layers l) (let p = place-in in omega arith) (mod-lt k pos) (λ e. omega arith))
 
     after : (k : ℕ) → k < (l .size - (x % l .size + 1)) * layers l → getD host ((x % l .size + 1) * layers l + k) 0 < f .coding .size
     after k h =
         let g : k / layers l < l .size - (x % l .size + 1) = div-lt-iff-lt-mul pos .1 h in
         subst (λ n. getD host n 0 < f .coding .size)
-        (ap (λ n. n + k % layers l) (add-mul (x % l .size + 1) (k / layers l) (layers l)) ∙ add-assoc ((x % l .size + 1) * layers l) _ _ ∙ ap (λ n. (x % l .size + 1) * layers l + n) (div-add-mod' k (layers l)))
+        (ap (λ n. n + k % layers l) (add-mul (x % l .size + 1) (k / layers l) (layers l)) ∙ add-assoc ((x % l .size + 1) * layers l) _ _
+        ∙ ap (λ n. (x % l .size + 1) * layers l + n) (div-add-mod' k (layers l)))
         (s .host-range (x % l .size + 1 + k / layers l) (k % layers l) (let p = place-in in omega arith) (mod-lt k pos) (λ e. omega arith))

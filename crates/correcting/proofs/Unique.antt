@@ -31,7 +31,8 @@ module _ {A : Type 0} {f : Field A} (W : Working f) (l : Layout) (x : ℕ) (help
         ext-getD 0 new new′ (p .long ∙ sym (q .long)) (λ j k. s .1 j (omega (arith, k, p .long, acc .spare-long))),
       )
 
-  not-both : {B : Type 0} (a c e : ℕ) (new″ new‴ : List ℕ) → CorrectingDone f l x helpers shares host old new″ (report (Done a c)) → CorrectingRefused f l x helpers shares host old new‴ (report (Refused e)) → B
+  not-both : {B : Type 0} (a c e : ℕ) (new″ new‴ : List ℕ) → CorrectingDone f l x helpers shares host old new″ (report (Done a c)) →
+      CorrectingRefused f l x helpers shares host old new‴ (report (Refused e)) → B
   not-both a c e new″ new‴ p q =
       let acc = accepted-so f l x helpers shares host (length old) (p .accepted) in
       absurd (settled-not-none W l (acc .adm) x helpers (acc .help) shares host a new″ (p .settled) (q .last (p .accepted) .1))

@@ -8,7 +8,7 @@ use Rattle.algebra.specs.Shape.{Field}
 use Rattle.layout.specs.declared.Layout.{Layout}
 use Rattle.layout.specs.Layout.{groups}
 use Rattle.rule.specs.Rule.{rackPart}
-use Rattle.share.specs.Share.{shareBuffer}
+use Rattle.share.specs.Many.{sharesBuffer}
 use Rattle.correcting.specs.Correcting.{Setting}
 
 -- of every helper but the k-th what the share call left in a room that held anything; the k-th one's share may have any symbols
@@ -17,4 +17,4 @@ pub record CalledWrong {A : Type 0} (f : Field A) (l : Layout) (x : ℕ) (helper
   pub helper-in : k < l .helpers
   pub room : ℕ → List ℕ
   pub share : (i : ℕ) → i < l .helpers → ¬ (i ≡ k) →
-      take (groups l) (drop (i * groups l) shares) ≡ shareBuffer f l (x / l .size) (getD helpers i 0) (rackPart l c (getD helpers i 0)) (room i)
+      take (groups l) (drop (i * groups l) shares) ≡ sharesBuffer f l 1 (x / l .size) (getD helpers i 0) (rackPart l c (getD helpers i 0)) (room i)

@@ -22,9 +22,9 @@ use Rattle.gesarumbo.specs.declared.numbers.PartNumbers.{PartNumbers}
 use Rattle.gesarumbo.specs.declared.numbers.RepairNumbers.{RepairNumbers}
 use Rattle.correcting.specs.declared.Corrected.{Corrected}
 use Rattle.correcting.specs.Correcting.{CorrectingAnswer}
-use Rattle.cards.specs.Cards.{PrintAnswer, TestAnswer, CardAnswer}
+use Rattle.cards.specs.Cards.{CardAnswer}
 use Rattle.gesarumbo.specs.declared.numbers.CorrectedNumbers.{CorrectedNumbers}
-use Rattle.gesarumbo.specs.Boundary.{repairNumbers, correctedNumbers, ReadShown, RepairShown, CorrectingShown, CardShown, PartShown}
+use Rattle.gesarumbo.specs.Boundary.{repairNumbers, correctedNumbers, Shown, ReadShown, PartShown}
 use Rattle.gesarumbo.specs.Inner.{partNumbers}
 
 -- a part is as long as it says
@@ -60,24 +60,24 @@ module _ (l : Layout) (volume : ℕ) (image : List ℕ) where
 
 module _ {A : Type 0} (f : Field A) (l : Layout) (helpers shares host : List ℕ) (first budget : ℕ) (old new : List ℕ) (a : Repaired) (r : RepairNumbers) where
   pub repair-many-shown : (lost : List ℕ) → RepairAnswer f l lost helpers shares host first budget old new a → r ≡ repairNumbers a →
-      RepairShown f l lost helpers shares host first budget old new r
+      Shown (RepairAnswer f l lost helpers shares host first budget old new) repairNumbers r
   repair-many-shown lost right shown = record { answer = a; right = right; shown = shown }
 
   -- one lost tray
   pub repair-shown : (lost : ℕ) (t : Tray) → t .0 ≡ lost → RepairAnswer f l (t .0 ∷ []) helpers shares host first budget old new a → r ≡ repairNumbers a →
-      RepairShown f l (lost ∷ []) helpers shares host first budget old new r
+      Shown (RepairAnswer f l (lost ∷ []) helpers shares host first budget old new) repairNumbers r
   repair-shown lost t e right shown =
       repair-many-shown (lost ∷ []) (subst (λ x. RepairAnswer f l (x ∷ []) helpers shares host first budget old new a) e right) shown
 
 -- the calls for one lost tray, by its number
 module _ {A : Type 0} (f : Field A) (l : Layout) (helpers shares host old new : List ℕ) (lost : ℕ) (t : Tray) (e : t .0 ≡ lost) where
   pub correcting-shown : (a : Corrected) (r : CorrectedNumbers) → CorrectingAnswer f l (t .0) helpers shares host old new a → r ≡ correctedNumbers a →
-      CorrectingShown f l lost helpers shares host old new r
+      Shown (CorrectingAnswer f l lost helpers shares host old new) correctedNumbers r
   correcting-shown a r right shown =
       record { answer = a; right = subst (λ x. CorrectingAnswer f l x helpers shares host old new a) e right; shown = shown }
 
   pub card-shown : (card : List ℕ) (group : ℕ) (a : Repaired) (r : RepairNumbers) → CardAnswer f l (t .0) helpers card shares host group old new a → r ≡ repairNumbers a →
-      CardShown f l lost helpers card shares host group old new r
+      Shown (CardAnswer f l lost helpers card shares host group old new) repairNumbers r
   card-shown card group a r right shown =
       record { answer = a; right = subst (λ x. CardAnswer f l x helpers card shares host group old new a) e right; shown = shown }
 

@@ -5,27 +5,27 @@ use mathlib.Core.List.{List, []}
 use Prim.Native.Nat.{ℕ, _+_, _*_}
 use mathlib.Core.Bool.{cond}
 use lib.Dec.{eqb}
+use lib.IntN.{pos}
 use lib.ListN.{length, take, drop}
-use Rattle.algebra.specs.Shape.{Field}
 use Rattle.layout.specs.declared.Layout.{Layout}
 use Rattle.layout.specs.declared.Measured.{Measured}
-use Rattle.layout.specs.Layout.{numbersOf, layers}
+use Rattle.layout.specs.declared.Measured.the-variants.{Known as Measures, Refused as NoMeasure}
+use Rattle.layout.specs.Layout.{layers}
 use Rattle.codeword.specs.declared.Tested.{Tested}
-use Rattle.codeword.specs.Test.{TestAnswer, numbersOf as tested}
+use Rattle.codeword.specs.declared.Tested.the-variants.{Sound, Bad, Refused as NoTest}
 use Rattle.image.specs.Image.{edition1, headerLength, readRefusal, readTray, readSymbols}
 use Rattle.scrub.specs.declared.Report.{Report}
 use Rattle.scrub.specs.declared.Scrubbed.{Scrubbed}
 use Rattle.scrub.specs.Scrub.{numbersOf as reported}
 use Rattle.gesarumbo.specs.declared.numbers.ImageNumbers.{ImageNumbers}
 use Rattle.margin.specs.declared.LossMargin.{LossMargin}
-use Rattle.margin.specs.Margin.{refusalOf, valueOf}
+use Rattle.margin.specs.declared.LossMargin.the-variants.{Known as Margin, Refused as NoMargin}
 use Rattle.gesarumbo.specs.declared.numbers.MarginNumbers.{MarginNumbers}
 use Rattle.gesarumbo.specs.declared.numbers.MeasureNumbers.{MeasureNumbers}
 use Rattle.repair.specs.declared.Repaired.{Repaired}
-use Rattle.repair.specs.Repair.{report, RepairAnswer}
+use Rattle.repair.specs.Repair.{report}
 use Rattle.correcting.specs.declared.Corrected.{Corrected}
-use Rattle.correcting.specs.Correcting.{CorrectingAnswer, report as corrected}
-use Rattle.cards.specs.Cards.{CardAnswer}
+use Rattle.correcting.specs.Correcting.{report as corrected}
 use Rattle.reading.specs.Reading.{partRefusal, partGiven}
 use Rattle.gesarumbo.specs.declared.numbers.CorrectedNumbers.{CorrectedNumbers}
 use Rattle.gesarumbo.specs.declared.numbers.PartNumbers.{PartNumbers}
@@ -34,15 +34,21 @@ use Rattle.gesarumbo.specs.declared.numbers.TestNumbers.{TestNumbers}
 use Rattle.gesarumbo.specs.declared.numbers.ReportNumbers.{ReportNumbers}
 use Rattle.gesarumbo.specs.declared.numbers.ScrubNumbers.{ScrubNumbers}
 
+-- the refusal (0 for none), L, r and the traffic
 abbrev pub measureNumbers : Measured → MeasureNumbers
-measureNumbers a =
-    record { refusal = numbersOf a .refusal; layers = numbersOf a .layers; checks = numbersOf a .checks; traffic = numbersOf a .traffic }
+measureNumbers (Measures total r cost) = record { refusal = 0; layers = total; checks = r; traffic = cost }
+measureNumbers (NoMeasure e) = record { refusal = e; layers = 0; checks = 0; traffic = 0 }
 
+-- the refusal, the verdict (1 sound, 2 bad), the layer and the check
 abbrev pub testNumbers : Tested → TestNumbers
-testNumbers a = record { refusal = tested a .refusal; verdict = tested a .verdict; layer = tested a .layer; check = tested a .check }
+testNumbers Sound = record { refusal = 0; verdict = 1; layer = 0; check = 0 }
+testNumbers (Bad j t) = record { refusal = 0; verdict = 2; layer = j .0; check = t }
+testNumbers (NoTest e) = record { refusal = e; verdict = 0; layer = 0; check = 0 }
 
+-- the refusal and the margin
 abbrev pub marginNumbers : LossMargin → MarginNumbers
-marginNumbers a = record { refusal = refusalOf a; margin = valueOf a }
+marginNumbers (Margin m) = record { refusal = 0; margin = m }
+marginNumbers (NoMargin e) = record { refusal = e; margin = pos 0 }
 
 abbrev pub repairNumbers : Repaired → RepairNumbers
 repairNumbers a =
@@ -57,11 +63,11 @@ reportNumbers r = record { refusal = reported r .refusal; report = reported r .r
 abbrev pub scrubNumbers : Scrubbed → ScrubNumbers
 scrubNumbers a = record { refusal = reported (a .report) .refusal; report = reported (a .report) .report; walk = a .walk }
 
--- the numbers are those of an answer that the test's contract allows
-pub record TestShown {A : Type 0} (f : Field A) (l : Layout) (c : List ℕ) (r : TestNumbers) : Type 0 where
-  pub answer : Tested
-  pub right : TestAnswer f l c answer
-  pub shown : r ≡ testNumbers answer
+-- the numbers are those of an answer that the call's contract allows
+pub record Shown {Answer Numbers : Type 0} (Allowed : Answer → Type 0) (numbers : Answer → Numbers) (r : Numbers) : Type 0 where
+  pub answer : Answer
+  pub right : Allowed answer
+  pub shown : r ≡ numbers answer
 
 -- the numbers and the place of the part that a read of edition 1 gives
 pub record ReadShown (l : Layout) (volume : ℕ) (image : List ℕ) (r : ImageNumbers) : Type 0 where
@@ -70,24 +76,6 @@ pub record ReadShown (l : Layout) (volume : ℕ) (image : List ℕ) (r : ImageNu
   pub offset-is : r .offset ≡ cond (eqb (readRefusal edition1 l volume (layers l) image) 0) headerLength 0
   pub length-is : r .length ≡ length (readSymbols edition1 l volume (layers l) [] image)
   pub part-is : take (r .length) (drop (r .offset) image) ≡ readSymbols edition1 l volume (layers l) [] image
-
--- the numbers are those of an answer that the repair's contract allows
-pub record RepairShown {A : Type 0} (f : Field A) (l : Layout) (lost helpers shares host : List ℕ) (first budget : ℕ) (old new : List ℕ) (r : RepairNumbers) : Type 0 where
-  pub answer : Repaired
-  pub right : RepairAnswer f l lost helpers shares host first budget old new answer
-  pub shown : r ≡ repairNumbers answer
-
--- the same of the correcting repair
-pub record CorrectingShown {A : Type 0} (f : Field A) (l : Layout) (lost : ℕ) (helpers shares host old new : List ℕ) (r : CorrectedNumbers) : Type 0 where
-  pub answer : Corrected
-  pub right : CorrectingAnswer f l lost helpers shares host old new answer
-  pub shown : r ≡ correctedNumbers answer
-
--- and of the repair by card
-pub record CardShown {A : Type 0} (f : Field A) (l : Layout) (lost : ℕ) (helpers card shares host : List ℕ) (group : ℕ) (old new : List ℕ) (r : RepairNumbers) : Type 0 where
-  pub answer : Repaired
-  pub right : CardAnswer f l lost helpers card shares host group old new answer
-  pub shown : r ≡ repairNumbers answer
 
 -- the place of the part that a read gives while a tray is being repaired: source is 1 for the codeword and 2 for the spare. N is the number of powers of the field's root
 module _ (N : ℕ) (l : Layout) (codeword spare : List ℕ) (lost done tray first end : ℕ) where

@@ -20,12 +20,14 @@ ghost use Rattle.symbol.specs.Elem.{gf256};
 ghost use Rattle.layout.specs.Layout.{measured};
 ghost use Rattle.recover.specs.Recover.{RecoverAnswer};
 ghost use Rattle.store.specs.Store.{StoreAnswer};
-ghost use Rattle.margin.specs.Margin.{marginRefusal, marginValue};
-ghost use Rattle.share.specs.Share.{shareRefusal, shareBuffer, addRefusal, addBuffer};
-ghost use Rattle.share.specs.Many.{manyRefusal, manyBuffer, addManyRefusal, addManyBuffer};
+ghost use Rattle.margin.specs.Margin.{marginAnswer};
+ghost use Rattle.share.specs.Many.{sharesRefusal, sharesBuffer, fedRefusal, fedBuffer, manyRefusal, manyBuffer, addManyRefusal, addManyBuffer};
 ghost use Rattle.scrub.specs.Scrub.{scrubbed, begun};
-ghost use Rattle.cards.specs.Cards.{PrintAnswer, TestAnswer};
-ghost use Rattle.gesarumbo.specs.Boundary.{measureNumbers, scrubNumbers, reportNumbers, TestShown, RepairShown, CorrectingShown, CardShown, PartShown};
+ghost use Rattle.codeword.specs.Test.{TestAnswer};
+ghost use Rattle.repair.specs.Repair.{RepairAnswer};
+ghost use Rattle.correcting.specs.Correcting.{CorrectingAnswer};
+ghost use Rattle.cards.specs.Cards.{PrintAnswer, CardAnswer, TestAnswer as CardTest};
+ghost use Rattle.gesarumbo.specs.Boundary.{measureNumbers, testNumbers, marginNumbers, repairNumbers, correctedNumbers, scrubNumbers, reportNumbers, Shown, PartShown};
 
 #[no_mangle]
 pub extern "C" fn gesarumbo_measure(l: Layout) -> MeasureNumbers
@@ -36,7 +38,7 @@ pub extern "C" fn gesarumbo_measure(l: Layout) -> MeasureNumbers
 
 #[no_mangle]
 pub extern "C" fn gesarumbo_test(l: Layout, codeword: &[u8]) -> TestNumbers
-    ensures { λ r. ⌜ TestShown gf256 l (now (codeword .entry)) r ⌝ }
+    ensures { λ r. ⌜ Shown (TestAnswer gf256 l (now (codeword .entry))) testNumbers r ⌝ }
 {
     numbers::test_numbers(testing::test(l, codeword))
 }
@@ -49,8 +51,8 @@ pub extern "C" fn gesarumbo_share(
     rack: &[u8],
     share: &mut [u8],
 ) -> u32
-    ensures answer { λ r. ⌜ r ≡ shareRefusal gf256 l host helper (now (rack .entry)) (length (now (share .entry))) ⌝ }
-    ensures buffer { λ _. ⌜ now (share .exit) ≡ shareBuffer gf256 l host helper (now (rack .entry)) (now (share .entry)) ⌝ }
+    ensures answer { λ r. ⌜ r ≡ sharesRefusal gf256 l 1 host helper (now (rack .entry)) (length (now (share .entry))) ⌝ }
+    ensures buffer { λ _. ⌜ now (share .exit) ≡ sharesBuffer gf256 l 1 host helper (now (rack .entry)) (now (share .entry)) ⌝ }
 {
     share::share(l, Rack::of(host), Rack::of(helper), rack, share) as u32
 }
@@ -63,8 +65,8 @@ pub extern "C" fn gesarumbo_share_add(
     symbols: &[u8],
     share: &mut [u8],
 ) -> u32
-    ensures answer { λ r. ⌜ r ≡ addRefusal gf256 l host tray (now (symbols .entry)) (now (share .entry)) ⌝ }
-    ensures buffer { λ _. ⌜ now (share .exit) ≡ addBuffer gf256 l host tray (now (symbols .entry)) (now (share .entry)) ⌝ }
+    ensures answer { λ r. ⌜ r ≡ fedRefusal gf256 l 1 host tray (now (symbols .entry)) (now (share .entry)) ⌝ }
+    ensures buffer { λ _. ⌜ now (share .exit) ≡ fedBuffer gf256 l 1 host tray (now (symbols .entry)) (now (share .entry)) ⌝ }
 {
     share::share_add(l, Rack::of(host), Tray::of(tray), symbols, share) as u32
 }
@@ -110,7 +112,8 @@ pub extern "C" fn gesarumbo_repair(
     first: u64,
     budget: u64,
 ) -> RepairNumbers
-    ensures { λ r. ⌜ RepairShown gf256 l (lost ∷ []) (now (helpers .entry)) (now (shares .entry)) (now (host .entry)) first budget (now (spare .entry)) (now (spare .exit)) r ⌝ }
+    ensures { λ r. ⌜ Shown (RepairAnswer gf256 l (lost ∷ []) (now (helpers .entry)) (now (shares .entry)) (now (host .entry)) first budget (now (spare .entry))
+        (now (spare .exit))) repairNumbers r ⌝ }
 {
     numbers::repair_numbers(repair::repair(
         l,
@@ -135,7 +138,8 @@ pub extern "C" fn gesarumbo_repair_many(
     first: u64,
     budget: u64,
 ) -> RepairNumbers
-    ensures { λ r. ⌜ RepairShown gf256 l (now (lost .entry)) (now (helpers .entry)) (now (shares .entry)) (now (host .entry)) first budget (now (spare .entry)) (now (spare .exit)) r ⌝ }
+    ensures { λ r. ⌜ Shown (RepairAnswer gf256 l (now (lost .entry)) (now (helpers .entry)) (now (shares .entry)) (now (host .entry)) first budget
+        (now (spare .entry)) (now (spare .exit))) repairNumbers r ⌝ }
 {
     numbers::repair_numbers(repair::repair_many(
         l,
@@ -158,7 +162,7 @@ pub extern "C" fn gesarumbo_repair_correcting(
     host: &[u8],
     spare: &mut [u8],
 ) -> CorrectedNumbers
-    ensures { λ r. ⌜ CorrectingShown gf256 l lost (now (helpers .entry)) (now (shares .entry)) (now (host .entry)) (now (spare .entry)) (now (spare .exit)) r ⌝ }
+    ensures { λ r. ⌜ Shown (CorrectingAnswer gf256 l lost (now (helpers .entry)) (now (shares .entry)) (now (host .entry)) (now (spare .entry)) (now (spare .exit))) correctedNumbers r ⌝ }
 {
     numbers::corrected_numbers(correcting::repair_correcting(
         l,
@@ -191,7 +195,7 @@ pub extern "C" fn gesarumbo_card_test(
     card: &[u8],
     group: u64,
 ) -> u32
-    ensures { λ r. ⌜ TestAnswer gf256 l lost (now (helpers .entry)) (now (card .entry)) group r ⌝ }
+    ensures { λ r. ⌜ CardTest gf256 l lost (now (helpers .entry)) (now (card .entry)) group r ⌝ }
 {
     cards::card_test(l, Tray::of(lost), helpers, card, group) as u32
 }
@@ -207,7 +211,8 @@ pub extern "C" fn gesarumbo_card_repair(
     spare: &mut [u8],
     group: u64,
 ) -> RepairNumbers
-    ensures { λ r. ⌜ CardShown gf256 l lost (now (helpers .entry)) (now (card .entry)) (now (shares .entry)) (now (host .entry)) group (now (spare .entry)) (now (spare .exit)) r ⌝ }
+    ensures { λ r. ⌜ Shown (CardAnswer gf256 l lost (now (helpers .entry)) (now (card .entry)) (now (shares .entry)) (now (host .entry)) group (now (spare .entry))
+        (now (spare .exit))) repairNumbers r ⌝ }
 {
     numbers::repair_numbers(cards::card_repair(
         l,
@@ -275,8 +280,7 @@ pub extern "C" fn gesarumbo_recover(l: Layout, codeword: &mut [u8], erased: &[u3
 
 #[no_mangle]
 pub extern "C" fn gesarumbo_margin(l: Layout, states: &[u8]) -> MarginNumbers
-    ensures refusal { λ r. ⌜ r .refusal ≡ marginRefusal (gf256 .order) l (now (states .entry)) ⌝ }
-    ensures margin { λ r. ⌜ r .margin ≡ marginValue (gf256 .order) l (now (states .entry)) ⌝ }
+    ensures { λ r. ⌜ r ≡ marginNumbers (marginAnswer (gf256 .order) l (now (states .entry))) ⌝ }
 {
     numbers::margin_numbers(margin::margin(ORDER as u32, l, states))
 }

@@ -21,12 +21,14 @@ ghost use Rattle.symbol257.specs.Elem.{gf257};
 ghost use Rattle.layout.specs.Layout.{measured};
 ghost use Rattle.recover.specs.Recover.{RecoverAnswer};
 ghost use Rattle.store.specs.Store.{StoreAnswer};
-ghost use Rattle.margin.specs.Margin.{marginRefusal, marginValue};
-ghost use Rattle.share.specs.Share.{shareRefusal, shareBuffer, addRefusal, addBuffer};
-ghost use Rattle.share.specs.Many.{manyRefusal, manyBuffer, addManyRefusal, addManyBuffer};
+ghost use Rattle.margin.specs.Margin.{marginAnswer};
+ghost use Rattle.share.specs.Many.{sharesRefusal, sharesBuffer, fedRefusal, fedBuffer, manyRefusal, manyBuffer, addManyRefusal, addManyBuffer};
 ghost use Rattle.scrub.specs.Scrub.{scrubbed, begun};
-ghost use Rattle.cards.specs.Cards.{PrintAnswer, TestAnswer};
-ghost use Rattle.gesarumbo.specs.Boundary.{measureNumbers, scrubNumbers, reportNumbers, TestShown, RepairShown, CorrectingShown, CardShown, PartShown};
+ghost use Rattle.codeword.specs.Test.{TestAnswer};
+ghost use Rattle.repair.specs.Repair.{RepairAnswer};
+ghost use Rattle.correcting.specs.Correcting.{CorrectingAnswer};
+ghost use Rattle.cards.specs.Cards.{PrintAnswer, CardAnswer, TestAnswer as CardTest};
+ghost use Rattle.gesarumbo.specs.Boundary.{measureNumbers, testNumbers, marginNumbers, repairNumbers, correctedNumbers, scrubNumbers, reportNumbers, Shown, PartShown};
 
 #[no_mangle]
 pub extern "C" fn gesarumbo257_measure(l: Layout) -> MeasureNumbers
@@ -37,7 +39,7 @@ pub extern "C" fn gesarumbo257_measure(l: Layout) -> MeasureNumbers
 
 #[no_mangle]
 pub extern "C" fn gesarumbo257_test(l: Layout, codeword: &[u16]) -> TestNumbers
-    ensures { λ r. ⌜ TestShown gf257 l (now (codeword .entry)) r ⌝ }
+    ensures { λ r. ⌜ Shown (TestAnswer gf257 l (now (codeword .entry))) testNumbers r ⌝ }
 {
     numbers::test_numbers(testing257::test(l, codeword))
 }
@@ -50,8 +52,8 @@ pub extern "C" fn gesarumbo257_share(
     rack: &[u16],
     share: &mut [u16],
 ) -> u32
-    ensures answer { λ r. ⌜ r ≡ shareRefusal gf257 l host helper (now (rack .entry)) (length (now (share .entry))) ⌝ }
-    ensures buffer { λ _. ⌜ now (share .exit) ≡ shareBuffer gf257 l host helper (now (rack .entry)) (now (share .entry)) ⌝ }
+    ensures answer { λ r. ⌜ r ≡ sharesRefusal gf257 l 1 host helper (now (rack .entry)) (length (now (share .entry))) ⌝ }
+    ensures buffer { λ _. ⌜ now (share .exit) ≡ sharesBuffer gf257 l 1 host helper (now (rack .entry)) (now (share .entry)) ⌝ }
 {
     share257::share(l, Rack::of(host), Rack::of(helper), rack, share) as u32
 }
@@ -64,8 +66,8 @@ pub extern "C" fn gesarumbo257_share_add(
     symbols: &[u16],
     share: &mut [u16],
 ) -> u32
-    ensures answer { λ r. ⌜ r ≡ addRefusal gf257 l host tray (now (symbols .entry)) (now (share .entry)) ⌝ }
-    ensures buffer { λ _. ⌜ now (share .exit) ≡ addBuffer gf257 l host tray (now (symbols .entry)) (now (share .entry)) ⌝ }
+    ensures answer { λ r. ⌜ r ≡ fedRefusal gf257 l 1 host tray (now (symbols .entry)) (now (share .entry)) ⌝ }
+    ensures buffer { λ _. ⌜ now (share .exit) ≡ fedBuffer gf257 l 1 host tray (now (symbols .entry)) (now (share .entry)) ⌝ }
 {
     share257::share_add(l, Rack::of(host), Tray::of(tray), symbols, share) as u32
 }
@@ -111,7 +113,8 @@ pub extern "C" fn gesarumbo257_repair(
     first: u64,
     budget: u64,
 ) -> RepairNumbers
-    ensures { λ r. ⌜ RepairShown gf257 l (lost ∷ []) (now (helpers .entry)) (now (shares .entry)) (now (host .entry)) first budget (now (spare .entry)) (now (spare .exit)) r ⌝ }
+    ensures { λ r. ⌜ Shown (RepairAnswer gf257 l (lost ∷ []) (now (helpers .entry)) (now (shares .entry)) (now (host .entry)) first budget (now (spare .entry))
+        (now (spare .exit))) repairNumbers r ⌝ }
 {
     numbers::repair_numbers(repair257::repair(
         l,
@@ -136,7 +139,8 @@ pub extern "C" fn gesarumbo257_repair_many(
     first: u64,
     budget: u64,
 ) -> RepairNumbers
-    ensures { λ r. ⌜ RepairShown gf257 l (now (lost .entry)) (now (helpers .entry)) (now (shares .entry)) (now (host .entry)) first budget (now (spare .entry)) (now (spare .exit)) r ⌝ }
+    ensures { λ r. ⌜ Shown (RepairAnswer gf257 l (now (lost .entry)) (now (helpers .entry)) (now (shares .entry)) (now (host .entry)) first budget
+        (now (spare .entry)) (now (spare .exit))) repairNumbers r ⌝ }
 {
     numbers::repair_numbers(repair257::repair_many(
         l,
@@ -159,7 +163,7 @@ pub extern "C" fn gesarumbo257_repair_correcting(
     host: &[u16],
     spare: &mut [u16],
 ) -> CorrectedNumbers
-    ensures { λ r. ⌜ CorrectingShown gf257 l lost (now (helpers .entry)) (now (shares .entry)) (now (host .entry)) (now (spare .entry)) (now (spare .exit)) r ⌝ }
+    ensures { λ r. ⌜ Shown (CorrectingAnswer gf257 l lost (now (helpers .entry)) (now (shares .entry)) (now (host .entry)) (now (spare .entry)) (now (spare .exit))) correctedNumbers r ⌝ }
 {
     numbers::corrected_numbers(correcting257::repair_correcting(
         l,
@@ -192,7 +196,7 @@ pub extern "C" fn gesarumbo257_card_test(
     card: &[u16],
     group: u64,
 ) -> u32
-    ensures { λ r. ⌜ TestAnswer gf257 l lost (now (helpers .entry)) (now (card .entry)) group r ⌝ }
+    ensures { λ r. ⌜ CardTest gf257 l lost (now (helpers .entry)) (now (card .entry)) group r ⌝ }
 {
     cards257::card_test(l, Tray::of(lost), helpers, card, group) as u32
 }
@@ -208,7 +212,8 @@ pub extern "C" fn gesarumbo257_card_repair(
     spare: &mut [u16],
     group: u64,
 ) -> RepairNumbers
-    ensures { λ r. ⌜ CardShown gf257 l lost (now (helpers .entry)) (now (card .entry)) (now (shares .entry)) (now (host .entry)) group (now (spare .entry)) (now (spare .exit)) r ⌝ }
+    ensures { λ r. ⌜ Shown (CardAnswer gf257 l lost (now (helpers .entry)) (now (card .entry)) (now (shares .entry)) (now (host .entry)) group (now (spare .entry))
+        (now (spare .exit))) repairNumbers r ⌝ }
 {
     numbers::repair_numbers(cards257::card_repair(
         l,
@@ -276,8 +281,7 @@ pub extern "C" fn gesarumbo257_recover(l: Layout, codeword: &mut [u16], erased: 
 
 #[no_mangle]
 pub extern "C" fn gesarumbo257_margin(l: Layout, states: &[u8]) -> MarginNumbers
-    ensures refusal { λ r. ⌜ r .refusal ≡ marginRefusal (gf257 .order) l (now (states .entry)) ⌝ }
-    ensures margin { λ r. ⌜ r .margin ≡ marginValue (gf257 .order) l (now (states .entry)) ⌝ }
+    ensures { λ r. ⌜ r ≡ marginNumbers (marginAnswer (gf257 .order) l (now (states .entry))) ⌝ }
 {
     numbers::margin_numbers(margin::margin(ORDER as u32, l, states))
 }

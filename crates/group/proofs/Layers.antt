@@ -2,7 +2,8 @@
 -- Assumes nothing.
 use mathlib.Core.Path.{_≡_, sym, ap, ap₂, _∙_, subst}
 use Prim.Native.Nat.{ℕ, _+_, _-_, _*_, _/_, _%_, _^_, _<_, _≤_, min}
-use native.Mathlib.Nat.{mul-assoc, mul-comm, add-mul, one-mul, mod-eq-of-lt, div-eq-of-lt, div-self, div-div-eq-div-mul, mul-div-cancel, mul-mod-left, mul-add-div-right, mul-add-mod-self-right, pow-le-pow-right, le-mul-of-pos-right}
+use native.Mathlib.Nat.{mul-assoc, mul-comm, add-mul, one-mul, mod-eq-of-lt, div-eq-of-lt, div-self, div-div-eq-div-mul, mul-div-cancel, mul-mod-left}
+use native.Mathlib.Nat.{mul-add-div-right, mul-add-mod-self-right, pow-le-pow-right, le-mul-of-pos-right}
 use native.Mathlib.Decide.{decLe}
 use native.Mathlib.Omega.{arith}
 use mir.Val.{Fits}
@@ -65,9 +66,11 @@ module _ (s h w n a : ℕ) (pw : 0 < w) where
   pub across : (m : ℕ) → 0 < s ^ h → w ≡ m * s ^ h → (j : ℕ) → spot (layerOf s h (n * w) a) (s ^ h) (s * s ^ h) j ≡ layerOf s h (n * w + j) a
   unfolding spot layerOf
   across m p e j =
-      ap₂ (λ x y. (x * s + a) * s ^ h + y + j / s ^ h * (s * s ^ h) + j % s ^ h) (ap (λ y. y / s ^ h) whole ∙ mul-div-cancel (n * m) p) (ap (λ y. y % s ^ h) whole ∙ mul-mod-left (n * m) (s ^ h))
+      ap₂ (λ x y. (x * s + a) * s ^ h + y + j / s ^ h * (s * s ^ h) + j % s ^ h) (ap (λ y. y / s ^ h) whole ∙ mul-div-cancel (n * m) p) (ap (λ y. y % s ^ h) whole
+      ∙ mul-mod-left (n * m) (s ^ h))
       ∙ turn (n * m) (j / s ^ h) s a (s ^ h) (j % s ^ h)
-      ∙ ap₂ (λ x y. (x * s + a) * s ^ h + y) (sym (ap (λ y. (y + j) / s ^ h) whole ∙ mul-add-div-right p (n * m) j)) (sym (ap (λ y. (y + j) % s ^ h) whole ∙ mul-add-mod-self-right (n * m) (s ^ h) j))
+      ∙ ap₂ (λ x y. (x * s + a) * s ^ h + y) (sym (ap (λ y. (y + j) / s ^ h) whole ∙ mul-add-div-right p (n * m) j))
+      (sym (ap (λ y. (y + j) % s ^ h) whole ∙ mul-add-mod-self-right (n * m) (s ^ h) j))
     where
       whole : n * w ≡ n * m * s ^ h
       whole = ap (λ y. n * y) e ∙ sym (mul-assoc n m (s ^ h))
@@ -114,7 +117,8 @@ module _ (l : Layout) (h w first a s q run : ℕ) (g : Groups l w first) (hh : h
           (er ∙ (let e : min w q ≡ q = omega arith in e) ∙ eq)
         where
           more : Dec (g .block .power ≤ h) → h < g .block .power
-          more (yes c) = absurd (let up : digits l ^ g .block .power ≤ digits l ^ h = pow-le-pow-right (bounds l (g .block .adm) .digits-low) c in let width = g .block .width in omega arith)
+          more (yes c) = absurd (let up : digits l ^ g .block .power ≤ digits l ^ h = pow-le-pow-right (bounds l (g .block .adm) .digits-low) c in let width =
+              g .block .width in omega arith)
           more (no c) = omega arith
 
   pub run-low : 0 < run
@@ -158,4 +162,7 @@ module _ (l : Layout) (h w first a s q run : ℕ) (g : Groups l w first) (hh : h
                 (layer-below l (g .block .adm) h (first + (c * run + (run - 1))) a hh (let i = in-block in let b = g .inside in omega arith) ha)
 
   pub stride-fits : Fits w64 (s * run)
-  stride-fits = record { fits = mul-below 4 layerLimit (let d = digits-small l (g .block .adm) in omega arith) (let i = g .block .inside in let d = g .block .adm .layers-high in omega arith) tt }
+  stride-fits = record {
+    fits = mul-below 4 layerLimit (let d = digits-small l (g .block .adm) in omega arith)
+        (let i = g .block .inside in let d = g .block .adm .layers-high in omega arith) tt;
+  }

@@ -171,7 +171,8 @@ module _ {A : Type 0} {f : Field A} (W : Working f) where
           ∙ ap (λ y. ops .add y (ops .mul (pow ops (place (shapeOf f l) g) m) (soundSymbol f l lost host (spot start run stride j) g))) (r .at m j hm hj)
           ∙ add-assoc ops laws (cell f w sums (m * digits l + a) j) (sum ops g (λ y. ops .mul (pow ops (place (shapeOf f l) y) m) (soundSymbol f l lost host (spot start run stride j) y)))
           (ops .mul (pow ops (place (shapeOf f l) g) m) (soundSymbol f l lost host (spot start run stride j) g))
-          ∙ ap (ops .add (cell f w sums (m * digits l + a) j)) (sym (sum-add-one ops g (λ y. ops .mul (pow ops (place (shapeOf f l) y) m) (soundSymbol f l lost host (spot start run stride j) y))));
+          ∙ ap (ops .add (cell f w sums (m * digits l + a) j))
+          (sym (sum-add-one ops g (λ y. ops .mul (pow ops (place (shapeOf f l) y) m) (soundSymbol f l lost host (spot start run stride j) y))));
     }
 
     pub grow-end : (g : ℕ) (rests : List ℕ) → Growing f l lost host w a start run stride sums rests g → g ≤ l .size → l .size ≤ g → Rests f l lost host w a start run stride sums rests

@@ -53,7 +53,8 @@ module _ (start run stride : ℕ) where
         (run-append (gathered src start run stride) (copied src (start + c * stride)) was is new 0 (c * run) run r
         (subst (λ k. Run (copied src (start + c * stride)) is new k run) (sym (zero-add (c * run))) n) (λ i h. ap (λ k. getD src k 0) (sym (spot-run c i h))))
 
-    pub gather-end : (c count : ℕ) (was is : List ℕ) → Run (gathered src start run stride) was is 0 (c * run) → c ≤ count → count ≤ c → Run (gathered src start run stride) was is 0 (count * run)
+    pub gather-end : (c count : ℕ) (was is : List ℕ) → Run (gathered src start run stride) was is 0 (c * run) → c ≤ count → count ≤ c →
+        Run (gathered src start run stride) was is 0 (count * run)
     gather-end c count was is r h k = let e : c ≡ count = omega arith in subst (λ n. Run (gathered src start run stride) was is 0 (n * run)) e r
 
   module _ (count n : ℕ) (s : Inside start run count stride n) (c : ℕ) (h : c < count) where
@@ -76,7 +77,12 @@ module _ (start run stride : ℕ) where
     pub scatter-more : (count n c : ℕ) (is new : List ℕ) → Inside start run count stride n → Scattered start run stride (c * run) src from was is →
         Run (copied src (from + c * run)) is new (start + c * stride) run → Scattered start run stride ((c + 1) * run) src from was new
     unfolding copied
-    scatter-more count n c is new s g r = record { long = r .long ∙ g .long; done = λ j h. at j h (decLt j (c * run)); other = λ i f. kept i f (decLt i (start + c * stride)) (decLt i (start + c * stride + run)) }
+    scatter-more count n c is new s g r = record {
+      long = r .long ∙ g .long;
+      done = λ j h. at j h (decLt j (c * run));
+      other = λ i f. kept i f
+          (decLt i (start + c * stride)) (decLt i (start + c * stride + run));
+    }
       where
         last : (j : ℕ) → j < (c + 1) * run → ¬ (j < c * run) → j - c * run < run
         last j h d = let e = row-end c run in omega arith
@@ -178,7 +184,8 @@ module _ (l : Layout) (w start run count stride : ℕ) (t : InTray l w start run
           subst (λ n. PutRows n w start run stride found was new (i + 1)) (sym et) (put-next i total is new et (subst (λ n. PutRows n w start run stride found was is i) et g) r)
 
       pub put-end : (i e : ℕ) (is : List ℕ) → PutRows total w start run stride found was is i → i ≤ e → e ≤ i → PutRows (layers l) w start run stride found was is e
-      put-end i e is g h k = let q : i ≡ e = omega arith in subst (λ n. PutRows (layers l) w start run stride found was is n) q (subst (λ n. PutRows n w start run stride found was is i) et g)
+      put-end i e is g h k = let q : i ≡ e = omega arith in subst (λ n. PutRows (layers l) w start run stride found was is n) q
+          (subst (λ n. PutRows n w start run stride found was is i) et g)
 
       -- a row of what was found, and its tray
       pub put-from : (i e : ℕ) → e * w ≤ length found → i < e → i * w + count * run ≤ length found

@@ -12,7 +12,8 @@ ghost use Rattle.layout.specs.Layout.{digits, layers, Cabinet};
 ghost use Rattle.syndrome.specs.Syndrome.{Room};
 ghost use Rattle.rule.specs.Rule.{rackSymbol};
 ghost use Rattle.sums.specs.Inner.{Groups};
-ghost use Rattle.group.specs.Inner.{spot, gathered, Inside, Scattered, InTray, Lying, Losing, LostPlaces, soundSymbol, PlaceTerms, Begun, Rests, PutRows, DigitMended, BlockMended, Mending, Workspace};
+ghost use Rattle.group.specs.Inner.{spot, gathered, Inside, Scattered, InTray, Lying, Losing, LostPlaces, soundSymbol, PlaceTerms, Begun, Rests, PutRows};
+ghost use Rattle.group.specs.Inner.{DigitMended, BlockMended, Mending, Workspace};
 
 // Where the layers of a block with one digit lie in a tray: so many runs of consecutive layers, each as far behind the one before.
 struct Runs {
@@ -121,7 +122,8 @@ fn sound_terms(
     row: &mut [u16],
 )
     requires { ⌜ Losing l h (now lost) (now host) × InTray l w (r .start) (r .run) (r .count) (r .stride) × Room w (length (now lost)) (now rests) (now cur) (now row) × (g < l .size) ⌝ }
-    ensures { λ _. ⌜ PlaceTerms gf257 l w (length (now (lost .entry))) (λ j. soundSymbol gf257 l (now (lost .entry)) (now (host .entry)) (spot (r .start) (r .run) (r .stride) j) g) g (now (rests .entry)) (now (rests .exit)) ⌝ }
+    ensures { λ _. ⌜ PlaceTerms gf257 l w (length (now (lost .entry)))
+        (λ j. soundSymbol gf257 l (now (lost .entry)) (now (host .entry)) (spot (r .start) (r .run) (r .stride) j) g) g (now (rests .entry)) (now (rests .exit)) ⌝ }
 {
     let u = l.size;
     if !lists::is_absent(lost, h * u + g) {
@@ -156,7 +158,8 @@ fn fill_rests(
     cur: &mut [u16],
     row: &mut [u16],
 )
-    requires { ⌜ Losing l h (now lost) (now host) × InTray l w (r .start) (r .run) (r .count) (r .stride) × Room w (length (now lost)) (now rests) (now cur) (now row) × (a < digits l) × (length (now lost) * digits l * w ≤ length (now sums)) ⌝ }
+    requires { ⌜ Losing l h (now lost) (now host) × InTray l w (r .start) (r .run) (r .count) (r .stride)
+        × Room w (length (now lost)) (now rests) (now cur) (now row) × (a < digits l) × (length (now lost) * digits l * w ≤ length (now sums)) ⌝ }
     ensures { λ _. ⌜ Rests gf257 l (now (lost .entry)) (now (host .entry)) w a (r .start) (r .run) (r .stride) (now (sums .entry)) (now (rests .exit)) ⌝ }
 {
     let u = l.size;
@@ -205,7 +208,9 @@ fn mend_digit(
     table: &[u16],
     spare: &mut [u16],
 )
-    requires { ⌜ Mending gf257 l h (now lost) (now host) w first (now sums) (now table) × (a < digits l) × Workspace (length (now lost)) w (now rests) (now found) (now places) (now coefs) (now row) (now cur) × LostPlaces gf257 l (now lost) (now places) × (length (now spare) ≡ length (now lost) * layers l) ⌝ }
+    requires { ⌜ Mending gf257 l h (now lost) (now host) w first (now sums) (now table) × (a < digits l)
+        × Workspace (length (now lost)) w (now rests) (now found) (now places) (now coefs) (now row) (now cur) × LostPlaces gf257 l (now lost) (now places)
+        × (length (now spare) ≡ length (now lost) * layers l) ⌝ }
     ensures { λ _. ⌜ DigitMended gf257 l h (now (lost .entry)) (now (host .entry)) w first (now (sums .entry)) a (now (spare .entry)) (now (spare .exit)) ⌝ }
 {
     let e = lost.len();
@@ -234,7 +239,8 @@ pub fn mend_block(
     table: &[u16],
     spare: &mut [u16],
 )
-    requires { ⌜ Mending gf257 l h (now lost) (now host) w first (now sums) (now table) × Workspace (length (now lost)) w (now rests) (now found) (now places) (now coefs) (now row) (now cur) × (length (now spare) ≡ length (now lost) * layers l) ⌝ }
+    requires { ⌜ Mending gf257 l h (now lost) (now host) w first (now sums) (now table)
+        × Workspace (length (now lost)) w (now rests) (now found) (now places) (now coefs) (now row) (now cur) × (length (now spare) ≡ length (now lost) * layers l) ⌝ }
     ensures { λ _. ⌜ BlockMended gf257 l h (now (lost .entry)) (now (host .entry)) w first (now (sums .entry)) (digits l) (now (spare .entry)) (now (spare .exit)) ⌝ }
 {
     let s = layout::digit_count(l);

@@ -7,7 +7,8 @@ use lib.ListN.{drop, replicate, set}
 use Rattle.lists.specs.Lists.{table, all, allBelow}
 use Rattle.layout.specs.declared.Layout.{Layout}
 use Rattle.layout.specs.Layout.{admissible, sizeAllowed}
-use Rattle.image.specs.Image.{edition1, edition2, little, header, symbolBytes, stateAllowed, inRange, writeGrounds, writeRefusal, writeBuffer, ownLayout, ownSymbols, symbolsHeld, begins}
+use Rattle.image.specs.Image.{edition1, edition2, little, header, symbolBytes, stateAllowed, inRange, writeGrounds, writeRefusal, writeBuffer, ownLayout}
+use Rattle.image.specs.Image.{ownSymbols, symbolsHeld, begins}
 use Rattle.image.specs.Image.{headerFormed, wellFormed, sameLayout, formedRefusal, readRefusal, readTray, readSymbols}
 
 abbrev small : Layout

@@ -17,7 +17,8 @@ use Rattle.layout.specs.declared.Layout.{Layout}
 use Rattle.layout.specs.Layout.{trays, layers, Admissible}
 use Rattle.layout.proofs.Facts.{bounds}
 use Rattle.image.specs.declared.Edition.{Edition}
-use Rattle.image.specs.Image.{headerLength, live, demonstration, little, header, symbolBytes, stateAllowed, volumeAllowed, ownLayout, ownState, ownTray, ownVolume, symbolAt, ownSymbols, begins}
+use Rattle.image.specs.Image.{headerLength, live, demonstration, little, header, symbolBytes, stateAllowed, volumeAllowed, ownLayout, ownState, ownTray}
+use Rattle.image.specs.Image.{ownVolume, symbolAt, ownSymbols, begins}
 use Rattle.image.specs.Inner.{Proper}
 use Rattle.image.proofs.Numbers.{symbols-length, symbols-held}
 use Rattle.image.proofs.Bytes.{header-length, begins-append}

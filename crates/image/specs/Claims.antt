@@ -1,4 +1,4 @@
--- What is claimed of the images of an edition, whatever the layout, the volume, the bytes, and the places lent. Proved for both (proofs/Both.antt).
+-- What is claimed of the images of an edition, whatever the layout, the volume, the bytes, and the places lent. Proved over any edition.
 -- Assumes nothing.
 use mathlib.Core.Path.{_≡_}
 use mathlib.Core.Bool.{true}

@@ -1,4 +1,5 @@
--- Tray images: a header of 24 bytes by document 01's table, with document 02's fifth number of a layout (W12), then the symbols; and what writing and reading give. An edition says what the images of a field
+-- Tray images: a header of 24 bytes by document 01's table, with document 02's fifth number of a layout (W12), then the symbols; and what writing and reading give.
+-- An edition says what the images of a field
 -- have of their own: its number, the order of the field's root, how many symbols the field has, and the bytes that a symbol takes.
 -- Assumes nothing.
 use mathlib.Core.Bool.{Bool, cond, _&&_, _||_, not}

@@ -10,7 +10,8 @@ use lib.Dec.{leb, eqb}
 use borrow.Author.Tests.{leb-true, le-leb, lt-leb, eqb-true, eq-eqb}
 use Rattle.lists.proofs.Bools.{both, and-true, not-both, not-true-false, told-true}
 use Rattle.layout.specs.declared.Layout.{Layout}
-use Rattle.layout.specs.Layout.{trays, wholeRacks, digits, layers, groups, trayLimit, layerLimit, sizeAllowed, admissible, admissibleWith, lostCountFits, Cabinet, Admissible, AdmissibleWith}
+use Rattle.layout.specs.Layout.{trays, wholeRacks, digits, layers, groups, trayLimit, layerLimit, sizeAllowed, admissible, admissibleWith, lostCountFits}
+use Rattle.layout.specs.Layout.{Cabinet, Admissible, AdmissibleWith}
 
 -- the test of a size
 pub size-none : (N u : ℕ) → u ≡ 0 → false ≡ sizeAllowed N u

@@ -53,7 +53,8 @@ module _ (l : Layout) (a : Cabinet l) where
 
   -- L/s is a power of s
   pub groups-are : groups l ≡ digits l ^ (l .racks - 1)
-  groups-are = ap (λ x. x / digits l) (ap (λ b. digits l ^ b) (more (l .racks) (a .racks-low)) ∙ pow-suc (digits l) (l .racks - 1)) ∙ mul-div-cancel (digits l ^ (l .racks - 1)) (bounds l a .digits-low)
+  groups-are = ap (λ x. x / digits l) (ap (λ b. digits l ^ b) (more (l .racks) (a .racks-low)) ∙ pow-suc (digits l) (l .racks - 1))
+      ∙ mul-div-cancel (digits l ^ (l .racks - 1)) (bounds l a .digits-low)
     where
       more : (n : ℕ) → 2 ≤ n → n ≡ suc (n - 1)
       more n h = omega arith

@@ -73,6 +73,11 @@ admissibleWith N e l = admissible N l && eqb (l .errors) e
 unfoldable pub lostCountFits : Layout → ℕ → Bool
 lostCountFits l e = leb 1 e && leb (e + l .dimension % l .size) (l .size)
 
+-- the answer of the layout call
+unfoldable pub measured : ℕ → Layout → Measured
+measured N l = cond (admissible N l) (Known (layers l) (checks l) (traffic l)) (Refused 1)
+
+-- ---- what only code and proofs need
 -- the same as facts, for the contracts of functions that want an admissible layout: what holds for every field and either E
 pub record Cabinet (l : Layout) : Type 0 where
   pub racks-low : 2 ≤ l .racks
@@ -94,18 +99,3 @@ pub record Admissible (N : ℕ) (l : Layout) : Type 0 where
 pub record AdmissibleWith (N e : ℕ) (l : Layout) : Type 0 where
   pub admissible : Admissible N l
   pub errors-are : l .errors ≡ e
-
--- the answer of the layout call
-unfoldable pub measured : ℕ → Layout → Measured
-measured N l = cond (admissible N l) (Known (layers l) (checks l) (traffic l)) (Refused 1)
-
--- document 01's numbers for each answer: the refusal (0 for none), L, r and the traffic
-pub record Numbers : Type 0 where
-  pub refusal : ℕ
-  pub layers : ℕ
-  pub checks : ℕ
-  pub traffic : ℕ
-
-abbrev pub numbersOf : Measured → Numbers
-numbersOf (Known total r cost) = record { refusal = 0; layers = total; checks = r; traffic = cost }
-numbersOf (Refused e) = record { refusal = e; layers = 0; checks = 0; traffic = 0 }

@@ -126,7 +126,8 @@ module _ {A : Type 0} (f : Field A) (l : Layout) (ok : Solvable f l) (x : ℕ) (
   unfolding parity
   parity-places = record {
     apart = λ t v ht hv e.
-        let two = cell-same (l .size) (rack (t / l .size)) (rack (v / l .size)) (t % l .size) (v % l .size) (mod-lt t (ok .usable .fits .some-places)) (mod-lt v (ok .usable .fits .some-places)) e in
+        let two = cell-same (l .size) (rack (t / l .size)) (rack (v / l .size)) (t % l .size) (v % l .size) (mod-lt t (ok .usable .fits .some-places))
+        (mod-lt v (ok .usable .fits .some-places)) e in
         sym (div-add-mod' t (l .size)) ∙ ap₂ (λ a b. a * l .size + b) (rack-apart _ _ (two .0)) (two .1) ∙ div-add-mod' v (l .size);
     inside = λ t ht.
         cell-in (l .racks) (l .size) (rack (t / l .size)) (t % l .size)

@@ -1,7 +1,7 @@
 -- The theorems for every field that the code works over and every layout that is admissible for it with E = 0, and for document 01's field and the second one.
 -- Assumes nothing.
 use mathlib.Core.List.{List}
-use Prim.Native.Nat.{ℕ, _*_, _≤_}
+use Prim.Native.Nat.{ℕ}
 use Rattle.algebra.specs.Shape.{Field}
 use Rattle.algebra.specs.Plain.{Working}
 use Rattle.symbol.specs.Elem.{gf256}
@@ -9,21 +9,16 @@ use Rattle.symbol.proofs.Working.{working as working-256}
 use Rattle.symbol257.specs.Elem.{gf257}
 use Rattle.symbol257.proofs.Working.{working as working-257}
 use Rattle.layout.specs.declared.Layout.{Layout}
-use Rattle.layout.specs.Layout.{digits, layers, AdmissibleWith}
+use Rattle.layout.specs.Layout.{AdmissibleWith}
 use Rattle.layout.proofs.Numbers.{whole-low}
 use Rattle.codeword.proofs.Usable.{solvable}
 use Rattle.rule.specs.Rule.{Helpers}
-use Rattle.least.specs.Least.{Sending, crossing, Restoring, TrulyLeast}
-use Rattle.least.proofs.Least.{restoring-clear, least-times}
+use Rattle.least.specs.Least.{TrulyLeast}
 use Rattle.least.proofs.Attained.{truly-least}
 
 module _ {A : Type 0} {f : Field A} (W : Working f) (l : Layout) (a : AdmissibleWith (f .order) 0 l) (x : ℕ) (helpers : List ℕ) (help : Helpers l x helpers) where
   pub truly-least-at : TrulyLeast f l x helpers
   truly-least-at = truly-least f l (solvable W l a) x helpers help (whole-low l (a .admissible .cabinet))
-
-  -- with no division: s times the symbols that cross are at least d·L
-  pub least-times-at : (by : Sending A) → Restoring f l x helpers by → l .helpers * layers l ≤ digits l * crossing f l helpers by
-  least-times-at by r = least-times f l (solvable W l a) x helpers help by (whole-low l (a .admissible .cabinet)) (restoring-clear f l (solvable W l a) x helpers help by r)
 
 pub truly-least-256 : (l : Layout) → AdmissibleWith (gf256 .order) 0 l → (x : ℕ) (helpers : List ℕ) → Helpers l x helpers → TrulyLeast gf256 l x helpers
 truly-least-256 = truly-least-at working-256

@@ -27,7 +27,8 @@ use Rattle.locating.specs.Inner.{pointOf, residueOf, BlockRoom, PartsTo,
 use Rattle.locating.proofs.Parts.{row-points, parts-residue}
 
 -- ---- room
-pub row-second : (l : Layout) (h w first : ℕ) (helpers shares sides points cur prod row sides′ : List ℕ) → BlockRoom l h w first helpers shares sides points cur prod row → length sides′ ≡ length sides → w + w ≤ length sides′
+pub row-second : (l : Layout) (h w first : ℕ) (helpers shares sides points cur prod row sides′ : List ℕ) →
+    BlockRoom l h w first helpers shares sides points cur prod row → length sides′ ≡ length sides → w + w ≤ length sides′
 row-second l h w first helpers shares sides points cur prod row sides′ g e = let t = g .sides-long in omega arith
 
 pub rooms : Rooms (replicate layerLimit 0) (replicate layerLimit 0) roomOf roomOf rowOf rowOf rowOf
@@ -78,7 +79,8 @@ module _ (l : Layout) (h : ℕ) (helpers shares zeroth first sides points cur pr
         row-long = omega (arith, r .row-long);
       }
 
-pub block-in : (l : Layout) (p w n total : ℕ) (room room′ : List ℕ) → Cabinet l → total ≡ groups l → p < total → Allowed p (total - p) n w → layerLimit ≤ length room → length room′ ≡ length room → p + w ≤ length room′
+pub block-in : (l : Layout) (p w n total : ℕ) (room room′ : List ℕ) → Cabinet l → total ≡ groups l → p < total → Allowed p (total - p) n w →
+    layerLimit ≤ length room → length room′ ≡ length room → p + w ≤ length room′
 block-in l p w n total room room′ adm et q a long e = let t = a .within in omega (arith, bounds l adm .groups-high)
 
 pub next-fits : (l : Layout) (p w n total : ℕ) → Cabinet l → total ≡ groups l → p < total → Allowed p (total - p) n w → Fits w32 (p + w)

@@ -74,7 +74,8 @@ module _ {A : Type 0} {f : Field A} (W : Working f) where
       pointed-dirty b e t r g = record {
         high = g .high;
         clean = λ z. absurd (g .not-all z);
-        dirty = λ d a. false≢true (sym t ∙ e ∙ and-true _ _ (sym (zero-from f zeroth total W (λ p q. a p (omega arith) .0))) (sym (zero-from f first total W (λ p q. a p (omega arith) .1))));
+        dirty = λ d a. false≢true (sym t ∙ e ∙ and-true _ _ (sym (zero-from f zeroth total W (λ p q. a p (omega arith) .0)))
+            (sym (zero-from f first total W (λ p q. a p (omega arith) .1))));
         helper = g .helper;
         none = g .none;
       }

@@ -42,7 +42,8 @@ module _ (l : Layout) (h w first : ℕ) (helpers shares sides points cur prod ro
   work-layout : Cabinet l
   work-layout = g .chosen .adm
 
-  pub work-next : (sides′ points′ cur′ prod′ row′ : List ℕ) → length sides′ ≡ length sides → length points′ ≡ length points → length cur′ ≡ length cur → length prod′ ≡ length prod → length row′ ≡ length row →
+  pub work-next : (sides′ points′ cur′ prod′ row′ : List ℕ) → length sides′ ≡ length sides → length points′ ≡ length points → length cur′ ≡ length cur →
+      length prod′ ≡ length prod → length row′ ≡ length row →
       BlockRoom l h w first helpers shares sides′ points′ cur′ prod′ row′
   work-next sides′ points′ cur′ prod′ row′ es ep ec eq er = record {
     chosen = g .chosen;
@@ -100,7 +101,8 @@ module _ {A : Type 0} (f : Field A) (l : Layout) (h w first : ℕ) (helpers poin
   pub point-other : (k : ℕ) → k < l .helpers → ¬ (getD helpers k 0 ≡ h)
   point-other k q = g .chosen .other k q
 
-module _ {A : Type 0} (f : Field A) (l : Layout) (h w first : ℕ) (helpers shares : List ℕ) (k : ℕ) (points cur prod : List ℕ) (g : Sharing f l h w first helpers shares k points cur prod) where
+module _ {A : Type 0} (f : Field A) (l : Layout) (h w first : ℕ) (helpers shares : List ℕ) (k : ℕ) (points cur prod : List ℕ)
+    (g : Sharing f l h w first helpers shares k points cur prod) where
   pub gap-groups : (n : ℕ) → n ≡ groups l → n ≤ layerLimit
   gap-groups n e = omega (arith, bounds l (g .adm) .groups-high)
 
@@ -166,7 +168,8 @@ module _ {A : Type 0} {f : Field A} (W : Working f) where
         let own : (j : ℕ) → j < w → elem (getD row′ j 0) ≡ pointOf f l h helpers (first + j) k = row-points l h w first k helpers row′ (g .chosen) inside rp in
         record {
           unknowns = points-stay l h w first n helpers row′ points points′ en (g .unknowns) cp;
-          own = λ j hj. sym (cell-is f w points′ (parityRacks l) j) ∙ ap (λ y. elem (getD points′ (y * w + j) 0)) (sym en) ∙ ap elem (cp .done j hj) ∙ ap (λ y. elem (getD row′ y 0)) (zero-add j) ∙ own j hj;
+          own = λ j hj. sym (cell-is f w points′ (parityRacks l) j) ∙ ap (λ y. elem (getD points′ (y * w + j) 0)) (sym en) ∙ ap elem (cp .done j hj)
+              ∙ ap (λ y. elem (getD row′ y 0)) (zero-add j) ∙ own j hj;
           row-at = own;
         }
 
@@ -194,9 +197,6 @@ module _ {A : Type 0} {f : Field A} (W : Working f) where
 
   -- what `own_points` and `share_gaps` are told
   module _ (l : Layout) (h w first : ℕ) (helpers shares sides points cur prod row : List ℕ) (g : BlockRoom l h w first helpers shares sides points cur prod row) where
-    pub pointing-of : PointsTo f l h first helpers w 1 (parityRacks l) points → Pointing f l h w first helpers points row
-    pointing-of p = record { chosen = g .chosen; block = g .block; unknowns = p; points-long = g .points-long; row-long = g .row-long }
-
     pub sharing-of : (k : ℕ) (points′ row′ : List ℕ) → k < l .helpers → length points′ ≡ length points → OwnPoints f l h w first helpers k points′ row′ →
         Sharing f l h w first helpers shares k points′ cur prod
     sharing-of k points′ row′ q e o = record {
@@ -228,7 +228,8 @@ module _ {A : Type 0} {f : Field A} (W : Working f) where
           ∙ ap elem (r .done (t * w + j) (let e = row-before t 2 w ht in omega arith)) ∙ elem-zero W ∙ sym (sum-zero ops _);
     }
 
-    pub parts-more : (k : ℕ) (was is : List ℕ) → PartsTo f l h w first helpers shares k was → PartAdded f l h w first helpers shares k was is → PartsTo f l h w first helpers shares (k + 1) is
+    pub parts-more : (k : ℕ) (was is : List ℕ) → PartsTo f l h w first helpers shares k was → PartAdded f l h w first helpers shares k was is →
+        PartsTo f l h w first helpers shares (k + 1) is
     parts-more k was is s g = record {
       at = λ t j ht hj.
           g .at t j ht hj ∙ ap (λ y. ops .add y (partOf f l h helpers shares (first + j) t k)) (s .at t j ht hj)

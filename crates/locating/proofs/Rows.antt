@@ -83,7 +83,8 @@ module _ {A : Type 0} {f : Field A} (W : Working f) where
     agrees-more e g i h = go (ℕ-discrete i j)
       where
         go : Dec (i ≡ j) → elem (getD first (at + i) 0) ≡ ops .mul (elem (getD row i 0)) (elem (getD zeroth (at + i) 0))
-        go (yes q) = subst (λ n. elem (getD first (at + n) 0) ≡ ops .mul (elem (getD row n 0)) (elem (getD zeroth (at + n) 0))) (sym q) (ap elem (sym ez) ∙ same-from z v (sym ed ∙ e) ∙ right)
+        go (yes q) = subst (λ n. elem (getD first (at + n) 0) ≡ ops .mul (elem (getD row n 0)) (elem (getD zeroth (at + n) 0))) (sym q)
+            (ap elem (sym ez) ∙ same-from z v (sym ed ∙ e) ∙ right)
         go (no q) = g i (omega arith)
 
     pub agrees-not : (w : ℕ) → j < w → ¬ (d ≡ 0) → ¬ (RowAgrees f zeroth first at w row)

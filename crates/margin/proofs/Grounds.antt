@@ -8,25 +8,26 @@ use native.Mathlib.Omega.{arith}
 use lib.Dec.{eqb, lit<}
 use lib.IntN.{ℤ, pos, _-ℤ_}
 use lib.ListN.{length, getD}
-use borrow.Author.Tests.{eq-eqb, ne-eqb, eqb-true, leb-true, le-leb}
+use borrow.Author.Tests.{eq-eqb, ne-eqb, eqb-true, ltb-true, lt-ltb}
 use mir.Syntax.{w32}
 use mir.Val.{toZ, ofZ}
+use Rattle.lists.specs.Lists.{allBelow}
 use Rattle.lists.proofs.Bools.{passed, all-true, all-false, told-false, told-true}
 use Rattle.layout.specs.declared.Layout.{Layout}
 use Rattle.layout.specs.Layout.{trays, admissible, trayLimit, Cabinet}
 use Rattle.layout.proofs.Facts.{admissible-facts, admitted-so, dimension-in}
 use Rattle.margin.specs.declared.LossMargin.the-variants.{Known, Refused}
-use Rattle.margin.specs.Margin.{stateLimit, live, marginOf, statesKnown, marginRefusal, marginAnswer, marginValue}
+use Rattle.margin.specs.Margin.{live, marginOf, marginRefusal, marginAnswer}
 use Rattle.margin.proofs.Signed.{handed-on}
 
 module _ (states : List ℕ) where
-  pub known-true : ((x : ℕ) → x < length states → getD states x 0 ≤ stateLimit) → true ≡ statesKnown states
-  unfolding statesKnown
-  known-true h = sym (all-true _ (length states) (λ x l. le-leb _ _ (h x l)))
+  pub known-true : ((x : ℕ) → x < length states → getD states x 0 ≤ 2) → true ≡ allBelow states 3
+  unfolding allBelow
+  known-true h = sym (all-true _ (length states) (λ x l. lt-ltb (getD states x 0) 3 (omega (arith, h x l))))
 
-  pub known-false : (x : ℕ) → x < length states → stateLimit < getD states x 0 → false ≡ statesKnown states
-  unfolding statesKnown
-  known-false x l h = all-false _ (length states) x l (λ e. omega (arith, leb-true (getD states x 0) stateLimit e))
+  pub known-false : (x : ℕ) → x < length states → 2 < getD states x 0 → false ≡ allBelow states 3
+  unfolding allBelow
+  known-false x l h = all-false _ (length states) x l (λ e. omega (arith, ltb-true (getD states x 0) 3 e))
 
 module _ (N : ℕ) (l : Layout) (states : List ℕ) where
   pub margin-1 : (a : Bool) → a ≡ admissible N l → not a ≡ true → 1 ≡ marginRefusal N l states
@@ -38,7 +39,7 @@ module _ (N : ℕ) (l : Layout) (states : List ℕ) where
     unfolding marginRefusal
     margin-2 d = simp (told-true e h, ne-eqb (length states) (trays l) (λ q. d (q ∙ sym f)))
 
-    module _ (k : length states ≡ n) (b : Bool) (g : b ≡ statesKnown states) where
+    module _ (k : length states ≡ n) (b : Bool) (g : b ≡ allBelow states 3) where
       pub margin-3 : not b ≡ true → 3 ≡ marginRefusal N l states
       unfolding marginRefusal
       margin-3 q = simp (told-true e h, eq-eqb (length states) (trays l) (k ∙ f), told-false g q)
@@ -71,12 +72,8 @@ module _ (N : ℕ) (l : Layout) (states : List ℕ) where
       unfolding marginAnswer
       refused-answer = simp (ne-eqb (marginRefusal N l states) 0 (λ z. d (q ∙ z))) (ap Refused q)
 
-      pub refused-value : pos 0 ≡ marginValue N l states
-      unfolding marginValue
-      refused-value = simp (ne-eqb (marginRefusal N l states) 0 (λ z. d (q ∙ z)))
-
     module _ (z : e ≡ 0) where
-      pub given-0 : 0 ≡ marginRefusal N l states
+      given-0 : 0 ≡ marginRefusal N l states
       given-0 = sym z ∙ q
 
       pub given-length : length states ≤ trayLimit
@@ -94,7 +91,3 @@ module _ (N : ℕ) (l : Layout) (states : List ℕ) where
         pub given-answer : Known (toZ w32 (ofZ w32 m)) ≡ marginAnswer N l states
         unfolding marginAnswer
         given-answer = simp (eq-eqb (marginRefusal N l states) 0 (sym given-0)) (ap Known is-margin)
-
-        pub given-value : toZ w32 (ofZ w32 m) ≡ marginValue N l states
-        unfolding marginValue
-        given-value = simp (eq-eqb (marginRefusal N l states) 0 (sym given-0)) is-margin

@@ -6,14 +6,14 @@ use mathlib.Core.List.{List}
 use Prim.Native.Nat.{ℕ, suc, _-_, _≤_, _<_}
 use native.Mathlib.Decide.{decLt}
 use native.Mathlib.Omega.{arith}
-use lib.Dec.{T, lit≤}
+use lib.Dec.{T, lit≤, eqb}
 use lib.IntN.{ℤ, pos, negℤ, _-ℤ_, subℕ, +ℤ-idl}
 use lib.ListN.{length, getD, replicate, length-replicate, getD-replicate}
 use lib.Signed.{leZ, _≤ℤ_, leZ-yes}
 use borrow.Author.Tests.{lt-ltb, le-ltb, le-leb}
 use Rattle.layout.specs.declared.Layout.{Layout}
 use Rattle.layout.specs.Layout.{trays, admissible}
-use Rattle.margin.specs.Margin.{stateLimit, counts, live, marginOf, marginRefusal}
+use Rattle.margin.specs.Margin.{live, marginOf, marginRefusal}
 use Rattle.margin.proofs.Counting.{live-high, live-same}
 use Rattle.margin.proofs.Signed.{sub-is}
 use Rattle.margin.proofs.Grounds.{measurable, known-true, margin-0}
@@ -42,7 +42,7 @@ margin-range N l states h =
     )
 
 -- every tray in one state x, which counts or not
-module _ (N : ℕ) (l : Layout) (a : admissible N l ≡ true) (x : ℕ) (h : x ≤ stateLimit) (t : Bool) (e : counts x ≡ t) where
+module _ (N : ℕ) (l : Layout) (a : admissible N l ≡ true) (x : ℕ) (h : x ≤ 2) (t : Bool) (e : eqb x 1 ≡ t) where
   abbrev states : List ℕ
   states = replicate (trays l) x
 
@@ -53,7 +53,7 @@ module _ (N : ℕ) (l : Layout) (a : admissible N l ≡ true) (x : ℕ) (h : x �
   unfolding marginOf
   alike = (
     sym (margin-0 N l states true (sym a) refl (trays l) refl (length-replicate (trays l) x) true (known-true states (λ i k. omega (arith, each i k))) refl),
-    ap (λ n. pos n -ℤ pos (l .dimension)) (live-same t states (length states) (λ i k. ap counts (each i k) ∙ e) ∙ ap (λ n. cond t n 0) (length-replicate (trays l) x)),
+    ap (λ n. pos n -ℤ pos (l .dimension)) (live-same t states (length states) (λ i k. ap (λ y. eqb y 1) (each i k) ∙ e) ∙ ap (λ n. cond t n 0) (length-replicate (trays l) x)),
   )
 
 pub margin-ends : (N : ℕ) (l : Layout) → admissible N l ≡ true →

@@ -3,10 +3,12 @@
 use layout::Layout;
 ghost use mathlib.Core.Path.{_≡_};
 ghost use Prim.Native.Nat.{_<_, _≤_};
+ghost use lib.Dec.{eqb};
 ghost use lib.IntN.{pos, _-ℤ_};
 ghost use lib.ListN.{length};
+ghost use Rattle.lists.specs.Lists.{allBelow};
 ghost use Rattle.layout.specs.Layout.{trayLimit};
-ghost use Rattle.margin.specs.Margin.{counts, live, statesKnown, marginRefusal, marginAnswer, marginValue, refusalOf, valueOf};
+ghost use Rattle.margin.specs.Margin.{live, marginRefusal, marginAnswer};
 
 // The states are 0 absent, 1 live and 2 demonstration.
 const LIVE: u8 = 1;
@@ -21,7 +23,7 @@ pub enum LossMargin {
 
 // Whether a tray of this state counts.
 fn counted(state: u8) -> bool
-    ensures { λ r. ⌜ r ≡ counts state ⌝ }
+    ensures { λ r. ⌜ r ≡ eqb state 1 ⌝ }
 {
     state == LIVE
 }
@@ -50,7 +52,7 @@ fn difference(a: u32, b: u32) -> i32
 
 // Whether every state is one of the three.
 fn states_known(states: &[u8]) -> bool
-    ensures { λ r. ⌜ r ≡ statesKnown (now (states .entry)) ⌝ }
+    ensures { λ r. ⌜ r ≡ allBelow (now (states .entry)) 3 ⌝ }
 {
     let mut x = 0usize;
     while x < states.len() {
@@ -80,9 +82,7 @@ fn margin_refusal(order: u32, l: Layout, states: &[u8]) -> u8
 
 // The margin of a cabinet whose trays have these states, one byte a tray, in a field whose root has so many powers.
 pub fn margin(order: u32, l: Layout, states: &[u8]) -> LossMargin
-    ensures answer { λ r. ⌜ r ≡ marginAnswer order l (now (states .entry)) ⌝ }
-    ensures refusal { λ r. ⌜ refusalOf r ≡ marginRefusal order l (now (states .entry)) ⌝ }
-    ensures value { λ r. ⌜ valueOf r ≡ marginValue order l (now (states .entry)) ⌝ }
+    ensures { λ r. ⌜ r ≡ marginAnswer order l (now (states .entry)) ⌝ }
 {
     let k = l.dimension;
     let refusal = margin_refusal(order, l, states);

@@ -19,7 +19,8 @@ use Rattle.pieces.specs.Inner.{Piecing}
 
 module _ {A : Type 0} (f : Field A) (l : Layout) (lost helpers shares host : List ℕ) where
   -- what the rule fixed stays so where the layers of its group stay
-  pub ruled-kept : (p : ℕ) (old new : List ℕ) → ((i : ℕ) → i < length lost → (j : ℕ) → j < layers l → groupAt l (firstLost l lost) j ≡ p → getD new (i * layers l + j) 0 ≡ getD old (i * layers l + j) 0) →
+  pub ruled-kept : (p : ℕ) (old new : List ℕ) → ((i : ℕ) → i < length lost → (j : ℕ) → j < layers l → groupAt l (firstLost l lost) j ≡ p →
+      getD new (i * layers l + j) 0 ≡ getD old (i * layers l + j) 0) →
       Ruled f l lost helpers shares host p old → Ruled f l lost helpers shares host p new
   unfolding mended
   ruled-kept p old new same r = record {
@@ -47,7 +48,8 @@ module _ {A : Type 0} (f : Field A) (l : Layout) (lost helpers shares host : Lis
       go p h g (no d) = m .done p (omega arith) (omega arith)
 
 -- what the next block is told
-pub piecing-next : (N : ℕ) (l : Layout) (lost helpers shares host : List ℕ) (first count k w : ℕ) (old spare : List ℕ) → Piecing N l lost helpers shares host first count old → k + w ≤ count →
+pub piecing-next : (N : ℕ) (l : Layout) (lost helpers shares host : List ℕ) (first count k w : ℕ) (old spare : List ℕ) →
+    Piecing N l lost helpers shares host first count old → k + w ≤ count →
     length spare ≡ length old → Piecing N l lost helpers shares host (first + k) w spare
 piecing-next N l lost helpers shares host first count k w old spare q h e = record {
   adm = q .adm;

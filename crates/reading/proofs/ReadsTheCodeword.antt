@@ -44,16 +44,19 @@ all-of-it l lost done tray first end e h = simp (eq-eqb tray lost e) at h
 module _ {A : Type 0} {f : Field A} (W : Working f) (l : Layout) (x : Tray) (c codeword spare : List ℕ) (done : ℕ)
     (r : Repairing f l x c codeword spare done) (tray first end : ℕ) where
   -- the lost tray, in the spare
-  lost-run : Accepted (f .order) l (length codeword) (length spare) (x .0) done tray first end → tray ≡ x .0 → take (end - first) (drop first spare) ≡ take (end - first) (drop first (trayPart l c tray))
+  lost-run : Accepted (f .order) l (length codeword) (length spare) (x .0) done tray first end → tray ≡ x .0 → take (end - first) (drop first spare)
+      ≡ take (end - first) (drop first (trayPart l c tray))
   lost-run a e =
       let ok = solvable W l (a .adm) in
       let long : length (trayPart l c tray) ≡ layers l = tray-long l c (trays l) tray (layers-pos f l (ok .usable)) (r .of .codeword .long) (a .readable .tray-in) in
       let ready = done-facts l (x .0) done first end (all-of-it l (x .0) done tray first end e (a .given)) in
       let cut = cutting-one W l (a .adm) (x .0) (r .helpers) (r .shares) (r .host) (r .chosen) (r .start) (r .calls) in
-      same-run spare (trayPart l c tray) first first (end - first) (omega (arith, a .spare-long, a .readable .end-in, a .readable .rises)) (omega (arith, long, a .readable .end-in, a .readable .rises)) (λ i h.
+      same-run spare (trayPart l c tray) first first (end - first) (omega (arith, a .spare-long, a .readable .end-in, a .readable .rises))
+      (omega (arith, long, a .readable .end-in, a .readable .rises)) (λ i h.
       let j : first + i < end = omega arith in
       let g : groupAt l (x .0) (first + i) < r .G = omega (arith, ready (first + i) (omega arith) j, r .far-enough) in
-      one-exact f l ok (x .0) (r .helpers) (r .chosen) (r .shares) (r .host) c (r .of) (groupAt l (x .0) (first + i)) (omega (arith, g, cut .within)) spare (cut .ruled (groupAt l (x .0) (first + i)) g) (first + i)
+      one-exact f l ok (x .0) (r .helpers) (r .chosen) (r .shares) (r .host) c (r .of) (groupAt l (x .0) (first + i)) (omega (arith, g, cut .within)) spare
+      (cut .ruled (groupAt l (x .0) (first + i)) g) (first + i)
       (omega (arith, j, a .readable .end-in)) refl
       ∙ ap (λ y. getD (trayPart l c y) (first + i) 0) (sym e))
 
@@ -88,7 +91,8 @@ unfolding available allDone partGiven run all
 empty-run N l codeword spare lost done tray first =
     let z : first - first ≡ 0 = omega arith in (
       ap (λ n. not (eqb tray lost) || all (λ i. ltb (groupAt l lost (first + i)) done) n) z ∙ always (not (eqb tray lost)),
-      nothing (eqb (partRefusal N l (length codeword) (length spare) lost done tray first first) 0) (eqb tray lost) (first - first) (drop first spare) (drop (tray * layers l + first) codeword) z,
+      nothing (eqb (partRefusal N l (length codeword) (length spare) lost done tray first first) 0) (eqb tray lost) (first - first) (drop first spare)
+          (drop (tray * layers l + first) codeword) z,
     )
   where
     always : (b : Bool) → (b || true) ≡ true

@@ -62,7 +62,8 @@ module _ {A : Type 0} (f : Field A) (l : Layout) (ok : Usable f l) (es c : List 
     }
 
   -- there is one wherever every layer meets its checks
-  pub restores-exists : length c ≡ trays l * layers l → ((x j : ℕ) → x < trays l → j < layers l → Kept es x → getD c (x * layers l + j) 0 < f .coding .size) → ((j : ℕ) → j < layers l → LayerFits f l es c j) → (d : List ℕ) × Restores f l es c d
+  pub restores-exists : length c ≡ trays l * layers l → ((x j : ℕ) → x < trays l → j < layers l → Kept es x → getD c (x * layers l + j) 0 < f .coding .size) →
+      ((j : ℕ) → j < layers l → LayerFits f l es c j) → (d : List ℕ) × Restores f l es c d
   unfolding symbolAt
   restores-exists long old fits = (buffer, restores buffer long (buffer-long ∙ sym long) (record { at = within }) same at fits)
     where
@@ -105,7 +106,10 @@ module _ {A : Type 0} (f : Field A) (l : Layout) (ok : Usable f l) (es c : List 
 -- what is restored is in range where the trays not listed are
 pub restored-range : {A : Type 0} (f : Field A) (l : Layout) (es c d : List ℕ) → 0 < layers l → length c ≡ trays l * layers l → RestoredTo f l es c (layers l) d →
     ((x j : ℕ) → x < trays l → j < layers l → Kept es x → getD c (x * layers l + j) 0 < f .coding .size) → InRange (f .coding) d
-restored-range f l es c d pos long r old = record { at = λ i h. subst (λ k. getD d k 0 < f .coding .size) (div-add-mod' i (layers l)) (place (i / layers l) (i % layers l) (rack i h) (mod-lt i pos)) }
+restored-range f l es c d pos long r old = record {
+  at = λ i h. subst (λ k. getD d k 0 < f .coding .size) (div-add-mod' i (layers l))
+      (place (i / layers l) (i % layers l) (rack i h) (mod-lt i pos));
+}
   where
     rack : (i : ℕ) → i < length d → i / layers l < trays l
     rack i h = div-lt-iff-lt-mul pos .1 (subst (λ n. i < n) (r .long ∙ long) h)

@@ -32,7 +32,8 @@ use Rattle.repair.proofs.Seen.{piece-symbols}
 use Rattle.pieces.proofs.Pieces.{ruled-kept}
 use Rattle.repair.proofs.Pieces.{kept-at}
 
-module _ {A : Type 0} {f : Field A} (W : Working f) (l : Layout) (adm : AdmissibleWith (f .order) 0 l) (lost helpers : List ℕ) (given : Losses l lost helpers) (shares host start : List ℕ) where
+module _ {A : Type 0} {f : Field A} (W : Working f) (l : Layout) (adm : AdmissibleWith (f .order) 0 l) (lost helpers : List ℕ) (given : Losses l lost helpers)
+    (shares host start : List ℕ) where
   abbrev ok : Solvable f l
   ok = solvable W l adm
 
@@ -96,7 +97,8 @@ module _ {A : Type 0} {f : Field A} (W : Working f) (l : Layout) (adm : Admissib
     toCome-is = ap (λ n. length lost * (l .helpers * n)) (omega arith);
   }
   sofar (done {G = G} {crossed = k} {toCome = m} {spare = spare} before budget host′ spare′ g c t alike r) = more G k m spare budget host′ spare′ g c t alike r (sofar before)
-  sofar (refused {G = G} {crossed = k} {toCome = m} {spare = spare} before l′ lost′ helpers′ shares′ host′ first budget spare′ e r) = subst (λ y. Sofar G k m y) (sym (r .kept)) (sofar before)
+  sofar (refused {G = G} {crossed = k} {toCome = m} {spare = spare} before l′ lost′ helpers′ shares′ host′ first budget spare′ e r) = subst (λ y. Sofar G k m y)
+      (sym (r .kept)) (sofar before)
 
   -- a spare of a done call has e·L symbols
   pub done-long : {G crossed toCome : ℕ} {spare : List ℕ} → Calls f l lost helpers shares host start G crossed toCome spare → 0 < G → length spare ≡ length lost * layers l
@@ -106,7 +108,8 @@ module _ {A : Type 0} {f : Field A} (W : Working f) (l : Layout) (adm : Admissib
   some-group = rw (ok .groups-are) (power-pos (digits l) (l .racks - 1) (ok .usable .fits .some-digits))
 
   -- one uncut call over a spare of e·L symbols, with the rule's own outcome
-  uncut-call : length shares ≡ length lost * traffic l → length host ≡ l .size * layers l → InRange (f .coding) shares → SoundSymbols f l lost host → (other : List ℕ) → length other ≡ length lost * layers l → Uncut f l lost helpers shares host other
+  uncut-call : length shares ≡ length lost * traffic l → length host ≡ l .size * layers l → InRange (f .coding) shares → SoundSymbols f l lost host →
+      (other : List ℕ) → length other ≡ length lost * layers l → Uncut f l lost helpers shares host other
   uncut-call es eh range sound other eo =
       let one = rule-one f l ok lost helpers given shares host in
       record {
@@ -159,5 +162,6 @@ pub same-group : {A : Type 0} {f : Field A} (W : Working f) (l : Layout) (lost h
 same-group {f = f} W l lost helpers one two p d e alike sound i hi j hj k =
     let r = one .answer in
     let made = repairable f l lost helpers (one .shares) (one .host) (length (one .old)) (one .first) (one .budget) (r .accepted) in
-    ruled-same f l (solvable W l (made .adm)) lost helpers (made .losses) p (omega (arith, r .done-is, made .first-in)) (one .shares) (two .shares) (one .host) (two .host) (one .new) (two .new)
+    ruled-same f l (solvable W l (made .adm)) lost helpers (made .losses) p (omega (arith, r .done-is, made .first-in)) (one .shares) (two .shares) (one .host)
+    (two .host) (one .new) (two .new)
     (r .piece .done p (d .0) (d .1)) (two .answer .piece .done p (e .0) (e .1)) alike sound i hi j hj k

@@ -50,7 +50,8 @@ of-sent f l ok lost helpers shares host c s = record {
 }
 
 -- so the shares' numbers are symbols
-sent-range : {A : Type 0} {f : Field A} (W : Working f) (l : Layout) → AdmissibleWith (f .order) 0 l → (lost helpers shares host c : List ℕ) → Sent f l lost helpers shares host c → InRange (f .coding) shares
+sent-range : {A : Type 0} {f : Field A} (W : Working f) (l : Layout) → AdmissibleWith (f .order) 0 l → (lost helpers shares host c : List ℕ) →
+    Sent f l lost helpers shares host c → InRange (f .coding) shares
 sent-range {f = f} W l adm lost helpers shares host c s = record {
   at = λ n hn.
       let row-low : n / groups l < l .helpers * length lost = div-lt-iff-lt-mul pos .1 (omega (arith, hn, long)) in
@@ -72,13 +73,15 @@ sent-range {f = f} W l adm lost helpers shares host c s = record {
 
     at : (k m p : ℕ) → k < l .helpers → m < length lost → p < groups l → getD shares ((k * length lost + m) * groups l + p) 0 < f .coding .size
     at k m p hk hm hp =
-        rw (sym (getD-take (groups l) (drop ((k * length lost + m) * groups l) shares) p 0 hp ∙ getD-drop ((k * length lost + m) * groups l) shares p 0) ∙ ap (λ o. getD o p 0) (s .share k m hk hm))
+        rw (sym (getD-take (groups l) (drop ((k * length lost + m) * groups l) shares) p 0 hp ∙ getD-drop ((k * length lost + m) * groups l) shares p 0)
+        ∙ ap (λ o. getD o p 0) (s .share k m hk hm))
         (share-below f (W .field) l m (firstLost l lost / l .size) (rackPart l c (getD helpers k 0)) p hp)
 
 -- For each admissible layout, codeword c, e lost trays of one rack and choice of d helpers out of the other racks: a repair with first group 0 and a budget of L/s
 -- groups or more, given the helpers' shares and the sound trays of the rack, is done, e·d·L/s symbols cross, and the spare then holds the codeword's lost trays.
 pub repair-exact : {A : Type 0} {f : Field A} (W : Working f) (l : Layout) → AdmissibleWith (f .order) 0 l → (lost helpers shares host c : List ℕ) → Sent f l lost helpers shares host c →
-    (budget : ℕ) → groups l ≤ budget → (spare new : List ℕ) → length spare ≡ length lost * layers l → (answer : Repaired) → RepairAnswer f l lost helpers shares host 0 budget spare new answer →
+    (budget : ℕ) → groups l ≤ budget → (spare new : List ℕ) → length spare ≡ length lost * layers l →
+    (answer : Repaired) → RepairAnswer f l lost helpers shares host 0 budget spare new answer →
     (report answer .refusal ≡ 0) × (report answer .crossed ≡ length lost * traffic l) × (new ≡ lostPart l lost c)
 repair-exact {f = f} W l adm lost helpers shares host c s budget enough spare new el (Refused e) r =
     let t = s .setting in
@@ -89,7 +92,8 @@ repair-exact {f = f} W l adm lost helpers shares host c s budget enough spare ne
       r .ground,
       accepted f l lost helpers shares host (length spare) 0 budget (lost-high f l ok lost helpers (t .losses))
           (record { adm = adm; shares-long = t .shares-long; host-long = t .host-long; spare-long = el; losses = t .losses; first-in = omega arith })
-          (piece-symbols f l lost shares host 0 budget helpers (t .losses) (size-pos l (adm .admissible .cabinet)) (omega arith) (t .shares-long) (sent-range W l adm lost helpers shares host c s) (t .host-range)),
+          (piece-symbols f l lost shares host 0 budget helpers (t .losses) (size-pos l (adm .admissible .cabinet)) (omega arith) (t .shares-long)
+          (sent-range W l adm lost helpers shares host c s) (t .host-range)),
     ))
 repair-exact {f = f} W l adm lost helpers shares host c s budget enough spare new el (Done g k t) r =
     let ok = solvable W l adm in
@@ -100,7 +104,8 @@ repair-exact {f = f} W l adm lost helpers shares host c s budget enough spare ne
           (λ p h. r .piece .done p (omega arith) (omega (arith, all))),
     )
 
-module _ {A : Type 0} {f : Field A} (W : Working f) (l : Layout) (adm : AdmissibleWith (f .order) 0 l) (lost helpers shares host c : List ℕ) (s : Called f l lost helpers shares host c) where
+module _ {A : Type 0} {f : Field A} (W : Working f) (l : Layout) (adm : AdmissibleWith (f .order) 0 l) (lost helpers shares host c : List ℕ)
+    (s : Called f l lost helpers shares host c) where
   abbrev ok : Solvable f l
   ok = solvable W l adm
 
@@ -128,8 +133,10 @@ module _ {A : Type 0} {f : Field A} (W : Working f) (l : Layout) (adm : Admissib
         fits-then r =
             let t = s .setting in
             let help = t .losses .help in
-            sym (ground-0 (f .order) l e (l .size) h i _ _ _ (sym (facts-admissible (f .order) l (adm .admissible))) (rack-long l c i (help .inside k hk) (t .codeword .long)) r (host-in f l ok (firstLost l lost) helpers help) (help .inside k hk)
-            (sym (some-seen e _ (λ q. let z = t .losses .some in omega arith)) ∙ rack-symbols f l c (t .codeword) i (help .inside k hk)) (sym (fits l e (t .losses .some) (t .losses .few))) (λ q. help .other k hk (sym q))
+            sym (ground-0 (f .order) l e (l .size) h i _ _ _ (sym (facts-admissible (f .order) l (adm .admissible)))
+            (rack-long l c i (help .inside k hk) (t .codeword .long)) r (host-in f l ok (firstLost l lost) helpers help) (help .inside k hk)
+            (sym (some-seen e _ (λ q. let z = t .losses .some in omega arith)) ∙ rack-symbols f l c (t .codeword) i (help .inside k hk))
+            (sym (fits l e (t .losses .some) (t .losses .few))) (λ q. help .other k hk (sym q))
             ∙ rack-grounds W l e h i (rackPart l c i) (length (s .room k)) ∙ many-same f l e h i (rackPart l c i) (s .room k) (adm .errors-are))
 
         same : sharesBuffer f l e h i (rackPart l c i) (s .room k) ≡ manyBuffer f l e h i (rackPart l c i) (s .room k)

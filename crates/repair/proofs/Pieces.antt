@@ -24,7 +24,8 @@ pub swap : (e d n : ℕ) → e * (d * n) ≡ d * (e * n)
 swap e d n = sym (mul-assoc e d n) ∙ ap (λ y. y * n) (mul-comm e d) ∙ mul-assoc d e n
 
 -- what the piece is told
-pub piecing-of : (N : ℕ) (l : Layout) (lost helpers shares host : List ℕ) (first count : ℕ) (spare : List ℕ) → Repairable N l lost helpers (length shares) (length host) (length spare) first →
+pub piecing-of : (N : ℕ) (l : Layout) (lost helpers shares host : List ℕ) (first count : ℕ) (spare : List ℕ) →
+    Repairable N l lost helpers (length shares) (length host) (length spare) first →
     first + count ≤ groups l → Piecing N l lost helpers shares host first count spare
 piecing-of N l lost helpers shares host first count spare g h = record {
   adm = g .adm;

@@ -36,7 +36,8 @@ module _ {A : Type 0} (f : Field A) (l : Layout) (lost helpers shares host : Lis
   abbrev seen : Bool
   seen = pieceSymbols f l lost shares host first budget
 
-  pub stop-3 : ((allBelow lost (trays l) ≡ true) → (oneRack l lost ≡ true) → (allBelow helpers (l .racks) ≡ true) → (seen ≡ true) → ⊥) → 3 ≡ numberRefusal f l lost helpers shares host first budget
+  pub stop-3 : ((allBelow lost (trays l) ≡ true) → (oneRack l lost ≡ true) → (allBelow helpers (l .racks) ≡ true) → (seen ≡ true) → ⊥) →
+      3 ≡ numberRefusal f l lost helpers shares host first budget
   unfolding numberRefusal
   stop-3 k = simp (not-both (allBelow lost (trays l) && oneRack l lost && allBelow helpers (l .racks)) seen (λ p q.
       let three = both (allBelow lost (trays l) && oneRack l lost) (allBelow helpers (l .racks)) p in
@@ -97,7 +98,8 @@ module _ {A : Type 0} (f : Field A) (l : Layout) (lost helpers shares host : Lis
     unfolding repairRefusal numberRefusal countRefusal
     ground-numbers r e d = before right rise 3 4 (countRefusal l lost helpers first) r e d ∙ sym (past _ _ _ h lengths)
 
-    pub ground-counts : (n r : ℕ) → n ≡ numberRefusal f l lost helpers shares host first budget → n ≡ 0 → r ≡ countRefusal l lost helpers first → r ≡ repairRefusal f l lost helpers shares host spare first budget
+    pub ground-counts : (n r : ℕ) → n ≡ numberRefusal f l lost helpers shares host first budget → n ≡ 0 → r ≡ countRefusal l lost helpers first →
+        r ≡ repairRefusal f l lost helpers shares host spare first budget
     unfolding repairRefusal numberRefusal countRefusal
     ground-counts n r e z c = c ∙ sym (after right rise 3 4 (countRefusal l lost helpers first) (sym e ∙ z) (omega arith) (omega arith)) ∙ sym (past _ _ _ h lengths)
 
@@ -114,7 +116,8 @@ module _ {A : Type 0} (f : Field A) (l : Layout) (lost helpers shares host : Lis
       let g7 = passed (leb first (groups l)) 7 0 (omega arith) (g6 .1) in
       let three = both (eqb (length shares) (length lost * traffic l) && eqb (length host) (l .size * layers l)) (eqb spare (length lost * layers l)) (g2 .0) in
       let two = both (eqb (length shares) (length lost * traffic l)) (eqb (length host) (l .size * layers l)) (three .0) in
-      let numbers = both (allBelow lost (trays l) && oneRack l lost) (allBelow helpers (l .racks)) (both (allBelow lost (trays l) && oneRack l lost && allBelow helpers (l .racks)) (pieceSymbols f l lost shares host first budget) (g3 .0) .0) in
+      let numbers = both (allBelow lost (trays l) && oneRack l lost) (allBelow helpers (l .racks))
+      (both (allBelow lost (trays l) && oneRack l lost && allBelow helpers (l .racks)) (pieceSymbols f l lost shares host first budget) (g3 .0) .0) in
       let racks = both (allBelow lost (trays l)) (oneRack l lost) (numbers .0) in
       let rise = both (strictlyRising lost) (strictlyRising helpers) (g4 .0) in
       let counts = fits-so l (length lost) (g12 .0) in
@@ -153,4 +156,5 @@ accepted f l lost helpers shares host spare first budget high r y =
     (sym (below-true helpers (l .racks) (λ k h. H .inside k (omega (arith, H .many))))) y
     (sym (rising-true lost (length lost) (omega arith) (λ k h. L .rising k h))) (sym (rising-true helpers (length helpers) (omega arith) (λ k h. H .rising k (omega (arith, H .many))))))
     refl
-    (pass-7 l lost helpers first (H .many) (sym (fits l (length lost) (L .some) (L .few))) (sym (absent-true helpers (firstLost l lost / l .size) (λ k h. H .other k (omega (arith, H .many))))) (r .first-in)))
+    (pass-7 l lost helpers first (H .many) (sym (fits l (length lost) (L .some) (L .few)))
+    (sym (absent-true helpers (firstLost l lost / l .size) (λ k h. H .other k (omega (arith, H .many))))) (r .first-in)))

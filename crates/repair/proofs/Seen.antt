@@ -30,7 +30,8 @@ module _ {A : Type 0} (f : Field A) (l : Layout) (lost shares host : List ℕ) (
   abbrev n : ℕ
   n = min budget (groups l - first)
 
-  pub piece-symbols : (helpers : List ℕ) → Losses l lost helpers → 0 < l .size → first ≤ groups l → length shares ≡ length lost * traffic l → InRange (f .coding) shares → SoundSymbols f l lost host →
+  pub piece-symbols : (helpers : List ℕ) → Losses l lost helpers → 0 < l .size → first ≤ groups l → length shares ≡ length lost * traffic l →
+      InRange (f .coding) shares → SoundSymbols f l lost host →
       pieceSymbols f l lost shares host first budget ≡ true
   unfolding lostPlace layerSymbol
   piece-symbols helpers given pos hf long range sound = passes f l lost shares host first budget row layer

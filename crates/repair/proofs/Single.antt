@@ -111,7 +111,8 @@ module _ {A : Type 0} {f : Field A} (W : Working f) (l : Layout) (adm : Admissib
 
 -- Any two done calls, whatever their first groups, over the same layout, lost tray and helpers, that both do group p and are alike in its d share symbols and in
 -- the symbols of the host rack's sound trays at its layers, write the same symbols at its layers.
-pub same-group-one : {A : Type 0} {f : Field A} (W : Working f) (l : Layout) → AdmissibleWith (f .order) 0 l → (x : ℕ) (helpers : List ℕ) (one two : DoneCall f l (x ∷ []) helpers) (p : ℕ) → Does one p → Does two p →
+pub same-group-one : {A : Type 0} {f : Field A} (W : Working f) (l : Layout) → AdmissibleWith (f .order) 0 l →
+    (x : ℕ) (helpers : List ℕ) (one two : DoneCall f l (x ∷ []) helpers) (p : ℕ) → Does one p → Does two p →
     ((k : ℕ) → k < l .helpers → sharedSymbol f l (one .shares) p k ≡ sharedSymbol f l (two .shares) p k) →
     ((j : ℕ) → j < layers l → groupAt l x j ≡ p → OthersAlike f l x j (one .host) (two .host)) →
     (j : ℕ) → j < layers l → groupAt l x j ≡ p → getD (one .new) j 0 ≡ getD (two .new) j 0
@@ -132,7 +133,8 @@ and-right : (a : Bool) → (a && true) ≡ a
 and-right true = refl
 and-right false = refl
 
-drops : (s t x r b y c d e : Bool) (rest : ℕ) → s ≡ t → r ≡ true → e ≡ true → unless s 2 (unless (x && r && b && y) 3 (unless c 4 (unless d 5 (unless e 12 rest)))) ≡ unless t 2 (unless (x && b && y) 3 (unless c 4 (unless d 5 rest)))
+drops : (s t x r b y c d e : Bool) (rest : ℕ) → s ≡ t → r ≡ true → e ≡ true → unless s 2 (unless (x && r && b && y) 3 (unless c 4 (unless d 5 (unless e 12 rest))))
+    ≡ unless t 2 (unless (x && b && y) 3 (unless c 4 (unless d 5 rest)))
 drops s t x r b y c d e rest p q u = simp (p, q, u, and-right)
 
 -- document 01's grounds, in its order: one lost tray is never too many, so 12 does not apply
@@ -149,8 +151,10 @@ module _ {A : Type 0} {f : Field A} (W : Working f) (l : Layout) (x : ℕ) (help
   unfolding repairRefusal allBelow strictlyRising oneRack all
   one-refusal =
       same (admissibleWith (f .order) 0 l) _ _ (λ h.
-      drops (eqb (length shares) (1 * traffic l) && eqb (length host) (l .size * layers l) && eqb spare (1 * layers l)) (eqb (length shares) (traffic l) && eqb (length host) (l .size * layers l) && eqb spare (layers l)) (ltb x (trays l))
-      (eqb (x / l .size) (x / l .size)) (allBelow helpers (l .racks)) (pieceSymbols f l (x ∷ []) shares host first budget) (strictlyRising helpers) (eqb (length helpers) (l .helpers)) (lostCountFits l 1)
+      drops (eqb (length shares) (1 * traffic l) && eqb (length host) (l .size * layers l) && eqb spare (1 * layers l))
+      (eqb (length shares) (traffic l) && eqb (length host) (l .size * layers l) && eqb spare (layers l)) (ltb x (trays l))
+      (eqb (x / l .size) (x / l .size)) (allBelow helpers (l .racks)) (pieceSymbols f l (x ∷ []) shares host first budget) (strictlyRising helpers)
+      (eqb (length helpers) (l .helpers)) (lostCountFits l 1)
       (unless (absent helpers (x / l .size)) 6 (unless (leb first (groups l)) 7 0))
       (ap₂ (λ a b. eqb (length shares) a && eqb (length host) (l .size * layers l) && eqb spare b) (one-mul (traffic l)) (one-mul (layers l)))
       (eq-eqb (x / l .size) (x / l .size) refl)

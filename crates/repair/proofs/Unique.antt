@@ -29,12 +29,14 @@ module _ {A : Type 0} (f : Field A) (l : Layout) (lost helpers shares host : Lis
       Piece f l lost helpers shares host first g old new → Piece f l lost helpers shares host first g old new′ → new ≡ new′
   same-piece ok given g within long a b =
       ext-getD 0 new new′ (a .long ∙ sym (b .long))
-      (λ n hn. kept-at (length lost) (layers l) (layers-pos f l (ok .usable)) n new′ new (omega (arith, hn, a .long, long)) (λ i hi j hj _. at i hi j hj (groupAt l (firstLost l lost) j) refl))
+      (λ n hn. kept-at (length lost) (layers l) (layers-pos f l (ok .usable)) n new′ new (omega (arith, hn, a .long, long))
+      (λ i hi j hj _. at i hi j hj (groupAt l (firstLost l lost) j) refl))
     where
       at : (i : ℕ) → i < length lost → (j : ℕ) → j < layers l → (p : ℕ) → groupAt l (firstLost l lost) j ≡ p → getD new (i * layers l + j) 0 ≡ getD new′ (i * layers l + j) 0
       at i hi j hj p e = elim (decLe first p) [
         | yes low ↦ elim (decLt p (first + g)) [
-          | yes high ↦ ruled-same f l ok lost helpers given p (omega arith) shares shares host host new new′ (a .done p low high) (b .done p low high) (λ m k hm hk. refl) (λ q hq d y hy out. refl) i hi j hj e
+          | yes high ↦ ruled-same f l ok lost helpers given p (omega arith) shares shares host host new new′ (a .done p low high) (b .done p low high)
+              (λ m k hm hk. refl) (λ q hq d y hy out. refl) i hi j hj e
           | no high ↦ a .kept i hi j hj (λ w. high (omega arith)) ∙ sym (b .kept i hi j hj (λ w. high (omega arith)))
         ]
         | no low ↦ a .kept i hi j hj (λ w. low (omega arith)) ∙ sym (b .kept i hi j hj (λ w. low (omega arith)))

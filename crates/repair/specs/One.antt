@@ -11,7 +11,7 @@ use Rattle.layout.specs.Layout.{layers, groups, traffic}
 use Rattle.codeword.specs.Codeword.{Codeword}
 use Rattle.rule.specs.Rule.{rackPart, trayPart, Helpers, groupAt, Outside, rackSymbol, RuledOne}
 use Rattle.rule.specs.Lost.{Of}
-use Rattle.share.specs.Share.{shareBuffer}
+use Rattle.share.specs.One.{shareBuffer}
 use Rattle.repair.specs.Repair.{SoundSymbols}
 use Rattle.repair.specs.Calls.{Uncut}
 

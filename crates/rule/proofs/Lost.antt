@@ -72,7 +72,8 @@ module _ {A : Type 0} (f : Field A) (l : Layout) (ok : Solvable f l) (lost helpe
     module _ (p : ℕ) (inside : p < groups l) where
       -- every solution's host sums in a layer of the group are the formula's
       sums-are : (m j : ℕ) → groupAt l (firstLost l lost) j ≡ p → (sums : ℕ → ℕ → A) →
-          Solution (shapeOf f l) m (firstLost l lost / l .size) p (λ k. getD helpers k 0) (l .helpers) (parityRacks l) (sentSymbol f l (length lost) shares m p) sums → sums h j ≡ layerSum f l lost helpers shares j m
+          Solution (shapeOf f l) m (firstLost l lost / l .size) p (λ k. getD helpers k 0) (l .helpers) (parityRacks l) (sentSymbol f l (length lost) shares m p)
+          sums → sums h j ≡ layerSum f l lost helpers shares j m
       unfolding layerSum
       sums-are m j e sums sol =
           solution-sums f l ok (firstLost l lost) helpers (given .help) p inside m (sentSymbol f l (length lost) shares m p) sums sol j e
@@ -86,7 +87,8 @@ module _ {A : Type 0} (f : Field A) (l : Layout) (ok : Solvable f l) (lost helpe
       ruled-is spare r i k j hj e =
           sym (ok .usable .field .coded .val-elem _ (r .symbols i k j hj e))
           ∙ ap (f .coding .val) (sym (fill-at (lostPlace l lost) _ _ (length lost) (l .size) lost-places i k)
-          ∙ lost-only (shapeOf f l) (ok .usable .fits) (lostPlace l lost) (length lost) lost-places (layerSum f l lost helpers shares j) (λ g. rackSymbol f l host g j) (mended f l lost spare host j)
+          ∙ lost-only (shapeOf f l) (ok .usable .fits) (lostPlace l lost) (length lost) lost-places (layerSum f l lost helpers shares j)
+          (λ g. rackSymbol f l host g j) (mended f l lost spare host j)
           (record { at = λ g hg out. sym (fill-outside (lostPlace l lost) _ _ (length lost) g out) })
           (record { at = λ m hm. r .holds j hj e m hm ∙ sums-are m j e (r .sums m) (r .solution m hm) })
           (lostPlace l lost i) (lost-places .inside i k))
@@ -127,7 +129,8 @@ module _ {A : Type 0} (f : Field A) (l : Layout) (ok : Solvable f l) (lost helpe
 
   -- the formula hangs on the group's e·d share symbols and the sound symbols of the layer alone
   lost-congr : (shares shares′ host host′ : List ℕ) (i j : ℕ) → i < length lost →
-      ((m k : ℕ) → m < length lost → k < l .helpers → sentSymbol f l (length lost) shares m (groupAt l (firstLost l lost) j) k ≡ sentSymbol f l (length lost) shares′ m (groupAt l (firstLost l lost) j) k) →
+      ((m k : ℕ) → m < length lost → k < l .helpers → sentSymbol f l (length lost) shares m (groupAt l (firstLost l lost) j) k
+      ≡ sentSymbol f l (length lost) shares′ m (groupAt l (firstLost l lost) j) k) →
       SoundAlike f l lost j host host′ → lostSymbol f l lost helpers shares host i j ≡ lostSymbol f l lost helpers shares′ host′ i j
   unfolding lostSymbol layerSum
   lost-congr shares shares′ host host′ i j k alike sound =

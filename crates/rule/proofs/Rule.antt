@@ -20,7 +20,8 @@ use Rattle.codeword.specs.Codeword.{shapeOf, Solvable}
 use Rattle.rule.specs.Rule.{groupAt, Helpers}
 
 -- rising racks other than the host, in the algebra's terms
-pub helping-from : {A : Type 0} (f : Field A) (l : Layout) → parityRacks l + l .helpers ≡ digits l + (l .racks - 1) → l .helpers ≤ l .racks - 1 → (h : ℕ) (helpers : List ℕ) → h < l .racks → ((k : ℕ) → k < l .helpers → getD helpers k 0 < l .racks) →
+pub helping-from : {A : Type 0} (f : Field A) (l : Layout) → parityRacks l + l .helpers ≡ digits l + (l .racks - 1) → l .helpers ≤ l .racks - 1 →
+    (h : ℕ) (helpers : List ℕ) → h < l .racks → ((k : ℕ) → k < l .helpers → getD helpers k 0 < l .racks) →
     ((k : ℕ) → k + 1 < l .helpers → getD helpers k 0 < getD helpers (k + 1) 0) → ((k : ℕ) → k < l .helpers → ¬ (getD helpers k 0 ≡ h)) →
     Helping (shapeOf f l) h (λ k. getD helpers k 0) (l .helpers) (parityRacks l)
 helping-from f l whole under h helpers host inside rising other = record {

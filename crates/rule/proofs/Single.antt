@@ -62,7 +62,8 @@ module _ {A : Type 0} (f : Field A) (l : Layout) (ok : Usable f l) (x : ℕ) whe
   mended-sum spare host j =
       sum-congr (f .ops) (l .size) _ _ (λ g h. no-weight (f .ops) (ok .field .laws) _ _)
       ∙ sum-out (f .ops) (ok .field .laws) (l .size) (x % l .size) _ (mod-lt x (ok .fits .some-places))
-      ∙ ap₂ (f .ops .add) (choose-same (x % l .size) (x % l .size) _ _ refl ∙ ap (λ n. f .coding .elem (getD spare n 0)) (front (layers l) j)) (sum-congr (f .ops) (l .size) _ _ (λ g h. choose-twice (eqb g (x % l .size)) _ _ _))
+      ∙ ap₂ (f .ops .add) (choose-same (x % l .size) (x % l .size) _ _ refl ∙ ap (λ n. f .coding .elem (getD spare n 0)) (front (layers l) j))
+      (sum-congr (f .ops) (l .size) _ _ (λ g h. choose-twice (eqb g (x % l .size)) _ _ _))
 
   -- what the rule for several fixes for one tray is what document 01's rule fixes, and back
   pub one-lost : (helpers shares host : List ℕ) (p : ℕ) (spare : List ℕ) → Ruled f l (x ∷ []) helpers shares host p spare → RuledOne f l x helpers shares host p spare
@@ -80,7 +81,8 @@ module _ {A : Type 0} (f : Field A) (l : Layout) (ok : Usable f l) (x : ℕ) whe
     solution = λ m k. subst (λ n. Solution (shapeOf f l) n (x / l .size) p (λ k. getD helpers k 0) (l .helpers) (parityRacks l) (sentSymbol f l 1 shares n p) (r .sums)) (zero-is m k)
         (record { given = λ k h. r .solution .given k h ∙ sym (sent-is shares p k); checks = r .solution .checks });
     holds = λ j h e m k. subst (λ n. check (f .ops) (place (shapeOf f l)) (l .size) (mended f l (x ∷ []) spare host j) n ≡ r .sums (x / l .size) j) (zero-is m k)
-        (mended-sum spare host j ∙ ap (λ y. f .ops .add y (soundSum f l x host j)) (ap (f .coding .elem) (r .holds j h e) ∙ ok .field .coded .elem-val _) ∙ back (f .ops) (ok .field .laws) _ _);
+        (mended-sum spare host j ∙ ap (λ y. f .ops .add y (soundSum f l x host j)) (ap (f .coding .elem) (r .holds j h e) ∙ ok .field .coded .elem-val _)
+        ∙ back (f .ops) (ok .field .laws) _ _);
     symbols = λ i k j h e. subst (λ n. getD spare (n * layers l + j) 0 < f .coding .size) (zero-is i k)
         (subst (λ n. getD spare n 0 < f .coding .size) (sym (front (layers l) j)) (subst (λ n. n < f .coding .size) (sym (r .holds j h e)) (ok .field .coded .val-below _)));
   }

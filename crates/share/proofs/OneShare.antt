@@ -1,12 +1,11 @@
 -- Document 01's share built up tray by tray: what is shown of e shares, with e = 1, in terms of the call for one share.
 -- Assumes nothing.
-use mathlib.Core.Path.{_≡_, sym, ap, ap₂, _∙_, subst}
+use mathlib.Core.Path.{_≡_, sym, ap, _∙_, subst}
 use mathlib.Core.List.{List, _∷_}
 use Prim.Native.Nat.{ℕ, _+_, _*_, _<_}
-use native.Mathlib.Nat.{one-mul, div-eq-of-lt, mod-eq-of-lt}
+use native.Mathlib.Nat.{one-mul}
 use native.Mathlib.Omega.{arith}
-use lib.ListN.{length, getD}
-use Rattle.lists.specs.Lists.{table}
+use lib.ListN.{length}
 use Rattle.algebra.specs.Field.{Ops}
 use Rattle.algebra.specs.Coding.{InRange}
 use Rattle.algebra.specs.Shape.{Field}
@@ -16,12 +15,13 @@ use Rattle.symbol.proofs.Working.{working}
 use Rattle.layout.specs.declared.Layout.{Layout}
 use Rattle.layout.specs.Layout.{layers, groups, Admissible}
 use Rattle.rule.specs.Rule.{trayPart}
-use Rattle.share.specs.Share.{shareOf, partSymbol, addRefusal, addBuffer}
-use Rattle.share.specs.Many.{partAt, fedBuffer}
+use Rattle.share.specs.Share.{shareOf}
+use Rattle.share.specs.One.{addRefusal, addBuffer}
+use Rattle.share.specs.Many.{fedBuffer}
 use Rattle.share.specs.Feeds.{count, cleared, Feeds, feed, refused}
 use Rattle.share.proofs.Refusals.{one-few, one-add-refusal}
-use Rattle.share.proofs.Weights.{one-row, one-shares, one-add-buffer}
-use Rattle.share.proofs.Feeds.{feeds-shares, fed-twice, twice-fed}
+use Rattle.share.proofs.Weights.{one-shares, one-add-buffer}
+use Rattle.share.proofs.Feeds.{feeds-shares, twice-fed}
 
 module _ {A : Type 0} {f : Field A} (W : Working f) (l : Layout) (host i : ℕ) (rack start places held : List ℕ) where
   -- a call for one share is a step of a list of feeds
@@ -49,17 +49,6 @@ module _ {A : Type 0} {f : Field A} (W : Working f) (l : Layout) where
   module _ (host x : ℕ) (symbols held : List ℕ) where
     both-calls : fedBuffer f l 1 host x symbols (fedBuffer f l 1 host x symbols held) ≡ addBuffer f l host x symbols (addBuffer f l host x symbols held)
     both-calls = ap (fedBuffer f l 1 host x symbols) (one-add-buffer f l W host x symbols held) ∙ one-add-buffer f l W host x symbols (addBuffer f l host x symbols held)
-
-    -- feeding a tray twice adds its part twice
-    pub one-twice : addRefusal f l host x symbols held ≡ 0 →
-        addBuffer f l host x symbols (addBuffer f l host x symbols held)
-        ≡ table (λ p. f .coding .val (add (f .coding .elem (getD held p 0)) (add (partSymbol f l 0 host x symbols p) (partSymbol f l 0 host x symbols p)))) (groups l)
-    unfolding partAt
-    one-twice q =
-        sym both-calls
-        ∙ fed-twice W l 1 host x symbols held (one-add-refusal W l host x symbols held ∙ q)
-        ∙ one-row _ _ (groups l) (λ p k.
-        ap (λ y. f .coding .val (add (f .coding .elem (getD held p 0)) (add y y))) (ap₂ (λ m r. partSymbol f l m host x symbols r) (div-eq-of-lt k) (mod-eq-of-lt k)))
 
 -- among bytes it cancels
 pub one-cancels : (l : Layout) (host x : ℕ) (symbols held : List ℕ) → InRange (gf256 .coding) held → addBuffer gf256 l host x symbols (addBuffer gf256 l host x symbols held) ≡ held

@@ -25,7 +25,7 @@ use Rattle.rule.specs.Rule.{rackPart}
 use Rattle.rule.proofs.Racks.{rack-long}
 use Rattle.range.specs.Range.{symbolsFrom}
 use Rattle.range.proofs.Symbols.{symbols-true, symbols-all}
-use Rattle.share.specs.Share.{shareRefusal, addRefusal}
+use Rattle.share.specs.One.{shareRefusal, addRefusal}
 use Rattle.share.specs.Many.{sharesOf, fedMany, sharesRefusal, sharesBuffer, fedRefusal, fedBuffer, manyRefusal, manyBuffer, addManyRefusal, addManyBuffer}
 use Rattle.share.specs.Inner.{grounds}
 

@@ -24,7 +24,8 @@ use Rattle.layout.specs.declared.Layout.{Layout}
 use Rattle.layout.specs.Layout.{groups}
 use Rattle.codeword.specs.Codeword.{shapeOf}
 use Rattle.rule.specs.Rule.{shareSymbol}
-use Rattle.share.specs.Share.{shareOf, shareBuffer, partSymbol, fed, addBuffer}
+use Rattle.share.specs.Share.{shareOf, partSymbol}
+use Rattle.share.specs.One.{shareBuffer, fed, addBuffer}
 use Rattle.share.specs.Many.{sharesOf, sharesBuffer, partAt, fedMany, fedBuffer}
 use Rattle.share.proofs.Refusals.{one-refusal, one-add-refusal}
 

@@ -1,4 +1,5 @@
 pub mod Share
 pub mod Many
+pub mod One
 pub mod Inner
 pub mod Feeds

@@ -1,60 +1,27 @@
--- The share calls: document 01's share of a whole rack, and a share built up tray by tray.
+-- Document 01's share of a helper and a tray's part in it. What the share calls promise is in Many.antt.
 -- Assumes nothing.
-use mathlib.Core.Bool.{not, cond, _&&_}
 use mathlib.Core.List.{List}
-use Prim.Native.Nat.{ℕ, _*_, _/_, _%_}
-use lib.Dec.{eqb, ltb}
-use lib.ListN.{length, getD}
-use Rattle.lists.specs.Lists.{table, unless}
+use Prim.Native.Nat.{ℕ, _%_}
+use lib.ListN.{getD}
+use Rattle.lists.specs.Lists.{table}
 use Rattle.algebra.specs.Field.{Ops}
 use Rattle.algebra.specs.Sum.{pow}
 use Rattle.algebra.specs.Shape.{Field}
 use Rattle.algebra.specs.Points.{place}
 use Rattle.algebra.specs.Cabinet.{groupSum}
 use Rattle.layout.specs.declared.Layout.{Layout}
-use Rattle.layout.specs.Layout.{trays, layers, groups, admissible}
-use Rattle.range.specs.Range.{symbolsFrom}
+use Rattle.layout.specs.Layout.{groups}
 use Rattle.codeword.specs.Codeword.{shapeOf}
 use Rattle.rule.specs.Rule.{shareSymbol}
 
 module _ {A : Type 0} (f : Field A) (l : Layout) where
-  open Ops (f .ops) using (add, mul)
-
-  -- the refusal of a share, given the rack and the length of the room for the share; 0 for none. Every symbol of the rack is looked at
-  unfoldable pub shareRefusal : ℕ → ℕ → List ℕ → ℕ → ℕ
-  shareRefusal host helper rack room =
-      unless (admissible (f .order) l) 1
-      (unless (eqb (length rack) (l .size * layers l) && eqb room (groups l)) 2
-      (unless (ltb host (l .racks) && ltb helper (l .racks) && symbolsFrom f rack 0 (length rack)) 3
-      (unless (not (eqb host helper)) 6
-      0)))
-
-  -- the refusal of adding tray x's part to a share, given the tray and what the share holds; 0 for none. Every symbol of both is looked at
-  unfoldable pub addRefusal : ℕ → ℕ → List ℕ → List ℕ → ℕ
-  addRefusal host x symbols held =
-      unless (admissible (f .order) l) 1
-      (unless (eqb (length symbols) (layers l) && eqb (length held) (groups l)) 2
-      (unless (ltb host (l .racks) && ltb x (trays l) && (symbolsFrom f symbols 0 (length symbols) && symbolsFrom f held 0 (length held))) 3
-      (unless (not (eqb host (x / l .size))) 6
-      0)))
+  open Ops (f .ops) using (mul)
 
   -- a helper's share of weight m for the host rack h; document 01's has m = 0
   unfoldable pub shareOf : ℕ → ℕ → List ℕ → List ℕ
   shareOf m h rack = table (λ p. f .coding .val (shareSymbol f l m h rack p)) (groups l)
 
-  -- what the room for the share holds after the call
-  unfoldable pub shareBuffer : ℕ → ℕ → List ℕ → List ℕ → List ℕ
-  shareBuffer host helper rack out = cond (eqb (shareRefusal host helper rack (length out)) 0) (shareOf 0 host rack) out
-
   -- symbol p of tray x's part in its rack's share for the host rack h: the sum over the layers of group p of the tray's symbols, each times the m-th power
   -- of its place's factor; document 01's share has m = 0
   unfoldable pub partSymbol : ℕ → ℕ → ℕ → List ℕ → ℕ → A
   partSymbol m h x symbols p = groupSum (shapeOf f l) h p (λ j. mul (pow (f .ops) (place (shapeOf f l) (x % l .size)) m) (f .coding .elem (getD symbols j 0)))
-
-  -- what a share's buffer holds once tray x is fed: what it held, plus this tray's part
-  unfoldable pub fed : ℕ → ℕ → ℕ → List ℕ → List ℕ → List ℕ
-  fed m h x symbols held = table (λ p. f .coding .val (add (f .coding .elem (getD held p 0)) (partSymbol m h x symbols p))) (groups l)
-
-  -- what it holds after the call
-  unfoldable pub addBuffer : ℕ → ℕ → List ℕ → List ℕ → List ℕ
-  addBuffer host x symbols held = cond (eqb (addRefusal host x symbols held) 0) (fed 0 host x symbols held) held

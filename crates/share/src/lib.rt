@@ -16,7 +16,6 @@ ghost use lib.ListN.{length, getD};
 ghost use Rattle.symbol.specs.Elem.{gf256};
 ghost use Rattle.layout.specs.Layout.{groups, Cabinet};
 ghost use Rattle.range.specs.Range.{symbolsFrom};
-ghost use Rattle.share.specs.Share.{shareRefusal, shareBuffer, addRefusal, addBuffer};
 ghost use Rattle.share.specs.Many.{sharesOf, sharesRefusal, sharesBuffer, fedRefusal, fedBuffer, manyRefusal, manyBuffer, addManyRefusal, addManyBuffer};
 ghost use Rattle.share.specs.Inner.{grounds, RunsOf, InRuns, DigitAdded, DigitsAdded, Summing, sumAt, Summed, Added, Weighing, Feeding, Gathering};
 
@@ -269,8 +268,8 @@ pub fn share_add_many(
 
 // For document 01's share: one share, of weight 0, with either E.
 pub fn share_add(l: Layout, host: Rack, tray: Tray, symbols: &[u8], share: &mut [u8]) -> u8
-    ensures answer { λ r. ⌜ r ≡ addRefusal gf256 l (host .0) (tray .0) (now (symbols .entry)) (now (share .entry)) ⌝ }
-    ensures buffer { λ _. ⌜ now (share .exit) ≡ addBuffer gf256 l (host .0) (tray .0) (now (symbols .entry)) (now (share .entry)) ⌝ }
+    ensures answer { λ r. ⌜ r ≡ fedRefusal gf256 l 1 (host .0) (tray .0) (now (symbols .entry)) (now (share .entry)) ⌝ }
+    ensures buffer { λ _. ⌜ now (share .exit) ≡ fedBuffer gf256 l 1 (host .0) (tray .0) (now (symbols .entry)) (now (share .entry)) ⌝ }
 {
     feed_tray(l, 1, host, tray, symbols, share)
 }
@@ -333,8 +332,8 @@ pub fn share_many(
 
 // For document 01's share: one share, of weight 0, with either E.
 pub fn share(l: Layout, host: Rack, helper: Rack, rack: &[u8], out: &mut [u8]) -> u8
-    ensures answer { λ r. ⌜ r ≡ shareRefusal gf256 l (host .0) (helper .0) (now (rack .entry)) (length (now (out .entry))) ⌝ }
-    ensures buffer { λ _. ⌜ now (out .exit) ≡ shareBuffer gf256 l (host .0) (helper .0) (now (rack .entry)) (now (out .entry)) ⌝ }
+    ensures answer { λ r. ⌜ r ≡ sharesRefusal gf256 l 1 (host .0) (helper .0) (now (rack .entry)) (length (now (out .entry))) ⌝ }
+    ensures buffer { λ _. ⌜ now (out .exit) ≡ sharesBuffer gf256 l 1 (host .0) (helper .0) (now (rack .entry)) (now (out .entry)) ⌝ }
 {
     make_shares(l, 1, host, helper, rack, out)
 }

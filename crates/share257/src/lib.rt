@@ -17,7 +17,6 @@ ghost use lib.ListN.{length, getD};
 ghost use Rattle.symbol257.specs.Elem.{gf257};
 ghost use Rattle.layout.specs.Layout.{groups, Cabinet};
 ghost use Rattle.range.specs.Range.{symbolsFrom};
-ghost use Rattle.share.specs.Share.{shareRefusal, shareBuffer, addRefusal, addBuffer};
 ghost use Rattle.share.specs.Many.{sharesOf, sharesRefusal, sharesBuffer, fedRefusal, fedBuffer, manyRefusal, manyBuffer, addManyRefusal, addManyBuffer};
 ghost use Rattle.share.specs.Inner.{grounds, RunsOf, InRuns, DigitAdded, DigitsAdded, Summing, sumAt, Summed, Added, Weighing, Feeding, Gathering};
 
@@ -293,8 +292,8 @@ pub fn share_add_many(
 
 // For document 01's share: one share, of weight 0, with either E.
 pub fn share_add(l: Layout, host: Rack, tray: Tray, symbols: &[u16], share: &mut [u16]) -> u8
-    ensures answer { λ r. ⌜ r ≡ addRefusal gf257 l (host .0) (tray .0) (now (symbols .entry)) (now (share .entry)) ⌝ }
-    ensures buffer { λ _. ⌜ now (share .exit) ≡ addBuffer gf257 l (host .0) (tray .0) (now (symbols .entry)) (now (share .entry)) ⌝ }
+    ensures answer { λ r. ⌜ r ≡ fedRefusal gf257 l 1 (host .0) (tray .0) (now (symbols .entry)) (now (share .entry)) ⌝ }
+    ensures buffer { λ _. ⌜ now (share .exit) ≡ fedBuffer gf257 l 1 (host .0) (tray .0) (now (symbols .entry)) (now (share .entry)) ⌝ }
 {
     feed_tray(l, 1, host, tray, symbols, share)
 }
@@ -357,8 +356,8 @@ pub fn share_many(
 
 // For document 01's share: one share, of weight 0, with either E.
 pub fn share(l: Layout, host: Rack, helper: Rack, rack: &[u16], out: &mut [u16]) -> u8
-    ensures answer { λ r. ⌜ r ≡ shareRefusal gf257 l (host .0) (helper .0) (now (rack .entry)) (length (now (out .entry))) ⌝ }
-    ensures buffer { λ _. ⌜ now (out .exit) ≡ shareBuffer gf257 l (host .0) (helper .0) (now (rack .entry)) (now (out .entry)) ⌝ }
+    ensures answer { λ r. ⌜ r ≡ sharesRefusal gf257 l 1 (host .0) (helper .0) (now (rack .entry)) (length (now (out .entry))) ⌝ }
+    ensures buffer { λ _. ⌜ now (out .exit) ≡ sharesBuffer gf257 l 1 (host .0) (helper .0) (now (rack .entry)) (now (out .entry)) ⌝ }
 {
     make_shares(l, 1, host, helper, rack, out)
 }

@@ -124,7 +124,8 @@ unfolding copied
 begins-of given was is n e r = record { at = λ i h. subst (λ k. getD is k 0 ≡ getD given k 0) (zero-add i) (r .done i (omega arith)) }
 
 -- what the code leaves
-module _ {A : Type 0} {f : Field A} (W : Working f) (l : Layout) (a : Admissible (f .order) l) (given : List ℕ) (given-long : length given ≡ l .dimension * layers l) (range : InRange (f .coding) given) where
+module _ {A : Type 0} {f : Field A} (W : Working f) (l : Layout) (a : Admissible (f .order) l) (given : List ℕ) (given-long : length given ≡ l .dimension * layers l)
+    (range : InRange (f .coding) given) where
   few : l .dimension ≤ trays l
   few = dimension-in l (a .cabinet)
 
@@ -144,5 +145,6 @@ module _ {A : Type 0} {f : Field A} (W : Working f) (l : Layout) (a : Admissible
     pub stores : RestoredTo f l (parityTrays l) c (layers l) d → Stores f l given d
     stores r =
         begin f l u few given given-long c room front d
-        (restores f l u (parityTrays l) c (parity-listed l few) d room (r .long) (restored-range f l (parityTrays l) c d (layers-pos f l u) room r old) (λ x j hx hj. r .kept x j hj) (r .done)
+        (restores f l u (parityTrays l) c (parity-listed l few) d room (r .long) (restored-range f l (parityTrays l) c d (layers-pos f l u) room r old)
+        (λ x j hx hj. r .kept x j hj) (r .done)
         (fits f l u few given given-long c))

@@ -99,7 +99,8 @@ module _ {A : Type 0} {f : Field A} (W : Working f) where
 
     -- so what the solver gives, less the weight of the host's point, is the host's sum
     pub solved-is : (a : ℕ) → a < digits l →
-        ops .mul (ops .inv (pow ops (point (shapeOf f l) h a 0) m)) (solve ops (unknownPoint f l h p helpers) (parityRacks l) (λ t. ops .neg (rightSide f l h p helpers shares e m t)) a) ≡ sumAt f l h p helpers shares e m a
+        ops .mul (ops .inv (pow ops (point (shapeOf f l) h a 0) m)) (solve ops (unknownPoint f l h p helpers) (parityRacks l)
+        (λ t. ops .neg (rightSide f l h p helpers shares e m t)) a) ≡ sumAt f l h p helpers shares e m a
     unfolding sumAt hostSum erased known unknownPoint placePoint n K Q Y Told
     solved-is a k =
         let inside : a < parityRacks l = omega (arith, digits-under l adm) in

@@ -32,7 +32,8 @@ use Rattle.sums.specs.Inner.{helperAt, placePoint, unknownPoint, Chosen,
 use Rattle.sums.proofs.Steps.{rack-point, other-in, unknowns-high}
 use Rattle.sums.proofs.Sides.{width-pos}
 
-pub unknown-below : (l : Layout) (h : ℕ) (helpers : List ℕ) (x s n i : ℕ) → Cabinet l → l .errors ≡ 0 → x ≡ free (helperPlace s h (helperAt helpers)) n i → n ≡ l .helpers → i < parityRacks l → x < digits l + (l .racks - 1)
+pub unknown-below : (l : Layout) (h : ℕ) (helpers : List ℕ) (x s n i : ℕ) → Cabinet l → l .errors ≡ 0 → x ≡ free (helperPlace s h (helperAt helpers)) n i →
+    n ≡ l .helpers → i < parityRacks l → x < digits l + (l .racks - 1)
 unknown-below l h helpers x s n i a z e en k = omega (arith, e, free-below (helperPlace s h (helperAt helpers)) (parityRacks l) n i k, en, total-plain l a z)
 
 module _ {A : Type 0} {f : Field A} (W : Working f) where
@@ -48,7 +49,8 @@ module _ {A : Type 0} {f : Field A} (W : Working f) where
     pub point-host : (q x : ℕ) (e : A) → x < digits l → e ≡ pow ops (point (shapeOf f l) h x 0) (l .size) → e ≡ placePoint f l h q x
     point-host q x e k ee = ee ∙ sym (host-point q x k)
 
-    pub point-other : (p x s i : ℕ) (e : A) → s ≤ x → s ≡ digits l → i ≡ skip h (x - s) → e ≡ pow ops (pointAt f l (layerOf (digits l) h p 0) (i * l .size)) (l .size) → e ≡ placePoint f l h p x
+    pub point-other : (p x s i : ℕ) (e : A) → s ≤ x → s ≡ digits l → i ≡ skip h (x - s) → e ≡ pow ops (pointAt f l (layerOf (digits l) h p 0) (i * l .size))
+        (l .size) → e ≡ placePoint f l h p x
     unfolding placePoint groupPoint
     point-other p x s i e k es ei ee =
         ee ∙ ap (λ n. pow ops (pointAt f l (layerOf (digits l) h p 0) (n * l .size)) (l .size)) (ei ∙ ap (λ n. skip h (x - n)) es)
@@ -68,7 +70,8 @@ module _ {A : Type 0} {f : Field A} (W : Working f) where
       at-group : (p : ℕ) → placePoint f l h p x ≡ unknownPoint f l h p helpers i
       at-group p = unknown-is p x s (length helpers) i ex es (g .chosen .many)
 
-      pub host-row : (p : ℕ) (is : List ℕ) → x < s → elem p ≡ pow ops (point (shapeOf f l) h x 0) (l .size) → Run (filled p) points is (i * v) v → PointRow f l h first helpers v run i points is
+      pub host-row : (p : ℕ) (is : List ℕ) → x < s → elem p ≡ pow ops (point (shapeOf f l) h x 0) (l .size) → Run (filled p) points is (i * v) v →
+          PointRow f l h first helpers v run i points is
       unfolding filled
       host-row p is k ep z = record {
         here = λ c q. sym (cell-is f v is i c) ∙ ap elem (z .done c q) ∙ point-host l a h (first + c * run) x (elem p) (omega arith) ep ∙ at-group (first + c * run);
@@ -138,7 +141,8 @@ module _ {A : Type 0} {f : Field A} (W : Working f) where
         alike = λ i j hi hj. alike i (first + j / w % 1 * w) (first + j) hi;
       }
 
-  pub pointed-of : (l : Layout) (h w first : ℕ) (helpers : List ℕ) (v run : ℕ) (sides found points coefs row : List ℕ) → Chosen l h helpers → Groups l w first → Cycle f l h w first helpers v run →
+  pub pointed-of : (l : Layout) (h w first : ℕ) (helpers : List ℕ) (v run : ℕ) (sides found points coefs row : List ℕ) → Chosen l h helpers → Groups l w first →
+      Cycle f l h w first helpers v run →
       Workspace l w sides found points coefs row → Pointed l h w first helpers v run points row
   pointed-of l h w first helpers v run sides found points coefs row ch b g k = record {
     chosen = ch;

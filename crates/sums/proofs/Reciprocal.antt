@@ -42,7 +42,8 @@ module _ {A : Type 0} {f : Field A} (W : Working f) where
       go (yes z) =
           ap (λ y. pow ops y (order - 1)) z ∙ ap (pow ops (ops .zero)) before-last ∙ pow-suc ops (ops .zero) (order - 2) ∙ zero-mul ops laws _
           ∙ sym (W .inv-zero) ∙ ap (ops .inv) (sym z)
-      go (no d) = mul-cancel ops laws (elem x) _ _ d (sym (whole (elem x)) ∙ ap (λ y. pow ops y order) is ∙ full (W .log (reduced f x)) ∙ sym (times-comm ops laws _ _ ∙ laws .inv-mul (elem x) d))
+      go (no d) = mul-cancel ops laws (elem x) _ _ d (sym (whole (elem x)) ∙ ap (λ y. pow ops y order) is ∙ full (W .log (reduced f x))
+          ∙ sym (times-comm ops laws _ _ ∙ laws .inv-mul (elem x) d))
         where
           some : 0 < reduced f x
           some = ⊎-elim (λ q. absurd (d (sym (elem-reduced W x) ∙ ap elem q ∙ elem-zero W))) (λ q. q) (eq-zero-or-pos (reduced f x))

@@ -47,14 +47,16 @@ module _ {A : Type 0} {f : Field A} (W : Working f) where
         place j = ap (λ y. y + j) (ea ∙ ap (λ n. (k * e + m) * n + first) en) ∙ add-assoc ((k * e + m) * groups l) first j
 
         go : (j : ℕ) → j < w →
-            elem (getD cur″ j 0) ≡ ops .mul (pow ops (pointAt f l (layerOf (digits l) h (first + j) 0) (getD helpers k 0 * l .size)) m) (elem (getD shares ((k * e + m) * groups l + (first + j)) 0))
+            elem (getD cur″ j 0) ≡ ops .mul (pow ops (pointAt f l (layerOf (digits l) h (first + j) 0) (getD helpers k 0 * l .size)) m)
+            (elem (getD shares ((k * e + m) * groups l + (first + j)) 0))
         go j q =
             ap (λ i. elem (getD cur″ i 0)) (sym (zero-add j)) ∙ ap elem (p .done j q ∙ ap (λ (y : ℕ). plus f y (times f (getD shares (at + j) 0) (getD row (0 + j) 0))) (z .done j q))
             ∙ elem-plus W 0 (times f (getD shares (at + j) 0) (getD row (0 + j) 0)) ∙ ap₂ (ops .add) (elem-zero W) (elem-times W (getD shares (at + j) 0) (getD row (0 + j) 0))
             ∙ nothing-add ops laws _ ∙ mul-comm ops laws _ _
             ∙ ap₂ (ops .mul) (ap (λ i. elem (getD row i 0)) (zero-add j) ∙ pm .at j q) (ap (λ y. elem (getD shares y 0)) (place j))
 
-    pub terms-plain : (n at : ℕ) (cur is : List ℕ) → n ≡ groups l → at ≡ (k * e + m) * n + first → m ≡ 0 → Run (copied shares at) cur is 0 w → ShareTerms f l h w first helpers shares e m k is
+    pub terms-plain : (n at : ℕ) (cur is : List ℕ) → n ≡ groups l → at ≡ (k * e + m) * n + first → m ≡ 0 → Run (copied shares at) cur is 0 w →
+        ShareTerms f l h w first helpers shares e m k is
     unfolding copied sentSymbol
     terms-plain n at cur is en ea em z = record {
       at = λ j q.
@@ -93,7 +95,8 @@ module _ {A : Type 0} {f : Field A} (W : Working f) where
           ∙ sym (sum-add-one ops k (sideTerm f l h (first + j) helpers shares e m t));
     }
 
-    pub sides-end : (k n : ℕ) (sides : List ℕ) → SidesTo f l h w first helpers shares e m k sides → k ≤ n → n ≤ k → n ≡ l .helpers → SidesTo f l h w first helpers shares e m (l .helpers) sides
+    pub sides-end : (k n : ℕ) (sides : List ℕ) → SidesTo f l h w first helpers shares e m k sides → k ≤ n → n ≤ k → n ≡ l .helpers →
+        SidesTo f l h w first helpers shares e m (l .helpers) sides
     sides-end k n sides s a b c = let q : k ≡ l .helpers = omega arith in subst (λ y. SidesTo f l h w first helpers shares e m y sides) q s
 
 -- ---- places
@@ -152,7 +155,8 @@ module _ (l : Layout) (h w first : ℕ) (helpers shares : List ℕ) (e m k : ℕ
   pub row-next : (row′ : List ℕ) → length row′ ≡ length row → w ≤ length row′
   row-next row′ e = rw e (g .row-long)
 
-module _ (l : Layout) (h w first : ℕ) (helpers shares : List ℕ) (e m : ℕ) (sides cur row : List ℕ) (g : Sharing l h w first helpers shares e m cur row) (room : parityRacks l * w ≤ length sides) where
+module _ (l : Layout) (h w first : ℕ) (helpers shares : List ℕ) (e m : ℕ) (sides cur row : List ℕ) (g : Sharing l h w first helpers shares e m cur row)
+    (room : parityRacks l * w ≤ length sides) where
   pub sides-high : (r : ℕ) → r ≡ parityRacks l → Fits w64 (length sides) → Fits w64 (r * w)
   sides-high r er f = let t : r * w ≡ parityRacks l * w = ap (λ n. n * w) er in omega arith
 

@@ -28,7 +28,7 @@ use Rattle.algebra.specs.Shape.{Field, FieldLaws}
 use Rattle.algebra.specs.Plain.{rootPower, Working}
 use Rattle.algebra.proofs.Plain.{elem-rootPower}
 use Rattle.layout.specs.declared.Layout.{Layout}
-use Rattle.layout.specs.Layout.{trays, digits, groups, parityRacks, trayLimit, Cabinet}
+use Rattle.layout.specs.Layout.{digits, groups, parityRacks, trayLimit, Cabinet}
 use Rattle.layout.proofs.Facts.{bounds}
 use Rattle.layout.proofs.Numbers.{total, digits-small}
 use Rattle.codeword.specs.Codeword.{shapeOf, pointAt}
@@ -106,9 +106,6 @@ pub digit-in : (h i n at : ℕ) → at ≡ unskip h i → h < n → i < n → ¬
 digit-in h i n at e a b c = let q = unskip-below h i (n - 1) (omega arith) (omega arith) c in omega arith
 
 module _ (l : Layout) (a : Cabinet l) where
-  pub tray-in : (i : ℕ) → i < l .racks → i * l .size < trays l
-  tray-in i h = omega (arith, cell-in (l .racks) (l .size) i 0 h (bounds l a .size-low))
-
   pub other-in : (h x s i : ℕ) → s ≡ digits l → s ≤ x → x < digits l + (l .racks - 1) → i ≡ skip h (x - s) → i < l .racks
   other-in h x s i es k m ei = omega (arith, ei, a .racks-low, skip-below h (x - s) (l .racks - 1) (omega arith))
 
@@ -148,7 +145,8 @@ module _ {A : Type 0} {f : Field A} (W : Working f) where
       go : (j : ℕ) → j < w → elem (getD row j 0) ≡ pow ops (pointAt f l (layerOf (digits l) h (first + j) 0) (i * l .size)) t
       go j k =
           d .at j k
-          ∙ ap₂ (λ y x. ops .mul (pow ops y (digit (digits l) (first + j) at)) x) (ap elem ez ∙ elem-rootPower W t) (e0 ∙ sym (pow-mul ops laws root (i * digits l + 0 + 0 * (order / l .size)) t))
+          ∙ ap₂ (λ y x. ops .mul (pow ops y (digit (digits l) (first + j) at)) x) (ap elem ez ∙ elem-rootPower W t)
+          (e0 ∙ sym (pow-mul ops laws root (i * digits l + 0 + 0 * (order / l .size)) t))
           ∙ ap (λ n. ops .mul (pow ops (pow ops root t) n) (pow ops root ((i * digits l + 0 + 0 * (order / l .size)) * t)))
           (ap (digit (digits l) (first + j)) ea ∙ sym (group-digit-is (digits l) h (first + j) (bounds l (b .adm) .digits-low) i other))
           ∙ together (digit (digits l) (layerOf (digits l) h (first + j) 0) i)

@@ -15,7 +15,7 @@ use Rattle.algebra.specs.Shape.{Root, FieldLaws}
 use Rattle.algebra.proofs.Pow.{pow-zero, pow-suc}
 use Rattle.symbol.specs.Arithmetic.{_⊕_, _⊗_, mulz, shiftAdd, power, zpow, root, order}
 use Rattle.symbol.specs.Elem.{Elem, elem, squares, ops, z, coding, gf256}
-use Rattle.symbol.proofs.Xor.{⊕-comm, ⊕-assoc, zero-⊕, ⊕-self, ⊕-lt, ⊕-mod, ⊕-eq}
+use Rattle.symbol.proofs.Xor.{⊕-comm, ⊕-assoc, zero-⊕, ⊕-self, ⊕-lt, ⊕-mod}
 use Rattle.symbol.proofs.Laws.{⊗-comm, ⊗-assoc, ⊗-⊕, ⊗-lt, one-⊗}
 use Rattle.symbol.proofs.Power.{power-zero, power-suc, power-lt, power-square, power-zpow, zpow-lt}
 use Rattle.symbol.proofs.Tables.{zpow-log, zpow-turns, zpow-inj, zpow-order, log, ⊗-cancel, by-log}
@@ -36,9 +36,6 @@ val-mod n = refl
 
 pub val-elem : (n : ℕ) → n < 256 → (elem n) .val ≡ n
 val-elem n h = val-mod n ∙ mod-eq-of-lt h
-
-pub elem-same : {m n : ℕ} → m < 256 → n < 256 → elem m ≡ elem n → m ≡ n
-elem-same {m} {n} h l e = sym (val-elem m h) ∙ ap (λ x. x .val) e ∙ val-elem n l
 
 -- ---- the operations, by values
 pub val-add : (x y : Elem) → (ops .add x y) .val ≡ x .val ⊕ y .val
@@ -89,10 +86,6 @@ elem-power x (suc n) = ap elem (power-suc x n) ∙ elem-⊗ x (power x n) ∙ ap
 pub elem-zpow : (n : ℕ) → elem (zpow n) ≡ pow ops z n
 unfolding zpow
 elem-zpow n = elem-power root n
-
--- a number is zero where its element is
-pub elem-nil : {n : ℕ} → n < 256 → elem n ≡ ops .zero → n ≡ 0
-elem-nil {n} h e = elem-same h (lit< tt) (e ∙ sym elem-zero)
 
 -- ---- the inverse
 twos : ℕ → ℕ
@@ -175,10 +168,6 @@ root-order = record {
   full = elem-path _ _ (val-pow 255 ∙ zpow-order ∙ sym val-one);
   apart = λ a b h k e. zpow-inj h k (sym (val-pow a) ∙ ap (λ x. x .val) e ∙ val-pow b);
 }
-
--- two different elements differ as numbers
-pub differ : (a b : ℕ) → a < 256 → b < 256 → ¬ (elem a ≡ elem b) → 0 < a ⊕ b
-differ a b h l d = ⊎-elim (λ e. absurd (d (ap elem (⊕-eq e)))) (λ p. p) (eq-zero-or-pos (a ⊕ b))
 
 -- what every theorem over a field asks of it
 pub gf256-laws : FieldLaws gf256

@@ -2,15 +2,15 @@
 -- Assumes nothing.
 use mathlib.Core.Path.{_≡_, refl, sym, ap, ap₂, _∙_}
 use mathlib.Core.Bool.{Bool}
-use Prim.Native.Nat.{ℕ, zero, suc, _*_, _/_, _%_, _^_, _≤_, _<_}
-use native.Mathlib.Nat.{mod-lt, zero-lt-suc, zero-mul, one-mul, mul-zero, div-eq-of-lt, mod-eq-of-lt}
+use Prim.Native.Nat.{ℕ, zero, suc, _*_, _/_, _%_, _^_, _<_}
+use native.Mathlib.Nat.{mod-lt, zero-lt-suc, zero-mul, one-mul, mul-zero, mod-eq-of-lt}
 use native.Mathlib.Numerals.{add-one}
 use lib.Pow.{field, mod-mod-pow}
 use native.Mathlib.Omega.{arith}
 use lib.Dec.{T, eqb, ltb, eqb→eq, ltb→lt, lit<}
 use Rattle.symbol.specs.Arithmetic.{_⊕_, polynomial, mulz, shiftAdd, _⊗_}
 use Rattle.lists.proofs.Computed.{all-below}
-use Rattle.symbol.proofs.Xor.{zero-⊕, ⊕-zero, ⊕-lt, ⊕-half, ⊕-shr, ⊕-mod, ⊕-bit, bit-⊕, ⊕-double, ⊕-swap}
+use Rattle.symbol.proofs.Xor.{zero-⊕, ⊕-lt, ⊕-half, ⊕-shr, ⊕-mod, ⊕-bit, bit-⊕, ⊕-double, ⊕-swap}
 
 -- ---- z times a symbol
 
@@ -184,15 +184,3 @@ root-⊗ {b} h = ⊗-comm 2 b ∙ ap (λ (x : ℕ). b ⊗ x) z ∙ ⊗-mulz b (l
   where
     z : _≡_ {A = ℕ} 2 (mulz 1)
     z = unfold mulz _⊕_ in refl
-
--- in which the polynomial is taken off where a bit went over the top
-pub mulz-low : {b : ℕ} → b < 128 → mulz b ≡ b * 2
-unfolding mulz
-mulz-low {b} h = ap (λ (x : ℕ). b * 2 ⊕ x) (ap (λ (x : ℕ). x % 2 * polynomial) (div-eq-of-lt h)) ∙ ⊕-zero (b * 2)
-
-pub mulz-high : {b : ℕ} → 128 ≤ b → b < 256 → mulz b ≡ b * 2 ⊕ polynomial
-unfolding mulz
-mulz-high {b} l h = ap (λ (x : ℕ). b * 2 ⊕ x % 2 * polynomial) one
-  where
-    one : b / 128 ≡ 1
-    one = omega arith

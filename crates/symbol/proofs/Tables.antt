@@ -1,10 +1,10 @@
 -- The powers of the root and their logarithms: the two tables of src/, their rule and their inverse relation, each proved by one test that antt computes.
 -- Assumes nothing.
-use mathlib.Core.Path.{_≡_, refl, sym, ap, ap₂, _∙_, subst}
+use mathlib.Core.Path.{_≡_, refl, sym, ap, ap₂, _∙_}
 use mathlib.Core.Bool.{Bool, true}
 use mathlib.Core.List.{List, [], _∷_}
 use Prim.Native.Nat.{ℕ, zero, suc, _*_, _-_, _/_, _%_, _<_}
-use native.Mathlib.Nat.{zero-add, zero-lt-suc, zero-mul, suc-mul, div-add-mod', mod-lt, add-sub-of-le, le-of-lt}
+use native.Mathlib.Nat.{zero-add, zero-mul, suc-mul, div-add-mod', add-sub-of-le, le-of-lt}
 use native.Mathlib.Omega.{arith}
 use lib.Dec.{T, eqb, ltb, eqb→eq, ltb→lt, lit<}
 use lib.ListN.{length, getD}
@@ -136,13 +136,6 @@ pub zpow-mod : (i : ℕ) → zpow (i % 255) ≡ zpow i
 zpow-mod i =
     sym (one-⊗ (zpow-lt (i % 255))) ∙ ap (λ (x : ℕ). x ⊗ zpow (i % 255)) (sym (zpow-turns (i / 255)))
     ∙ sym (zpow-add (i / 255 * 255) (i % 255)) ∙ ap zpow (div-add-mod' i 255)
-
-pub zpow-pos : (i : ℕ) → 0 < zpow i
-zpow-pos i = subst (λ (x : ℕ). 0 < x) (powers-rule (i % 255) l ∙ zpow-mod i)
-    (ltb→lt 0 (getD powers (i % 255) 0) (both-left (ltb 0 (getD powers (i % 255) 0)) (eqb (log (getD powers (i % 255) 0)) (i % 255)) (place-holds (i % 255) l)))
-  where
-    l : i % 255 < 255
-    l = mod-lt i (zero-lt-suc 254)
 
 -- ---- what the tables say of the product
 

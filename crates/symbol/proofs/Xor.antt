@@ -125,9 +125,3 @@ pub ⊕-swap : (a b c d : ℕ) → a ⊕ b ⊕ (c ⊕ d) ≡ a ⊕ c ⊕ (b ⊕ 
 
 pub ⊕-twice : (a b : ℕ) → a ⊕ (a ⊕ b) ≡ b
 ⊕-twice a b = sym (⊕-assoc a a b) ∙ ap (λ (x : ℕ). x ⊕ b) (⊕-self a) ∙ zero-⊕ b
-
-pub ⊕-cancel : (a : ℕ) {b c : ℕ} → a ⊕ b ≡ a ⊕ c → b ≡ c
-⊕-cancel a {b} {c} e = sym (⊕-twice a b) ∙ ap (λ (x : ℕ). a ⊕ x) e ∙ ⊕-twice a c
-
-pub ⊕-eq : {a b : ℕ} → a ⊕ b ≡ 0 → a ≡ b
-⊕-eq {a} {b} e = ⊕-cancel b (⊕-comm b a ∙ e ∙ sym (⊕-self b))

@@ -31,4 +31,5 @@ choose-spec =
           (chosen-at (a .erased .now) (a .from .now) (c .before .before .before .loop .i) _ (c .before .survivor .ensures .0)),
     ))
     (λ c. c .before .loop .inv .1 .same)
-    (λ c. let a = c .before .before .before .before .before .args in chosen-is (a .erased .now) (a .from .now) _ _ (c .before .loop .i) (search needs) (omega arith) (c .before .loop .inv .1)))
+    (λ c. let a = c .before .before .before .before .before .args in chosen-is (a .erased .now) (a .from .now) _ _ (c .before .loop .i) (search needs) (omega arith)
+    (c .before .loop .inv .1)))

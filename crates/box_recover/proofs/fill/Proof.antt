@@ -20,7 +20,8 @@ fill-spec =
     (λ c. (omega arith, fill-none _ _ _))
     (λ c. search needs)
     (λ c. search needs)
-    (λ c. let b = entry-in (c .before .before .before .args .erased .now) (c .before .before .loop .k) 16 (c .before .before .before .pre .0) (omega arith) refl in record { fits = omega (arith, b) })
+    (λ c. let b = entry-in (c .before .before .before .args .erased .now) (c .before .before .loop .k) 16 (c .before .before .before .pre .0) (omega arith) refl in
+    record { fits = omega (arith, b) })
     (λ c. entry-in (c .before .before .before .before .args .erased .now) (c .before .before .before .loop .k) _ (c .before .before .before .before .pre .0) (omega arith)
     (c .before .before .before .before .pre .1))
     (λ c. entry-in (c .before .before .before .before .args .erased .now) (c .before .before .before .loop .k) _ (c .before .before .before .before .pre .0) (omega arith)

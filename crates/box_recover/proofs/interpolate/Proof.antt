@@ -30,4 +30,5 @@ interpolate-spec =
           (c .before .before .before .all-points .ensures) (c .through .ensures)),
     ))
     (λ c. c .before .loop .inv .1 .same)
-    (λ c. let a = c .before .before .before .before .before .before .args in values-are (a .at .now) (a .values .now) _ _ (c .before .loop .x) (search needs) (omega arith) (c .before .loop .inv .1)))
+    (λ c. let a = c .before .before .before .before .before .before .args in values-are (a .at .now) (a .values .now) _ _ (c .before .loop .x) (search needs)
+    (omega arith) (c .before .loop .inv .1)))

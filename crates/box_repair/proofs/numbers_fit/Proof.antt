@@ -12,7 +12,8 @@ numbers-fit-spec = tie.close (tie.spec
     (λ c κs. search needs)
     (λ c. fit-helpers _ _ _ _ (omega arith) (told-false (c .before .all-below .ensures) (c .if2 .taken)))
     (λ c κs. search needs)
-    (λ c. fit-shares _ _ _ _ (omega arith) (told-true (c .before .before .before .all-below .ensures) (c .before .before .if2 .left)) (told-false (c .before .all-symbols .ensures) (c .if3 .taken)))
+    (λ c. fit-shares _ _ _ _ (omega arith) (told-true (c .before .before .before .all-below .ensures) (c .before .before .if2 .left))
+    (told-false (c .before .all-symbols .ensures) (c .if3 .taken)))
     (λ c κs. search needs)
     (λ c. fit-rack _ _ _ _ (omega arith) (told-true (c .before .before .before .before .all-below .ensures) (c .before .before .before .if2 .left)) _
     (told-true (c .before .before .all-symbols .ensures) (c .before .if3 .left)) (c .others-below .ensures)))

@@ -27,7 +27,12 @@ refusal-spec =
     (λ c. search stop-3-tray)
     (λ c κs. search needs)
     (λ c. search stop-3-helpers)
-    (λ c κs. (search (cabinet-so (gf257 .order)), long-so _ _ _ _ (c .before .before .before .before .before .if3 .left) (c .before .before .before .before .before .before .before .before .layer-count .ensures)))
+    (λ c κs. (
+      search (cabinet-so (gf257 .order)),
+      let c1 = c .before .before .before .before .before in
+          let c2 = c1 .before .before .before in
+          long-so _ _ _ _ (c1 .if3 .left) (c2 .layer-count .ensures),
+    ))
     (λ c. search stop-3-symbols)
     (λ c κs. search needs)
     (λ c. search stop-4)

@@ -26,5 +26,10 @@ one-rack-spec =
     (λ c. rack-false _ _ (c .before .before .before .before .loop .i) (omega arith) (c .if1 .taken))
     (λ c. search needs)
     (λ c. search needs)
-    (λ c. (omega arith, rack-more (c .before .before .before .before .before .args .lost .now) (c .before .before .before .before .before .args .l .size) (c .before .before .before .before .loop .i) (c .before .before .before .before .loop .inv .1) (c .if1 .left)))
+    (λ c. (
+      omega arith,
+      let c1 = c .before .before .before .before in
+          let c2 = c1 .before in
+          rack-more (c2 .args .lost .now) (c2 .args .l .size) (c1 .loop .i) (c1 .loop .inv .1) (c .if1 .left),
+    ))
     (λ c. rack-true _ _ (λ k h. c .before .loop .inv .1 k (omega arith))))

@@ -11,7 +11,9 @@ use Rattle.group.proofs.mend_block.Statement.{statement}
 use Rattle.group.proofs.mend_block.Tie as tie
 
 abbrev Inv-loop : tie.InvT-loop
-Inv-loop l h lost host w first sums rests₀ found₀ places coefs₀ row₀ cur₀ table spare₀ s a₀ rests found coefs row cur spare a = (a ≤ s) × (length rests ≡ length rests₀) × (length found ≡ length found₀) × (length coefs ≡ length coefs₀) × (length row ≡ length row₀) × (length cur ≡ length cur₀) × (length spare ≡ length spare₀) × BlockMended gf256 l h lost host w first sums a spare₀ spare
+Inv-loop l h lost host w first sums rests₀ found₀ places coefs₀ row₀ cur₀ table spare₀ s a₀ rests found coefs row cur spare a = (a ≤ s)
+    × (length rests ≡ length rests₀) × (length found ≡ length found₀) × (length coefs ≡ length coefs₀) × (length row ≡ length row₀) × (length cur ≡ length cur₀)
+    × (length spare ≡ length spare₀) × BlockMended gf256 l h lost host w first sums a spare₀ spare
 
 abbrev μ-loop : tie.MeasureT-loop
 μ-loop l h lost host w first sums rests₀ found₀ places coefs₀ row₀ cur₀ table spare₀ s a₀ rests found coefs row cur spare a = s - a
@@ -34,7 +36,8 @@ mend-block-spec =
     let t : k .a < c5 .digit-count .result = c1 .loop-test .taken in (
       s .pre .0,
       rw (sym (c5 .digit-count .ensures)) t,
-      space-next (length (a .lost .now)) (a .w) (a .rests .now) (a .found .now) (a .places .now) (a .coefs .now) (a .row .now) (a .cur .now) (k .rests) (k .found) (c4 .fill-places .last .1 .1 .0) (k .coefs) (k .row) (k .cur)
+      space-next (length (a .lost .now)) (a .w) (a .rests .now) (a .found .now) (a .places .now) (a .coefs .now) (a .row .now) (a .cur .now) (k .rests) (k .found)
+          (c4 .fill-places .last .1 .1 .0) (k .coefs) (k .row) (k .cur)
           (s .pre .1) (k .inv .1) (k .inv .2) (c3 .places .given) (k .inv .3) (k .inv .4) (k .inv .5),
       c4 .fill-places .ensures,
       k .inv .6 ∙ s .pre .2,
@@ -64,7 +67,8 @@ mend-block-spec =
       c2 .row .given ∙ k .inv .4,
       c1 .cur .given ∙ k .inv .5,
       c .before .spare .given ∙ k .inv .6,
-      mended-more working (a .l) (a .h) (a .lost .now) (a .host .now) (a .w) (a .first) (a .sums .now) (a .table .now) (k .a) (a .spare .now) (k .spare) (d .last .1 .1 .1 .1 .1 .1 .1 .1 .1 .1 .1 .1 .1 .1 .1 .0) (s .pre .0) (rw (sym (c9 .digit-count .ensures)) t) (k .inv .7) (d .ensures),
+      mended-more working (a .l) (a .h) (a .lost .now) (a .host .now) (a .w) (a .first) (a .sums .now) (a .table .now) (k .a) (a .spare .now) (k .spare)
+          (d .last .1 .1 .1 .1 .1 .1 .1 .1 .1 .1 .1 .1 .1 .1 .1 .0) (s .pre .0) (rw (sym (c9 .digit-count .ensures)) t) (k .inv .7) (d .ensures),
     ))
     (λ c. search needs)
     (λ c. search needs)

@@ -27,5 +27,6 @@ place-terms-spec =
     let c5 = c4 .before .before .before in
     let s = c5 .before .before .before .before .before in
     let a = s .args in
-    terms-of working (a .l) (a .w) (a .e) (a .r .start) (a .r .run) (a .r .count) (a .r .stride) (c5 .layer-count .result) (a .host .now) (a .g) (c3 .place-power .result) (a .cur .now) (c4 .gather .last .0) (a .row .now) (c2 .fill .last .0)
+    terms-of working (a .l) (a .w) (a .e) (a .r .start) (a .r .run) (a .r .count) (a .r .stride) (c5 .layer-count .result) (a .host .now) (a .g)
+    (c3 .place-power .result) (a .cur .now) (c4 .gather .last .0) (a .row .now) (c2 .fill .last .0)
     (a .rests .now) (c1 .add-terms .last .0) (c5 .layer-count .ensures) (c3 .place-power .ensures) (s .pre .1) (c4 .gather .ensures) (c2 .fill .ensures) (c1 .add-terms .ensures)))

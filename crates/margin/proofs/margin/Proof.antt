@@ -1,5 +1,5 @@
 use borrow.Author.Needs.{needs}
-use Rattle.margin.proofs.Grounds.{refused-answer, refused-value, given-0, given-length, given-dimension, given-answer, given-value}
+use Rattle.margin.proofs.Grounds.{refused-answer, given-length, given-dimension, given-answer}
 use Rattle.margin.proofs.margin.Statement.{statement}
 use Rattle.margin.proofs.margin.Tie as tie
 
@@ -7,7 +7,7 @@ pub margin-spec : {M : Type 1} → statement M
 margin-spec =
     tie.close (tie.spec
     (λ c κs. search needs)
-    (λ c. (search refused-answer, (search needs, search refused-value)))
+    (λ c. search refused-answer)
     (λ c κs. search given-length)
     (λ c κs. (search needs, search given-dimension))
-    (λ c. (search given-answer, (search given-0, search given-value))))
+    (λ c. search given-answer))

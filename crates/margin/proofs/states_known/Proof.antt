@@ -3,13 +3,12 @@ use native.Mathlib.Omega.{arith}
 use lib.ListN.{length, getD}
 use borrow.Author.Needs.{needs}
 use borrow.Author.Count.{below-none, below-more}
-use Rattle.margin.specs.Margin.{stateLimit}
 use Rattle.margin.proofs.Grounds.{known-true, known-false}
 use Rattle.margin.proofs.states_known.Statement.{statement}
 use Rattle.margin.proofs.states_known.Tie as tie
 
 abbrev Inv-loop : tie.InvT-loop
-Inv-loop states x₀ x = (i : ℕ) → i < x → getD states i 0 ≤ stateLimit
+Inv-loop states x₀ x = (i : ℕ) → i < x → getD states i 0 ≤ 2
 
 abbrev μ-loop : tie.MeasureT-loop
 μ-loop states x₀ x = length states - x

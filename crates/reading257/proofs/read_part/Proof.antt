@@ -25,7 +25,8 @@ spare-end c = let g = given c in omega (arith, g .spare-long, g .readable .end-i
 
 -- the end of the run in the codeword
 codeword-end : (c : tie.After-layer-count) →
-    c .before .before .before .before .number2 .result * c .layer-count .result + c .before .before .before .before .before .before .before .before .args .end ≤ length (c .before .before .before .before .before .before .before .before .args .codeword .now)
+    c .before .before .before .before .number2 .result * c .layer-count .result + c .before .before .before .before .before .before .before .before .args .end ≤
+    length (c .before .before .before .before .before .before .before .before .args .codeword .now)
 codeword-end c =
     run-end (given (c .before .before)) (c .before .before .before .before .number2 .ensures) (c .layer-count .ensures)
 

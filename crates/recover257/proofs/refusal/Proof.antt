@@ -34,7 +34,8 @@ inside c = c .all-below .ensures ∙ ap (allBelow (c .before .before .before .be
 below : (c : tie.Else3) → let a = c .before .before .before .before .before .before .before .before .before .args in allBelow (a .es .now) (trays (a .l)) ≡ true
 below c = sym (inside (c .before)) ∙ not-false _ (c .if3 .left)
 
-symbols : (c : tie.Else4) → let a = c .before .before .before .before .before .before .before .before .before .before .before .args in keptSymbols gf257 (a .l) (a .es .now) (a .c .now) ≡ true
+symbols : (c : tie.Else4) → let a = c .before .before .before .before .before .before .before .before .before .before .before .args in keptSymbols gf257 (a .l)
+    (a .es .now) (a .c .now) ≡ true
 symbols c = sym (c .before .kept-symbols .ensures) ∙ not-false _ (c .if4 .left)
 
 up : (c : tie.Else5) → strictlyRising (c .before .before .before .before .before .before .before .before .before .before .before .before .before .args .es .now) ≡ true
@@ -55,10 +56,25 @@ refusal-spec =
     (λ c κs. search needs)
     (λ c. ground-3 _ _ _ _ (adm (c .before .before .before .before .before)) (long (c .before .before)) (sym (inside (c .before)) ∙ not-true _ (c .if3 .taken)))
     (λ c κs. (facts (c .before .before .before .before .before), long (c .before .before)))
-    (λ c. ground-3-symbols _ _ _ _ (adm (c .before .before .before .before .before .before .before)) (long (c .before .before .before .before)) (below (c .before .before)) (sym (c .before .kept-symbols .ensures) ∙ not-true _ (c .if4 .taken)))
+    (λ c.
+    let c1 = c .before in
+    let c2 = c1 .before in
+    let c3 = c2 .before .before in
+    let c4 = c3 .before .before .before in
+    ground-3-symbols _ _ _ _ (adm c4) (long c3) (below c2) (sym (c1 .kept-symbols .ensures) ∙ not-true _ (c .if4 .taken)))
     (λ c κs. search needs)
-    (λ c. ground-4 _ _ _ _ (adm (c .before .before .before .before .before .before .before .before .before)) (long (c .before .before .before .before .before .before)) (below (c .before .before .before .before)) (symbols (c .before .before)) (sym (c .before .strictly-rising .ensures) ∙ not-true _ (c .if5 .taken)))
+    (λ c.
+    let c1 = c .before in
+    let c2 = c1 .before in
+    let c3 = c2 .before .before in
+    let c4 = c3 .before .before in
+    let c5 = c4 .before .before .before in
+    ground-4 _ _ _ _ (adm c5) (long c4) (below c3) (symbols c2) (sym (c1 .strictly-rising .ensures) ∙ not-true _ (c .if5 .taken)))
     (λ c κs. facts (c .before .before .before .before .before .before .before .before .before))
     (λ c. search needs)
-    (λ c. ground-5 _ _ _ _ (adm (c .before .before .before .before .before .before .before .before .before .before .before)) (long (c .before .before .before .before .before .before .before .before)) (below (c .before .before .before .before .before .before)) (symbols (c .before .before .before .before)) (up (c .before .before)) (omega arith))
-    (λ c. ground-0 _ _ _ _ (adm (c .before .before .before .before .before .before .before .before .before .before .before)) (long (c .before .before .before .before .before .before .before .before)) (below (c .before .before .before .before .before .before)) (symbols (c .before .before .before .before)) (up (c .before .before)) (omega arith)))
+    (λ c. ground-5 _ _ _ _ (adm (c .before .before .before .before .before .before .before .before .before .before .before))
+    (long (c .before .before .before .before .before .before .before .before)) (below (c .before .before .before .before .before .before))
+    (symbols (c .before .before .before .before)) (up (c .before .before)) (omega arith))
+    (λ c. ground-0 _ _ _ _ (adm (c .before .before .before .before .before .before .before .before .before .before .before))
+    (long (c .before .before .before .before .before .before .before .before)) (below (c .before .before .before .before .before .before))
+    (symbols (c .before .before .before .before)) (up (c .before .before)) (omega arith)))

@@ -8,7 +8,8 @@ use Rattle.repair.proofs.Refusals.{stop-3, stop-4, pass-4}
 use Rattle.repair.proofs.number_refusal.Statement.{statement}
 use Rattle.repair.proofs.number_refusal.Tie as tie
 
-below : (c : tie.After-all-below) → c .all-below .result ≡ allBelow (c .before .before .before .before .before .before .args .lost .now) (trays (c .before .before .before .before .before .before .args .l))
+below : (c : tie.After-all-below) → c .all-below .result ≡ allBelow (c .before .before .before .before .before .before .args .lost .now)
+    (trays (c .before .before .before .before .before .before .args .l))
 below c = c .all-below .ensures ∙ ap (allBelow (c .before .before .before .before .before .before .args .lost .now)) (c .before .tray-count .ensures)
 
 pub number-refusal-spec : {M : Type 1} → statement M
@@ -27,12 +28,27 @@ number-refusal-spec =
     (λ c. stop-3 _ _ _ _ _ _ _ _ (λ p q r y. false≢true (sym (told-false (c .before .piece-symbols .ensures) (c .if4 .taken)) ∙ y)))
     (λ c κs. search needs)
     (λ c.
-    stop-4 _ _ _ _ _ _ _ _ (told-true (below (c .before .before .before .before .before .before .before .before .before)) (c .before .before .before .before .before .before .before .before .if1 .left)) (told-true (c .before .before .before .before .before .before .before .one-rack .ensures) (c .before .before .before .before .before .before .if2 .left)) (told-true (c .before .before .before .before .before .all-below2 .ensures) (c .before .before .before .before .if3 .left))
-    (told-true (c .before .before .before .piece-symbols .ensures) (c .before .before .if4 .left)) (λ p q. false≢true (sym (told-false (c .before .strictly-rising .ensures) (c .if5 .taken)) ∙ p)))
+    stop-4 _ _ _ _ _ _ _ _ (told-true (below (c .before .before .before .before .before .before .before .before .before))
+    (c .before .before .before .before .before .before .before .before .if1 .left))
+    (told-true (c .before .before .before .before .before .before .before .one-rack .ensures) (c .before .before .before .before .before .before .if2 .left))
+    (told-true (c .before .before .before .before .before .all-below2 .ensures) (c .before .before .before .before .if3 .left))
+    (told-true (c .before .before .before .piece-symbols .ensures) (c .before .before .if4 .left))
+    (λ p q. false≢true (sym (told-false (c .before .strictly-rising .ensures) (c .if5 .taken)) ∙ p)))
     (λ c κs. search needs)
     (λ c.
-    stop-4 _ _ _ _ _ _ _ _ (told-true (below (c .before .before .before .before .before .before .before .before .before .before .before)) (c .before .before .before .before .before .before .before .before .before .before .if1 .left)) (told-true (c .before .before .before .before .before .before .before .before .before .one-rack .ensures) (c .before .before .before .before .before .before .before .before .if2 .left)) (told-true (c .before .before .before .before .before .before .before .all-below2 .ensures) (c .before .before .before .before .before .before .if3 .left))
-    (told-true (c .before .before .before .before .before .piece-symbols .ensures) (c .before .before .before .before .if4 .left)) (λ p q. false≢true (sym (told-false (c .before .strictly-rising2 .ensures) (c .if6 .taken)) ∙ q)))
+    stop-4 _ _ _ _ _ _ _ _ (told-true (below (c .before .before .before .before .before .before .before .before .before .before .before))
+    (c .before .before .before .before .before .before .before .before .before .before .if1 .left))
+    (told-true (c .before .before .before .before .before .before .before .before .before .one-rack .ensures)
+    (c .before .before .before .before .before .before .before .before .if2 .left))
+    (told-true (c .before .before .before .before .before .before .before .all-below2 .ensures) (c .before .before .before .before .before .before .if3 .left))
+    (told-true (c .before .before .before .before .before .piece-symbols .ensures) (c .before .before .before .before .if4 .left))
+    (λ p q. false≢true (sym (told-false (c .before .strictly-rising2 .ensures) (c .if6 .taken)) ∙ q)))
     (λ c.
-    pass-4 _ _ _ _ _ _ _ _ (told-true (below (c .before .before .before .before .before .before .before .before .before .before .before)) (c .before .before .before .before .before .before .before .before .before .before .if1 .left)) (told-true (c .before .before .before .before .before .before .before .before .before .one-rack .ensures) (c .before .before .before .before .before .before .before .before .if2 .left)) (told-true (c .before .before .before .before .before .before .before .all-below2 .ensures) (c .before .before .before .before .before .before .if3 .left))
-    (told-true (c .before .before .before .before .before .piece-symbols .ensures) (c .before .before .before .before .if4 .left)) (told-true (c .before .before .before .strictly-rising .ensures) (c .before .before .if5 .left)) (told-true (c .before .strictly-rising2 .ensures) (c .if6 .left))))
+    pass-4 _ _ _ _ _ _ _ _ (told-true (below (c .before .before .before .before .before .before .before .before .before .before .before))
+    (c .before .before .before .before .before .before .before .before .before .before .if1 .left))
+    (told-true (c .before .before .before .before .before .before .before .before .before .one-rack .ensures)
+    (c .before .before .before .before .before .before .before .before .if2 .left))
+    (told-true (c .before .before .before .before .before .before .before .all-below2 .ensures) (c .before .before .before .before .before .before .if3 .left))
+    (told-true (c .before .before .before .before .before .piece-symbols .ensures) (c .before .before .before .before .if4 .left))
+    (told-true (c .before .before .before .strictly-rising .ensures) (c .before .before .if5 .left))
+    (told-true (c .before .strictly-rising2 .ensures) (c .if6 .left))))

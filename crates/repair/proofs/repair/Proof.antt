@@ -14,6 +14,8 @@ repair-spec =
     (λ c κs. search needs)
     (λ c. search needs)
     (λ c.
-    let a = c .before .before .before .before .before .before .before .before .before .before .args in
-    subst (λ y. RepairAnswer gf256 (a .l) (y ∷ []) (a .helpers .now) (a .shares .now) (a .host .now) (a .first) (a .budget) (a .spare .now) (c .before .before .repair-many .last .1 .1 .1 .1 .1 .0) (c .before .before .repair-many .result)) (c .before .before .before .before .before .number .ensures)
-    (c .before .before .repair-many .ensures)))
+    let c1 = c .before .before in
+    let c2 = c1 .before .before .before in
+    let c3 = c2 .before .before .before .before .before in
+    let a = c3 .args in subst (λ y. RepairAnswer gf256 (a .l) (y ∷ []) (a .helpers .now) (a .shares .now) (a .host .now) (a .first) (a .budget) (a .spare .now)
+    (c1 .repair-many .last .1 .1 .1 .1 .1 .0) (c1 .repair-many .result)) (c2 .number .ensures) (c1 .repair-many .ensures)))

@@ -1,9 +1,4 @@
-use mathlib.Core.Path.{_∙_}
 use borrow.Author.Needs.{needs}
-use Rattle.symbol.proofs.Working.{working}
-use Rattle.symbol.specs.Elem.{gf256}
-use Rattle.share.proofs.Refusals.{one-add-refusal}
-use Rattle.share.proofs.Weights.{one-add-buffer}
 use Rattle.share.proofs.share_add.Statement.{statement}
 use Rattle.share.proofs.share_add.Tie as tie
 
@@ -12,6 +7,4 @@ share-add-spec =
     tie.close (tie.spec
     (λ c κs. search needs)
     (λ c. search needs)
-    (λ c.
-    let e = c .before .before .feed-tray .ensures in
-    (e .0 ∙ one-add-refusal working _ _ _ _ _, e .1 ∙ one-add-buffer gf256 _ working _ _ _ _)))
+    (λ c. c .before .before .feed-tray .ensures))

@@ -28,6 +28,7 @@ parity-in-spec =
     (λ c. search needs)
     (λ c. search needs)
     (λ c.
-    let s = c .before .before .before .before .before .before .before .before .before .before .before .before in
-    subst (λ es. RestoredTo gf257 (s .args .l) es (s .args .out .now) (layers (s .args .l)) (c .before .before .restore .last .1 .1 .0)) (listed (c .before .before .before .before .before .before .before .before))
-    (c .before .before .restore .ensures)))
+    let c1 = c .before .before in
+    let c2 = c1 .before .before .before .before .before .before in
+    let c3 = c2 .before .before .before .before in
+    let s = c3 in subst (λ es. RestoredTo gf257 (s .args .l) es (s .args .out .now) (layers (s .args .l)) (c1 .restore .last .1 .1 .0)) (listed c2) (c1 .restore .ensures)))

@@ -11,7 +11,9 @@ use Rattle.sums.proofs.block_sums.Statement.{statement}
 use Rattle.sums.proofs.block_sums.Tie as tie
 
 abbrev Inv-loop : tie.InvT-loop
-Inv-loop sums₀ l h w first helpers shares e sides₀ found₀ points₀ coefs₀ row₀ cur₀ table m₀ sums sides found points coefs row cur m = (m ≤ e) × (length sums ≡ length sums₀) × (length sides ≡ length sides₀) × (length found ≡ length found₀) × (length points ≡ length points₀) × (length coefs ≡ length coefs₀) × (length row ≡ length row₀) × (length cur ≡ length cur₀) × SumsTo gf256 l h w first helpers shares e m sums
+Inv-loop sums₀ l h w first helpers shares e sides₀ found₀ points₀ coefs₀ row₀ cur₀ table m₀ sums sides found points coefs row cur m = (m ≤ e)
+    × (length sums ≡ length sums₀) × (length sides ≡ length sides₀) × (length found ≡ length found₀) × (length points ≡ length points₀)
+    × (length coefs ≡ length coefs₀) × (length row ≡ length row₀) × (length cur ≡ length cur₀) × SumsTo gf256 l h w first helpers shares e m sums
 
 abbrev μ-loop : tie.MeasureT-loop
 μ-loop sums₀ l h w first helpers shares e sides₀ found₀ points₀ coefs₀ row₀ cur₀ table m₀ sums sides found points coefs row cur m = e - m

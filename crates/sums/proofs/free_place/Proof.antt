@@ -20,7 +20,8 @@ unfolding helperPlace
 again c =
     let a = c .before .before .before .before .before .before .args in (
       omega arith,
-      free-next (helperPlace (a .s) (a .h) (helperAt (a .helpers .now))) (c .before .before .before .before .loop .k) (a .i) _ _ _ (c .skipped .ensures) (c .before .rack-place .ensures) (c .before .before .before .before .loop .inv .1),
+      free-next (helperPlace (a .s) (a .h) (helperAt (a .helpers .now))) (c .before .before .before .before .loop .k) (a .i) _ _ _ (c .skipped .ensures)
+          (c .before .rack-place .ensures) (c .before .before .before .before .loop .inv .1),
     )
 
 returns : tie.Need-returns Inv-loop μ-loop

@@ -1,5 +1,6 @@
 use Rattle.symbol.proofs.Working.{working}
-use Rattle.sums.proofs.Points.{choosing-of, pointed-layout, pointed-host, host-digit, pointed-size, point-fits, point-row, host-row, other-high, pointed-block, other-rack, other-not, row-there, run-there, other-row}
+use Rattle.sums.proofs.Points.{choosing-of, pointed-layout, pointed-host, host-digit, pointed-size, point-fits, point-row, host-row, other-high}
+use Rattle.sums.proofs.Points.{pointed-block, other-rack, other-not, row-there, run-there, other-row}
 use borrow.Author.Needs.{needs}
 use Rattle.sums.proofs.unknown_row.Statement.{statement}
 use Rattle.sums.proofs.unknown_row.Tie as tie

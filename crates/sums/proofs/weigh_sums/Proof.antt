@@ -53,7 +53,15 @@ loop-less : tie.Need-loop-less Inv-loop μ-loop
 loop-less c = omega arith
 
 loop-again : tie.Need-loop-again Inv-loop μ-loop
-loop-again c = (omega arith, search needs, let a = c .before .before .before .before .before .before .before .before .before .before .before .before .args in let k = c .before .before .before .before .before .before .before .before .loop in weighed-more working (a .l) (a .h) (a .w) (a .m) (a .found .now) (a .sums .now) (k .a) _ _ _ _ (k .sums) _ (c .before .before .before .before .before .before .before .before .before .digit-count .ensures) (c .before .before .before .before .before .before .digit-point .ensures) (c .before .before .before .before .before .inverse .ensures) (c .before .before .before .before .difference .ensures) (k .inv .2) (c .before .before .times-row .ensures))
+loop-again c = (
+  omega arith,
+  search needs,
+  let a = c .before .before .before .before .before .before .before .before .before .before .before .before .args in let k =
+      c .before .before .before .before .before .before .before .before .loop in weighed-more working (a .l) (a .h) (a .w) (a .m) (a .found .now) (a .sums .now)
+      (k .a) _ _ _ _ (k .sums) _ (c .before .before .before .before .before .before .before .before .before .digit-count .ensures)
+      (c .before .before .before .before .before .before .digit-point .ensures) (c .before .before .before .before .before .inverse .ensures)
+      (c .before .before .before .before .difference .ensures) (k .inv .2) (c .before .before .times-row .ensures),
+)
 
 same-length : tie.Need-same-length Inv-loop μ-loop
 same-length c = search needs

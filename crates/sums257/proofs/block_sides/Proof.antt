@@ -12,7 +12,8 @@ use Rattle.sums257.proofs.block_sides.Statement.{statement}
 use Rattle.sums257.proofs.block_sides.Tie as tie
 
 abbrev Inv-loop : tie.InvT-loop
-Inv-loop sides₀ l h w first helpers shares e m cur₀ row₀ k₀ sides cur row k = (k ≤ length helpers) × (length sides ≡ length sides₀) × (length cur ≡ length cur₀) × (length row ≡ length row₀) × SidesTo gf257 l h w first helpers shares e m k sides
+Inv-loop sides₀ l h w first helpers shares e m cur₀ row₀ k₀ sides cur row k = (k ≤ length helpers) × (length sides ≡ length sides₀) × (length cur ≡ length cur₀)
+    × (length row ≡ length row₀) × SidesTo gf257 l h w first helpers shares e m k sides
 
 abbrev μ-loop : tie.MeasureT-loop
 μ-loop sides₀ l h w first helpers shares e m cur₀ row₀ k₀ sides cur row k = length helpers - k
@@ -33,7 +34,13 @@ loop-holds : tie.Need-loop-holds Inv-loop μ-loop
 loop-holds c = (omega arith, search needs, refl, refl, search (sides-none working))
 
 add-share-requires : tie.Need-add-share-requires Inv-loop μ-loop
-add-share-requires c κs = (search sharing-of, search helper-of, rw (c .before .before .before .before .loop .inv .1 ∙ c .before .before .before .before .before .before .before .fill .ensures .long) (c .before .before .before .before .before .before .before .before .before .before .before .before .before .before .before .pre .1))
+add-share-requires c κs = (
+  search sharing-of,
+  search helper-of,
+  rw (c .before .before .before .before .loop .inv .1
+      ∙ c .before .before .before .before .before .before .before .fill .ensures .long)
+      (c .before .before .before .before .before .before .before .before .before .before .before .before .before .before .before .pre .1),
+)
 
 add-k : tie.Need-add-k Inv-loop μ-loop
 add-k c = search count-fits

@@ -1,6 +1,7 @@
 -- Made by tools/twin.py from crates/sums/proofs/share_terms/Proof.antt.
 use Rattle.symbol257.proofs.Working.{working}
-use Rattle.sums.proofs.Sides.{share-fits, share-fits-2, groups-high, share-row, first-in, share-there, terms-plain, block-there, host-there, helper-rack, helper-other, weight-under, terms-are}
+use Rattle.sums.proofs.Sides.{share-fits, share-fits-2, groups-high, share-row, first-in, share-there, terms-plain, block-there, host-there, helper-rack}
+use Rattle.sums.proofs.Sides.{helper-other, weight-under, terms-are}
 use borrow.Author.Needs.{needs}
 use Rattle.sums257.proofs.share_terms.Statement.{statement}
 use Rattle.sums257.proofs.share_terms.Tie as tie

@@ -1,0 +1,49 @@
+#!/usr/bin/env python3
+"""Lists the public theorems that nothing cites and no document names, and fails if there is any: a step of the gate.
+
+A theorem is cited where another file takes it, or where its own file uses it. A document names it in backquotes, as does a comment of code or of definitions.
+"""
+import re
+import sys
+
+from definitions import below, file, imports, read, said
+
+
+def taken():
+    """What files take of others."""
+    out = set()
+    for path in below('crates', '.antt', '.rt'):
+        out.update(imports(read(path)).values())
+    return out
+
+
+def named():
+    """The names in backquotes."""
+    texts = [read('README.md')] + [read(path) for path in below('docs', '.md')]
+    for path in filter(lambda at: '/proofs/' not in at, below('crates', '.antt', '.rt')):
+        texts += [line for line in read(path).split('\n') if '-- ' in line or '// ' in line]
+    return {name for text in texts for name in re.findall(r'`([^`\s]+)`', text)}
+
+
+def used(path, name):
+    """Whether a file uses a name of its own beside where it is stated and proved."""
+    head = re.compile(r'^ {%d}(?:(?:unfoldable )?pub )?%s(?=[\s:])' % (file(path).depths[name], re.escape(name)))
+    lines = [head.sub('', said(line), 1) for line in read(path).split('\n') if not line.startswith('use ')]
+    return any(re.search(r'(?<![^\s(){}\[\];,])%s(?![^\s(){}\[\];,.])' % re.escape(name), line) for line in lines)
+
+
+def main():
+    known, cited = named(), taken()
+    orphans = [
+        (path, name)
+        for path in sorted(below('crates', '.antt'))
+        if '/proofs/' in path and not path.endswith('/Proof.antt')
+        for name in file(path).public
+        if (path, name) not in cited and name not in known and not used(path, name)
+    ]
+    for path, name in orphans:
+        print('%s: %s is cited by nothing and named by no document' % (path, name))
+    sys.exit(bool(orphans))
+
+
+main()
