@@ -3,9 +3,9 @@
 use mathlib.Core.Path.{_≡_, sym, ap, ap₂, _∙_, subst}
 use mathlib.Core.List.{List}
 use Prim.Native.Nat.{ℕ, suc, _+_, _-_, _*_, _/_, _%_, _^_, min, _<_, _≤_}
-use native.Mathlib.Nat.{mul-assoc, mul-comm, mul-le-mul, le-mul-of-pos-right, div-lt-iff-lt-mul, mod-lt, div-add-mod', pow-suc, le-of-lt}
+use native.Mathlib.Nat.{mul-assoc, mul-comm, mul-pos, mul-div-cancel, mul-le-mul, le-mul-of-pos-right, div-lt-iff-lt-mul, mod-lt, div-add-mod', pow-suc, le-of-lt}
 use native.Mathlib.Omega.{arith}
-use lib.ListN.{getD, drop}
+use lib.ListN.{length, getD, drop}
 use lib.Seq.{getD-take, getD-drop}
 use lib.Pow.{pow-add}
 use Rattle.lists.proofs.Numbers.{cell-in}
@@ -33,13 +33,36 @@ pub cut-at : (l : Layout) (symbols : List ℕ) (from j : ℕ) → j < layers l �
 unfolding cut
 cut-at l symbols from j h = getD-take (layers l) (drop from symbols) j 0 h ∙ getD-drop from symbols j 0
 
-pub runs-are : (l : Layout) (h s run count : ℕ) → Cabinet l → h < l .racks → s ≡ digits l → run ≡ min (s ^ h) (layerLimit + 1) →
-    count ≡ min (s ^ (l .racks - 1 - h)) (layerLimit + 1) → RunsOf l h s run count
-runs-are l h s run count a host es er ec = record {
-  digits-are = es;
-  run-is = er ∙ ap (λ b. min (b ^ h) (layerLimit + 1)) es ∙ omega (arith, power-in l a h (le-of-lt host));
-  count-is = ec ∙ ap (λ b. min (b ^ (l .racks - 1 - h)) (layerLimit + 1)) es ∙ omega (arith, power-in l a (l .racks - 1 - h) (omega arith));
-}
+pub runs-are : (l : Layout) (h s run total : ℕ) → Cabinet l → h < l .racks → s ≡ digits l → run ≡ min (s ^ h) (layerLimit + 1) → total ≡ layers l → RunsOf l h s run (total / (s * run))
+runs-are l h s run total a host es er et = record { digits-are = es; run-is = run-is; count-is = ap₂ _/_ (et ∙ whole) (ap₂ _*_ es run-is) ∙ mul-div-cancel (digits l ^ (l .racks - 1 - h)) some }
+  where
+    run-is : run ≡ digits l ^ h
+    run-is = er ∙ ap (λ b. min (b ^ h) (layerLimit + 1)) es ∙ omega (arith, power-in l a h (le-of-lt host))
+
+    some : 0 < digits l * digits l ^ h
+    some = mul-pos (bounds l a .digits-low) (power-pos (digits l) h (bounds l a .digits-low))
+
+    -- L is a power of s, of which s and the run are factors
+    whole : layers l ≡ digits l ^ (l .racks - 1 - h) * (digits l * digits l ^ h)
+    whole =
+        (let e : l .racks ≡ l .racks - 1 - h + suc h = omega arith in ap (λ n. digits l ^ n) e)
+        ∙ pow-add (digits l) (l .racks - 1 - h) (suc h)
+        ∙ ap (λ n. digits l ^ (l .racks - 1 - h) * n) (pow-suc (digits l) h ∙ mul-comm (digits l ^ h) (digits l))
+
+-- what is divided by is not zero, and a number
+pub block-some : (l : Layout) (h s run : ℕ) → Cabinet l → s ≡ digits l → run ≡ min (s ^ h) (layerLimit + 1) → 0 < s * run
+block-some l h s run a es er = mul-pos (omega (arith, bounds l a .digits-low)) (omega (arith, power-pos s h (omega (arith, bounds l a .digits-low))))
+
+pub block-low : (l : Layout) (h s run : ℕ) → Cabinet l → s ≡ digits l → run ≡ min (s ^ h) (layerLimit + 1) → s * run ≤ 60 * 4097
+block-low l h s run a es er =
+    let b = bounds l a in
+    let x : s ≤ 60 = omega arith in
+    let y : run ≤ 4097 = omega arith in
+    mul-le-mul x y
+
+-- a rack's trays are as long as the layout has layers
+pub rack-layers : (l : Layout) (rack : List ℕ) → Cabinet l → length rack ≡ l .size * layers l → length rack / l .size ≡ layers l
+rack-layers l rack a e = ap (λ n. n / l .size) (e ∙ mul-comm (l .size) (layers l)) ∙ mul-div-cancel (layers l) (bounds l a .size-low)
 
 module _ (l : Layout) (h s run count : ℕ) (a : Cabinet l) (host : h < l .racks) (r : RunsOf l h s run count) where
   run-pos : 0 < run

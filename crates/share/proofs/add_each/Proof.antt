@@ -24,11 +24,16 @@ add-each-spec =
     (λ c. (omega arith, trays-none working _ _ _ _ _ _ _))
     (λ c. omega (arith, inside c))
     (λ c. omega (arith, inside c))
-    (λ c κs. let a = c .before .before .before .before .before .args in tray-of (a .s) (a .run) (a .count) (a .symbols .now) (a .at) (a .far) (a .m) (a .sums .now) (c .before .before .before .before .before .pre) (c .before .before .loop .g) _ (c .before .loop-test .taken) (c .before .before .loop .inv .1 .same))
+    (λ c κs. let a = c .before .before .before .before .before .args in tray-of (a .s) (a .run) (a .count) (a .symbols .now) (a .at) (a .far) (a .m) (a .sums .now)
+    (c .before .before .before .before .before .pre) (c .before .before .loop .g) _ (c .before .loop-test .taken) (c .before .before .loop .inv .1 .same))
     (λ c. omega arith)
     (λ c. omega arith)
     (λ c.
-    let a = c .before .before .before .before .before .before .before .before .args in
-    (omega arith, trays-more working (a .s) (a .run) (a .count) (a .symbols .now) (a .at) (a .far) (a .sums .now) (c .before .before .before .before .before .loop .g) (c .before .before .before .before .before .loop .sums) _ (c .before .before .before .before .before .before .before .before .pre .some-digits) (c .before .before .before .before .before .loop .inv .1) (c .before .before .add-across .ensures)))
+    let a = c .before .before .before .before .before .before .before .before .args in (
+      omega arith,
+      trays-more working (a .s) (a .run) (a .count) (a .symbols .now) (a .at) (a .far) (a .sums .now) (c .before .before .before .before .before .loop .g)
+          (c .before .before .before .before .before .loop .sums) _ (c .before .before .before .before .before .before .before .before .pre .some-digits)
+          (c .before .before .before .before .before .loop .inv .1) (c .before .before .add-across .ensures),
+    ))
     (λ c. c .before .loop .inv .1 .same)
     (λ c. search (trays-end working)))

@@ -41,15 +41,24 @@ add-rest-spec =
     let e = c .before .before .layer-count .ensures in
     (omega (arith, a .layers-high), omega (arith, p .at-once), omega (arith, b .layers-low)))
     (λ c. omega (arith, inside c))
-    (λ c. let b = bounds _ (c .before .before .before .before .before .before .pre .0 .adm .cabinet) in omega (arith, c .before .before .before .before .before .before .pre .2, c .before .loop-test .taken, c .before .before .before .before .before .before .pre .0 .adm .cabinet .trays-high))
+    (λ c. let b = bounds _
+    (c .before .before .before .before .before .before .pre .0 .adm .cabinet) in omega (arith, c .before .before .before .before .before .before .pre .2, c .before .loop-test .taken, c .before .before .before .before .before .before .pre .0 .adm .cabinet .trays-high))
     (λ c κs.
     let a = c .before .before .before .before .before .before .before .args in
-    let d = c .before .before .before .loop .inv .1 in
-    (feeding-one gf256 (a .l) (a .count) (a .h) (a .symbols .now) (a .at) (a .m) (a .shares .now) (c .before .before .before .before .before .before .before .pre .0) (c .before .before .before .loop .k) _ _ (c .before .before .loop-test .taken) (place (c .before)) (d .same) (d .range), c .before .before .before .before .before .before .before .pre .1))
+    let d = c .before .before .before .loop .inv .1 in (
+      feeding-one gf256 (a .l) (a .count) (a .h) (a .symbols .now) (a .at) (a .m) (a .shares .now) (c .before .before .before .before .before .before .before .pre .0)
+          (c .before .before .before .loop .k) _ _ (c .before .before .loop-test .taken) (place (c .before)) (d .same)
+          (d .range),
+      c .before .before .before .before .before .before .before .pre .1,
+    ))
     (λ c. omega arith)
     (λ c. omega arith)
     (λ c.
-    let a = c .before .before .before .before .before .before .before .before .before .before .args in
-    (omega arith, rested-more working (a .l) (a .count) (a .h) (a .x) (a .symbols .now) (a .at) (a .shares .now) (c .before .before .before .before .before .before .loop .k) _ _ (c .before .before .before .before .before .before .loop .shares) _ (c .before .before .before .before .before .before .before .before .before .before .pre .0 .room) (place (c .before .before .before .before)) refl (c .before .before .before .before .before .before .loop .inv .1) (c .before .before .add-later .ensures)))
+    let a = c .before .before .before .before .before .before .before .before .before .before .args in (
+      omega arith,
+      rested-more working (a .l) (a .count) (a .h) (a .x) (a .symbols .now) (a .at) (a .shares .now) (c .before .before .before .before .before .before .loop .k) _ _
+          (c .before .before .before .before .before .before .loop .shares) _ (c .before .before .before .before .before .before .before .before .before .before .pre .0 .room)
+          (place (c .before .before .before .before)) refl (c .before .before .before .before .before .before .loop .inv .1) (c .before .before .add-later .ensures),
+    ))
     (λ c. c .before .loop .inv .1 .same)
     (λ c. search (rested-end working)))

@@ -44,7 +44,8 @@ add-runs-spec =
     (λ c κs.
     let a = c .before .before .before .before .before .args in
     let d = c .before .before .loop .inv .1 in
-    gridding (a .s) (a .run) (a .count) (a .symbols .now) (a .at) (a .far) (a .m) (a .sums .now) (c .before .before .before .before .before .pre) (c .before .before .loop .q) _ (c .before .loop-test .taken) (d .same) (d .rest))
+    gridding (a .s) (a .run) (a .count) (a .symbols .now) (a .at) (a .far) (a .m) (a .sums .now) (c .before .before .before .before .before .pre) (c .before .before .loop .q) _
+    (c .before .loop-test .taken) (d .same) (d .rest))
     (λ c. omega arith)
     (λ c. omega arith)
     (λ c. (omega arith, search (runs-more working)))
