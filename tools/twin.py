@@ -17,11 +17,11 @@ ROOT = os.path.join(os.path.dirname(os.path.abspath(__file__)), '..', 'crates')
 
 # the crates that have a twin, and those of their functions that return a symbol
 TWINS = {
-    'kernel': ['at', 'sum_apart'],
+    'kernel': ['at', 'gather_apart', 'gather_grid'],
     'columns': [],
     'syndrome': [],
     'restore': [],
-    'range': ['higher', 'highest'],
+    'range': ['higher', 'highest', 'highest_apart', 'highest_of_four'],
     'testing': [],
     'sums': ['digit_point', 'inverse'],
     'group': [],

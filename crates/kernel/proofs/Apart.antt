@@ -1,46 +1,76 @@
 -- Sums of numbers that stand so many places apart, and a run to which they are added.
 -- Assumes nothing.
-use mathlib.Core.Path.{_≡_, refl, sym, ap, ap₂, _∙_, subst}
+use mathlib.Core.Path.{_≡_, refl, sym, ap, _∙_, subst}
 use mathlib.Core.List.{List}
-use Prim.Native.Nat.{ℕ, zero, suc, _+_, _*_, _<_, _≤_}
-use native.Mathlib.Numerals.{add-one}
+use Prim.Native.Nat.{ℕ, _+_, _*_, _<_, _≤_}
+use native.Mathlib.Nat.{mul-le-mul}
 use native.Mathlib.Omega.{arith}
 use lib.ListN.{length, getD, set}
 use Rattle.algebra.specs.Field.{Ops}
-use Rattle.algebra.specs.Coding.{Coding}
+use Rattle.algebra.specs.Coding.{Coding, InRange}
 use Rattle.algebra.specs.Sum.{sum}
 use Rattle.algebra.specs.Shape.{Field}
-use Rattle.algebra.specs.Plain.{plus, Working}
-use Rattle.algebra.proofs.Sum.{sum-zero, sum-suc}
-use Rattle.algebra.proofs.Plain.{elem-plus, elem-zero}
-use Rattle.kernel.specs.Runs.{Run, sumApart, addedApart}
+use Rattle.algebra.specs.Plain.{reduced, Working}
+use Rattle.algebra.proofs.Ring.{add-zero, add-assoc}
+use Rattle.algebra.proofs.Sum.{sum-zero, sum-add-one}
+use Rattle.algebra.proofs.Plain.{laws}
+use Rattle.kernel.specs.Runs.{Run, apart, Grid, grid, Gridding, addedGrid}
 use Rattle.kernel.proofs.Runs.{run-more}
+use Rattle.kernel.proofs.Rows.{row-before}
 
-module _ {A : Type 0} (f : Field A) (src : List ℕ) (at gap : ℕ) where
-  pub apart-none : 0 ≡ sumApart f src at gap 0
-  unfolding sumApart
-  apart-none = refl
+module _ {A : Type 0} {f : Field A} (W : Working f) where
+  open Field f using (ops)
+  open Coding (f .coding) using (elem, size)
 
-  pub apart-more : (v b p : ℕ) → v ≡ sumApart f src at gap b → p ≡ plus f v (getD src (at + b * gap) 0) → p ≡ sumApart f src at gap (b + 1)
-  unfolding sumApart
-  apart-more v b p e d = rw (add-one b) (d ∙ ap (λ (x : ℕ). plus f x (getD src (at + b * gap) 0)) e)
+  -- a sum of none, and of one more
+  none : (v : A) (t : ℕ → A) → v ≡ ops .add v (sum ops 0 t)
+  none v t = sym (ap (ops .add v) (sum-zero ops t) ∙ add-zero ops (laws W) v)
 
-  pub apart-end : (v b n : ℕ) → v ≡ sumApart f src at gap b → b ≤ n → n ≤ b → v ≡ sumApart f src at gap n
-  apart-end v b n e h l = subst (λ m. v ≡ sumApart f src at gap m) (omega arith) e
+  more : (v s p : A) (t : ℕ → A) (n : ℕ) → s ≡ ops .add v (sum ops n t) → p ≡ ops .add s (t n) → p ≡ ops .add v (sum ops (n + 1) t)
+  more v s p t n e d = d ∙ ap (λ x. ops .add x (t n)) e ∙ add-assoc ops (laws W) v (sum ops n t) (t n) ∙ ap (ops .add v) (sym (sum-add-one ops n t))
 
-  apart-suc : (n : ℕ) → sumApart f src at gap (suc n) ≡ plus f (sumApart f src at gap n) (getD src (at + n * gap) 0)
-  unfolding sumApart
-  apart-suc n = refl
+  module _ (src : List ℕ) (at gap v : ℕ) where
+    pub apart-none : elem v ≡ ops .add (elem v) (apart f src at gap 0)
+    unfolding apart
+    apart-none = none (elem v) _
 
-  -- the same over the field
-  pub apart-sum : Working f → (n : ℕ) → f .coding .elem (sumApart f src at gap n) ≡ sum (f .ops) n (λ b. f .coding .elem (getD src (at + b * gap) 0))
-  apart-sum W zero = ap (f .coding .elem) (sym apart-none) ∙ elem-zero W ∙ sym (sum-zero (f .ops) _)
-  apart-sum W (suc n) =
-      ap (f .coding .elem) (apart-suc n) ∙ elem-plus W _ _ ∙ ap (λ x. f .ops .add x (f .coding .elem (getD src (at + n * gap) 0))) (apart-sum W n)
-      ∙ sym (sum-suc (f .ops) n (λ b. f .coding .elem (getD src (at + b * gap) 0)))
+    pub apart-more : (s p b : ℕ) → elem s ≡ ops .add (elem v) (apart f src at gap b) → elem p ≡ ops .add (elem s) (elem (getD src (at + b * gap) 0)) →
+        elem p ≡ ops .add (elem v) (apart f src at gap (b + 1))
+    unfolding apart
+    apart-more s p b = more (elem v) (elem s) (elem p) (λ b. elem (getD src (at + b * gap) 0)) b
 
-pub add-apart-more : {A : Type 0} (f : Field A) (was is src : List ℕ) (to from gap n j len p q : ℕ) → Run (addedApart f was to src from gap n) was is to j → j < len → to + len ≤ length was →
-    p ≡ sumApart f src (from + j) gap n → q ≡ plus f (getD is (to + j) 0) p → Run (addedApart f was to src from gap n) was (set is (to + j) q) to (j + 1)
-unfolding addedApart
-add-apart-more f was is src to from gap n j len p q r h l e d =
-    run-more (addedApart f was to src from gap n) was is to j q r (omega arith) (d ∙ ap₂ (plus f) (r .high (to + j) (omega arith)) e)
+    pub apart-end : (s b n : ℕ) → elem s ≡ ops .add (elem v) (apart f src at gap b) → b ≤ n → n ≤ b → elem s ≡ ops .add (elem v) (apart f src at gap n)
+    apart-end s b n e h l = subst (λ m. elem s ≡ ops .add (elem v) (apart f src at gap m)) (omega arith) e
+
+    module _ (n far : ℕ) where
+      pub grid-none : elem v ≡ ops .add (elem v) (grid f src at gap n far 0)
+      unfolding grid
+      grid-none = none (elem v) _
+
+      pub grid-more : (s p g : ℕ) → elem s ≡ ops .add (elem v) (grid f src at gap n far g) → elem p ≡ ops .add (elem s) (apart f src (at + g * far) gap n) →
+          elem p ≡ ops .add (elem v) (grid f src at gap n far (g + 1))
+      unfolding grid
+      grid-more s p g = more (elem v) (elem s) (elem p) (λ g. apart f src (at + g * far) gap n) g
+
+      pub grid-end : (s g m : ℕ) → elem s ≡ ops .add (elem v) (grid f src at gap n far g) → g ≤ m → m ≤ g → elem s ≡ ops .add (elem v) (grid f src at gap n far m)
+      grid-end s g m e h l = subst (λ k. elem s ≡ ops .add (elem v) (grid f src at gap n far k)) (omega arith) e
+
+  pub add-grid-more : (was is src : List ℕ) (to from gap n far m j len p q : ℕ) → Run (addedGrid f was to src from gap n far m) was is to j → j < len → to + len ≤ length was →
+      elem p ≡ ops .add (elem (getD is (to + j) 0)) (grid f src (from + j) gap n far m) → q ≡ reduced f p → Run (addedGrid f was to src from gap n far m) was (set is (to + j) q) to (j + 1)
+  unfolding addedGrid reduced
+  add-grid-more was is src to from gap n far m j len p q r h l e d =
+      run-more (addedGrid f was to src from gap n far m) was is to j q r (omega arith)
+      (d ∙ ap (f .coding .val) (e ∙ ap (λ (x : ℕ). ops .add (elem x) (grid f src (from + j) gap n far m)) (r .high (to + j) (omega arith))))
+
+-- what is told of the sum at a place: the place is still as it was
+module _ {A : Type 0} (f : Field A) (was is src : List ℕ) (to len from gap n far m j : ℕ) where
+  pub grid-lies : Gridding f was to len src from gap n far m → j < len → Grid src (from + j) gap n far m
+  grid-lies p h = p .lies j h
+
+  pub grid-fits : f .coding .size ≤ 257 → Gridding f was to len src from gap n far m → Run (addedGrid f was to src from gap n far m) was is to j → j < len →
+      getD is (to + j) 0 + m * n * f .coding .size < 65536
+  grid-fits small p r h = rw (r .high (to + j) (omega arith)) (omega (arith, p .held j h, mul-le-mul (p .few) small))
+
+-- the first of a row's places
+pub row-first : (src : List ℕ) (at gap n far m g : ℕ) → Grid src at gap n far m → g < m → at + g * far < length src
+row-first src at gap n far m g r h = omega (arith, r .rows g h, r .some, row-before 0 n gap (r .some))

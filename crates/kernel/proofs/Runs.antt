@@ -17,7 +17,7 @@ use Rattle.algebra.specs.Field.{Ops}
 use Rattle.algebra.specs.Coding.{Coding}
 use Rattle.algebra.specs.Plain.{plus, minus, times, reduced, Working}
 use Rattle.algebra.proofs.Plain.{elem-reduced, reduced-below, elem-zero, elem-nil}
-use Rattle.kernel.specs.Runs.{Run, filled, copied, sampled, added, addedProduct, addedMultiple, stepped, accrued, shifted, parted, lookedUp, allZero}
+use Rattle.kernel.specs.Runs.{Run, filled, copied, sampled, added, addedProduct, addedMultiple, shifted, parted, lookedUp, allZero}
 
 pub run-none : (f : ℕ → ℕ) (was : List ℕ) (to : ℕ) → Run f was was to 0
 run-none f was to = record { long = refl; done = λ j h. absurd (not-suc-le-zero h); low = λ i h. refl; high = λ i h. refl }
@@ -98,33 +98,17 @@ module _ {A : Type 0} (f : Field A) where
   add-more was is src to from j len p r h l e =
       run-more (added f was to src from) was is to j p r (omega arith) (e ∙ ap (λ (x : ℕ). plus f x (getD src (from + j) 0)) (r .high (to + j) (omega arith)))
 
-  pub product-more : (was is src by : List ℕ) (to from at j len p q : ℕ) → Run (addedProduct f was to src from by at) was is to j → j < len → to + len ≤ length was →
-      p ≡ times f (getD src (from + j) 0) (getD by (at + j) 0) → q ≡ plus f (getD is (to + j) 0) p →
-      Run (addedProduct f was to src from by at) was (set is (to + j) q) to (j + 1)
+  pub product-more : (was is src by : List ℕ) (to from at j len q : ℕ) → Run (addedProduct f was to src from by at) was is to j → j < len → to + len ≤ length was →
+      q ≡ plus f (getD is (to + j) 0) (times f (getD src (from + j) 0) (getD by (at + j) 0)) → Run (addedProduct f was to src from by at) was (set is (to + j) q) to (j + 1)
   unfolding addedProduct
-  product-more was is src by to from at j len p q r h l e d =
-      run-more (addedProduct f was to src from by at) was is to j q r (omega arith) (d ∙ ap₂ (plus f) (r .high (to + j) (omega arith)) e)
+  product-more was is src by to from at j len q r h l d =
+      run-more (addedProduct f was to src from by at) was is to j q r (omega arith) (d ∙ ap (λ (x : ℕ). plus f x (times f (getD src (from + j) 0) (getD by (at + j) 0))) (r .high (to + j) (omega arith)))
 
-  pub multiple-more : (was is src : List ℕ) (to from j len v p q : ℕ) → Run (addedMultiple f was to src from v) was is to j → j < len → to + len ≤ length was →
-      p ≡ times f (getD src (from + j) 0) v → q ≡ plus f (getD is (to + j) 0) p → Run (addedMultiple f was to src from v) was (set is (to + j) q) to (j + 1)
+  pub multiple-more : (was is src : List ℕ) (to from j len v q : ℕ) → Run (addedMultiple f was to src from v) was is to j → j < len → to + len ≤ length was →
+      q ≡ plus f (getD is (to + j) 0) (times f (getD src (from + j) 0) v) → Run (addedMultiple f was to src from v) was (set is (to + j) q) to (j + 1)
   unfolding addedMultiple
-  multiple-more was is src to from j len v p q r h l e d =
-      run-more (addedMultiple f was to src from v) was is to j q r (omega arith) (d ∙ ap₂ (plus f) (r .high (to + j) (omega arith)) e)
-
-  pub accrue-more : (was is cw ci by : List ℕ) (to j len p q : ℕ) → Run (accrued f was to cw by) was is to j → Run (stepped f cw by) cw ci 0 j → j < len →
-      to + len ≤ length was → p ≡ times f (getD ci j 0) (getD by j 0) → q ≡ plus f (getD is (to + j) 0) p →
-      Run (accrued f was to cw by) was (set is (to + j) q) to (j + 1)
-  unfolding accrued
-  accrue-more was is cw ci by to j len p q r s h l e d =
-      run-more (accrued f was to cw by) was is to j q r (omega arith)
-      (d ∙ ap₂ (plus f) (r .high (to + j) (omega arith)) (e ∙ ap (λ (x : ℕ). times f x (getD by j 0)) (s .high j (omega arith))))
-
-  pub step-more : (cw ci by : List ℕ) (j len p : ℕ) → Run (stepped f cw by) cw ci 0 j → j < len → len ≤ length cw →
-      p ≡ times f (getD ci j 0) (getD by j 0) → Run (stepped f cw by) cw (set ci j p) 0 (j + 1)
-  unfolding stepped
-  step-more cw ci by j len p s h l e =
-      rw (sym (ap (λ (i : ℕ). set ci i p) (zero-add j)))
-      (run-more (stepped f cw by) cw ci 0 j p s (omega arith) (e ∙ ap (λ (x : ℕ). times f x (getD by j 0)) (s .high j (omega arith))))
+  multiple-more was is src to from j len v q r h l d =
+      run-more (addedMultiple f was to src from v) was is to j q r (omega arith) (d ∙ ap (λ (x : ℕ). plus f x (times f (getD src (from + j) 0) v)) (r .high (to + j) (omega arith)))
 
   pub shift-more : (was is cw ci by : List ℕ) (to at j len p q : ℕ) → Run (shifted f was to cw by at) was is to j → Run (copied was to) cw ci 0 j → j < len → to + len ≤ length was →
       p ≡ times f (getD is (to + j) 0) (getD by (at + j) 0) → q ≡ minus f (getD ci j 0) p → Run (shifted f was to cw by at) was (set is (to + j) q) to (j + 1)

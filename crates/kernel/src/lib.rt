@@ -4,15 +4,22 @@
 use symbol::plain::ORDER;
 use symbol::plain::all_powers;
 use symbol::plain::difference;
+use symbol::plain::gather;
 use symbol::plain::index;
+use symbol::plain::lazy_product;
+use symbol::plain::lazy_sum;
 use symbol::plain::product;
+use symbol::plain::settle;
 use symbol::plain::sum;
+use symbol::plain::sum_product;
 ghost use mathlib.Core.Path.{_≡_};
 ghost use Prim.Native.Nat.{_+_, _*_, _<_, _≤_};
 ghost use lib.ListN.{length, getD};
+ghost use Rattle.algebra.specs.Field.{Ops};
+ghost use Rattle.algebra.specs.Coding.{InRange};
 ghost use Rattle.symbol.specs.Elem.{gf256};
-ghost use Rattle.kernel.specs.Runs.{Run, filled, copied, repeated, added, addedProduct, addedMultiple, stepped, accrued, shifted, parted, lookedUp, sampled};
-ghost use Rattle.kernel.specs.Runs.{Spaced, addedSpaced, sumApart, addedApart, allZero, Inverses};
+ghost use Rattle.kernel.specs.Runs.{Run, Standing, filled, copied, repeated, added, addedProduct, addedMultiple, stepped, accrued, shifted, parted, lookedUp, sampled};
+ghost use Rattle.kernel.specs.Runs.{Spaced, addedSpaced, apart, Grid, grid, Gridding, addedGrid, allZero, Inverses};
 
 // The symbol at a place.
 pub fn at(xs: &[u8], i: usize) -> u8
@@ -103,22 +110,36 @@ pub fn add(out: &mut [u8], to: usize, len: usize, src: &[u8], from: usize)
     }
 }
 
-// The sum of n symbols, so many places apart.
-fn sum_apart(src: &[u8], at: usize, gap: usize, n: usize) -> u8
-    requires { ⌜ at + n * gap < length (now src) + gap ⌝ }
-    ensures { λ r. ⌜ r ≡ sumApart gf256 (now (src .entry)) at gap n ⌝ }
+// The sum of v and n symbols, so many places apart, not reduced.
+fn gather_apart(v: u8, src: &[u8], at: usize, gap: usize, n: usize) -> u8
+    requires { ⌜ InRange (gf256 .coding) (now src) × (at + n * gap < length (now src) + gap) × (v + n * gf256 .coding .size < 65536) ⌝ }
+    ensures { λ r. ⌜ (gf256 .coding .elem r ≡ gf256 .ops .add (gf256 .coding .elem v) (apart gf256 (now (src .entry)) at gap n)) × (r ≤ v + n * gf256 .coding .size) ⌝ }
 {
-    let mut v = 0u8;
+    let mut sum = v;
     let mut b = 0usize;
     while b < n {
-        v = sum(v, src[at + b * gap]);
+        sum = gather(sum, src[at + b * gap]);
         b += 1;
     }
-    v
+    sum
 }
 
-// A run plus n runs of another buffer, so many places apart.
-pub fn add_apart(
+// The sum of v and m times so many symbols, further apart.
+fn gather_grid(v: u8, src: &[u8], at: usize, gap: usize, n: usize, far: usize, m: usize) -> u8
+    requires { ⌜ InRange (gf256 .coding) (now src) × Grid (now src) at gap n far m × (v + m * n * gf256 .coding .size < 65536) ⌝ }
+    ensures { λ r. ⌜ gf256 .coding .elem r ≡ gf256 .ops .add (gf256 .coding .elem v) (grid gf256 (now (src .entry)) at gap n far m) ⌝ }
+{
+    let mut sum = v;
+    let mut g = 0usize;
+    while g < m {
+        sum = gather_apart(sum, src, at + g * far, gap, n);
+        g += 1;
+    }
+    sum
+}
+
+// A run plus m times n runs of another buffer, all of symbols, with one reduction a symbol.
+pub fn add_grid(
     out: &mut [u8],
     to: usize,
     len: usize,
@@ -126,13 +147,15 @@ pub fn add_apart(
     from: usize,
     gap: usize,
     n: usize,
+    far: usize,
+    m: usize,
 )
-    requires { ⌜ (to + len ≤ length (now out)) × (from + len ≤ length (now src)) × (from + n * gap + len ≤ length (now src) + gap) ⌝ }
-    ensures { λ _. ⌜ Run (addedApart gf256 (now (out .entry)) to (now (src .entry)) from gap n) (now (out .entry)) (now (out .exit)) to len ⌝ }
+    requires { ⌜ Gridding gf256 (now out) to len (now src) from gap n far m ⌝ }
+    ensures { λ _. ⌜ Run (addedGrid gf256 (now (out .entry)) to (now (src .entry)) from gap n far m) (now (out .entry)) (now (out .exit)) to len ⌝ }
 {
     let mut j = 0usize;
     while j < len {
-        out[to + j] = sum(out[to + j], sum_apart(src, from + j, gap, n));
+        out[to + j] = settle(gather_grid(out[to + j], src, from + j, gap, n, far, m));
         j += 1;
     }
 }
@@ -172,7 +195,7 @@ pub fn add_product(
 {
     let mut j = 0usize;
     while j < len {
-        out[to + j] = sum(out[to + j], product(src[from + j], by[at + j]));
+        out[to + j] = sum_product(out[to + j], src[from + j], by[at + j]);
         j += 1;
     }
 }
@@ -184,22 +207,22 @@ pub fn add_multiple(out: &mut [u8], to: usize, len: usize, src: &[u8], from: usi
 {
     let mut j = 0usize;
     while j < len {
-        out[to + j] = sum(out[to + j], product(src[from + j], v));
+        out[to + j] = sum_product(out[to + j], src[from + j], v);
         j += 1;
     }
 }
 
-// The current terms times their factors, and the products added to a run.
+// The current terms times their factors, and the products added to a run; neither is reduced.
 pub fn accrue(out: &mut [u8], to: usize, len: usize, cur: &mut [u8], by: &[u8])
     requires { ⌜ (to + len ≤ length (now out)) × (len ≤ length (now cur)) × (len ≤ length (now by)) ⌝ }
-    ensures { λ _. ⌜ Run (accrued gf256 (now (out .entry)) to (now (cur .entry)) (now (by .entry))) (now (out .entry)) (now (out .exit)) to len ⌝ }
-    ensures { λ _. ⌜ Run (stepped gf256 (now (cur .entry)) (now (by .entry))) (now (cur .entry)) (now (cur .exit)) 0 len ⌝ }
+    ensures { λ _. ⌜ Standing gf256 (accrued gf256 (now (out .entry)) to (now (cur .entry)) (now (by .entry))) (now (out .entry)) (now (out .exit)) to len ⌝ }
+    ensures { λ _. ⌜ Standing gf256 (stepped gf256 (now (cur .entry)) (now (by .entry))) (now (cur .entry)) (now (cur .exit)) 0 len ⌝ }
 {
     let mut j = 0usize;
     while j < len {
-        let v = product(cur[j], by[j]);
+        let v = lazy_product(cur[j], by[j]);
         cur[j] = v;
-        out[to + j] = sum(out[to + j], v);
+        out[to + j] = lazy_sum(out[to + j], v);
         j += 1;
     }
 }

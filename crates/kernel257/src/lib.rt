@@ -5,15 +5,22 @@
 use symbol257::plain::ORDER;
 use symbol257::plain::all_powers;
 use symbol257::plain::difference;
+use symbol257::plain::gather;
 use symbol257::plain::index;
+use symbol257::plain::lazy_product;
+use symbol257::plain::lazy_sum;
 use symbol257::plain::product;
+use symbol257::plain::settle;
 use symbol257::plain::sum;
+use symbol257::plain::sum_product;
 ghost use mathlib.Core.Path.{_≡_};
 ghost use Prim.Native.Nat.{_+_, _*_, _<_, _≤_};
 ghost use lib.ListN.{length, getD};
+ghost use Rattle.algebra.specs.Field.{Ops};
+ghost use Rattle.algebra.specs.Coding.{InRange};
 ghost use Rattle.symbol257.specs.Elem.{gf257};
-ghost use Rattle.kernel.specs.Runs.{Run, filled, copied, repeated, added, addedProduct, addedMultiple, stepped, accrued, shifted, parted, lookedUp, sampled};
-ghost use Rattle.kernel.specs.Runs.{Spaced, addedSpaced, sumApart, addedApart, allZero, Inverses};
+ghost use Rattle.kernel.specs.Runs.{Run, Standing, filled, copied, repeated, added, addedProduct, addedMultiple, stepped, accrued, shifted, parted, lookedUp, sampled};
+ghost use Rattle.kernel.specs.Runs.{Spaced, addedSpaced, apart, Grid, grid, Gridding, addedGrid, allZero, Inverses};
 
 // The symbol at a place.
 pub fn at(xs: &[u16], i: usize) -> u16
@@ -104,22 +111,36 @@ pub fn add(out: &mut [u16], to: usize, len: usize, src: &[u16], from: usize)
     }
 }
 
-// The sum of n symbols, so many places apart.
-fn sum_apart(src: &[u16], at: usize, gap: usize, n: usize) -> u16
-    requires { ⌜ at + n * gap < length (now src) + gap ⌝ }
-    ensures { λ r. ⌜ r ≡ sumApart gf257 (now (src .entry)) at gap n ⌝ }
+// The sum of v and n symbols, so many places apart, not reduced.
+fn gather_apart(v: u16, src: &[u16], at: usize, gap: usize, n: usize) -> u16
+    requires { ⌜ InRange (gf257 .coding) (now src) × (at + n * gap < length (now src) + gap) × (v + n * gf257 .coding .size < 65536) ⌝ }
+    ensures { λ r. ⌜ (gf257 .coding .elem r ≡ gf257 .ops .add (gf257 .coding .elem v) (apart gf257 (now (src .entry)) at gap n)) × (r ≤ v + n * gf257 .coding .size) ⌝ }
 {
-    let mut v = 0u16;
+    let mut sum = v;
     let mut b = 0usize;
     while b < n {
-        v = sum(v, src[at + b * gap]);
+        sum = gather(sum, src[at + b * gap]);
         b += 1;
     }
-    v
+    sum
 }
 
-// A run plus n runs of another buffer, so many places apart.
-pub fn add_apart(
+// The sum of v and m times so many symbols, further apart.
+fn gather_grid(v: u16, src: &[u16], at: usize, gap: usize, n: usize, far: usize, m: usize) -> u16
+    requires { ⌜ InRange (gf257 .coding) (now src) × Grid (now src) at gap n far m × (v + m * n * gf257 .coding .size < 65536) ⌝ }
+    ensures { λ r. ⌜ gf257 .coding .elem r ≡ gf257 .ops .add (gf257 .coding .elem v) (grid gf257 (now (src .entry)) at gap n far m) ⌝ }
+{
+    let mut sum = v;
+    let mut g = 0usize;
+    while g < m {
+        sum = gather_apart(sum, src, at + g * far, gap, n);
+        g += 1;
+    }
+    sum
+}
+
+// A run plus m times n runs of another buffer, all of symbols, with one reduction a symbol.
+pub fn add_grid(
     out: &mut [u16],
     to: usize,
     len: usize,
@@ -127,13 +148,15 @@ pub fn add_apart(
     from: usize,
     gap: usize,
     n: usize,
+    far: usize,
+    m: usize,
 )
-    requires { ⌜ (to + len ≤ length (now out)) × (from + len ≤ length (now src)) × (from + n * gap + len ≤ length (now src) + gap) ⌝ }
-    ensures { λ _. ⌜ Run (addedApart gf257 (now (out .entry)) to (now (src .entry)) from gap n) (now (out .entry)) (now (out .exit)) to len ⌝ }
+    requires { ⌜ Gridding gf257 (now out) to len (now src) from gap n far m ⌝ }
+    ensures { λ _. ⌜ Run (addedGrid gf257 (now (out .entry)) to (now (src .entry)) from gap n far m) (now (out .entry)) (now (out .exit)) to len ⌝ }
 {
     let mut j = 0usize;
     while j < len {
-        out[to + j] = sum(out[to + j], sum_apart(src, from + j, gap, n));
+        out[to + j] = settle(gather_grid(out[to + j], src, from + j, gap, n, far, m));
         j += 1;
     }
 }
@@ -173,7 +196,7 @@ pub fn add_product(
 {
     let mut j = 0usize;
     while j < len {
-        out[to + j] = sum(out[to + j], product(src[from + j], by[at + j]));
+        out[to + j] = sum_product(out[to + j], src[from + j], by[at + j]);
         j += 1;
     }
 }
@@ -185,22 +208,22 @@ pub fn add_multiple(out: &mut [u16], to: usize, len: usize, src: &[u16], from: u
 {
     let mut j = 0usize;
     while j < len {
-        out[to + j] = sum(out[to + j], product(src[from + j], v));
+        out[to + j] = sum_product(out[to + j], src[from + j], v);
         j += 1;
     }
 }
 
-// The current terms times their factors, and the products added to a run.
+// The current terms times their factors, and the products added to a run; neither is reduced.
 pub fn accrue(out: &mut [u16], to: usize, len: usize, cur: &mut [u16], by: &[u16])
     requires { ⌜ (to + len ≤ length (now out)) × (len ≤ length (now cur)) × (len ≤ length (now by)) ⌝ }
-    ensures { λ _. ⌜ Run (accrued gf257 (now (out .entry)) to (now (cur .entry)) (now (by .entry))) (now (out .entry)) (now (out .exit)) to len ⌝ }
-    ensures { λ _. ⌜ Run (stepped gf257 (now (cur .entry)) (now (by .entry))) (now (cur .entry)) (now (cur .exit)) 0 len ⌝ }
+    ensures { λ _. ⌜ Standing gf257 (accrued gf257 (now (out .entry)) to (now (cur .entry)) (now (by .entry))) (now (out .entry)) (now (out .exit)) to len ⌝ }
+    ensures { λ _. ⌜ Standing gf257 (stepped gf257 (now (cur .entry)) (now (by .entry))) (now (cur .entry)) (now (cur .exit)) 0 len ⌝ }
 {
     let mut j = 0usize;
     while j < len {
-        let v = product(cur[j], by[j]);
+        let v = lazy_product(cur[j], by[j]);
         cur[j] = v;
-        out[to + j] = sum(out[to + j], v);
+        out[to + j] = lazy_sum(out[to + j], v);
         j += 1;
     }
 }

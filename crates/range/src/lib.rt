@@ -2,16 +2,14 @@
 // is a symbol, and the compiler leaves the loops out.
 use symbol::plain::SIZE;
 ghost use mathlib.Core.Path.{_≡_};
-ghost use mathlib.Core.Bool.{_&&_};
-ghost use Prim.Native.Nat.{ℕ, _+_, _*_, _≤_};
-ghost use lib.Dec.{ltb};
+ghost use Prim.Native.Nat.{ℕ, _+_, _*_, _<_, _≤_};
 ghost use lib.ListN.{length};
 ghost use Rattle.symbol.specs.Elem.{gf256};
-ghost use Rattle.range.specs.Range.{symbolsFrom, symbolRows};
+ghost use Rattle.range.specs.Range.{symbolsFrom, symbolRows, Highest, HighestApart};
 
 // The higher of two numbers.
 fn higher(a: u8, b: u8) -> u8
-    ensures { λ r. ⌜ ((n : ℕ) → ltb r n ≡ (ltb a n && ltb b n)) ⌝ }
+    ensures { λ r. ⌜ (a ≤ r) × (b ≤ r) × ((n : ℕ) → a < n → b < n → r < n) ⌝ }
 {
     if a < b { b } else { a }
 }
@@ -19,7 +17,7 @@ fn higher(a: u8, b: u8) -> u8
 // The highest number of a run, 0 of an empty one.
 fn highest(xs: &[u8], from: usize, len: usize) -> u8
     requires { ⌜ from + len ≤ length (now xs) ⌝ }
-    ensures { λ r. ⌜ ltb r (gf256 .coding .size) ≡ symbolsFrom gf256 (now (xs .entry)) from len ⌝ }
+    ensures { λ r. ⌜ Highest (now (xs .entry)) from len r ⌝ }
 {
     let mut top = 0u8;
     let mut k = 0usize;
@@ -30,12 +28,39 @@ fn highest(xs: &[u8], from: usize, len: usize) -> u8
     top
 }
 
+// The highest of four numbers, so many places apart.
+fn highest_apart(xs: &[u8], at: usize, gap: usize) -> u8
+    requires { ⌜ at + 3 * gap < length (now xs) ⌝ }
+    ensures { λ r. ⌜ HighestApart (now (xs .entry)) at gap r ⌝ }
+{
+    let low = higher(kernel::at(xs, at), kernel::at(xs, at + gap));
+    let high = higher(kernel::at(xs, at + 2 * gap), kernel::at(xs, at + 3 * gap));
+    higher(low, high)
+}
+
+// The highest of four times `gap` numbers, in four parts at once, so that a turn of the loop does more.
+fn highest_of_four(xs: &[u8], from: usize, gap: usize) -> u8
+    requires { ⌜ from + 4 * gap ≤ length (now xs) ⌝ }
+    ensures { λ r. ⌜ Highest (now (xs .entry)) from (4 * gap) r ⌝ }
+{
+    let mut top = 0u8;
+    let mut k = 0usize;
+    while k < gap {
+        top = higher(top, highest_apart(xs, from + k, gap));
+        k += 1;
+    }
+    top
+}
+
 // Whether every number of a run is a symbol.
 pub fn are_symbols(xs: &[u8], from: usize, len: usize) -> bool
     requires { ⌜ from + len ≤ length (now xs) ⌝ }
     ensures { λ r. ⌜ r ≡ symbolsFrom gf256 (now (xs .entry)) from len ⌝ }
 {
-    (highest(xs, from, len) as usize) < SIZE
+    let gap = len / 4;
+    let top = highest_of_four(xs, from, gap);
+    let rest = highest(xs, from + 4 * gap, len % 4);
+    (higher(top, rest) as usize) < SIZE
 }
 
 // The same of a run in each row: so many rows of `width` numbers, and in each row `count` numbers from the place `first` on.

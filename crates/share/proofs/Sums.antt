@@ -2,15 +2,18 @@
 -- Assumes nothing.
 use mathlib.Core.Path.{_≡_, sym, ap, ap₂, _∙_, subst}
 use mathlib.Core.List.{List}
-use Prim.Native.Nat.{ℕ, suc, _+_, _-_, _*_, _/_, _%_, _^_, min, _<_}
-use native.Mathlib.Nat.{mul-assoc, mul-comm, div-lt-iff-lt-mul, mod-lt, div-add-mod', pow-suc, le-of-lt}
+use Prim.Native.Nat.{ℕ, suc, _+_, _-_, _*_, _/_, _%_, _^_, min, _<_, _≤_}
+use native.Mathlib.Nat.{mul-assoc, mul-comm, mul-pos, mul-div-cancel, mul-le-mul, le-mul-of-pos-right, div-lt-iff-lt-mul, mod-lt, div-add-mod', pow-suc, le-of-lt}
 use native.Mathlib.Omega.{arith}
-use lib.ListN.{getD}
+use lib.ListN.{length, getD, drop}
+use lib.Seq.{getD-take, getD-drop}
 use lib.Pow.{pow-add}
+use Rattle.lists.proofs.Numbers.{cell-in}
 use Rattle.algebra.specs.Field.{Ops}
 use Rattle.algebra.specs.Sum.{sum}
 use Rattle.algebra.specs.Layers.{layerOf}
 use Rattle.algebra.proofs.Layers.{power-pos}
+use Rattle.algebra.proofs.Sum.{sum-congr}
 use Rattle.algebra.proofs.Cabinet.{group-sum}
 use Rattle.algebra.specs.Shape.{Field}
 use Rattle.algebra.specs.Plain.{Working}
@@ -20,18 +23,46 @@ use Rattle.layout.proofs.Facts.{bounds, power-in}
 use Rattle.layout.proofs.Numbers.{groups-are}
 use Rattle.codeword.specs.Codeword.{shapeOf}
 use Rattle.codeword.proofs.Usable.{usable}
-use Rattle.share.specs.Inner.{RunsOf, InRuns, DigitsAdded, sumAt, Summing, Summed}
+use Rattle.share.specs.Inner.{RunsOf, InTrays, cut, layered, TraysAdded, sumAt, Summing, Summed}
 
 pub groups-pos : (l : Layout) → Cabinet l → 0 < groups l
 groups-pos l a = rw (groups-are l a) (power-pos (digits l) (l .racks - 1) (bounds l a .digits-low))
 
-pub runs-are : (l : Layout) (h s run count : ℕ) → Cabinet l → h < l .racks → s ≡ digits l → run ≡ min (s ^ h) (layerLimit + 1) →
-    count ≡ min (s ^ (l .racks - 1 - h)) (layerLimit + 1) → RunsOf l h s run count
-runs-are l h s run count a host es er ec = record {
-  digits-are = es;
-  run-is = er ∙ ap (λ b. min (b ^ h) (layerLimit + 1)) es ∙ omega (arith, power-in l a h (le-of-lt host));
-  count-is = ec ∙ ap (λ b. min (b ^ (l .racks - 1 - h)) (layerLimit + 1)) es ∙ omega (arith, power-in l a (l .racks - 1 - h) (omega arith));
-}
+-- a symbol of the tray at a place
+pub cut-at : (l : Layout) (symbols : List ℕ) (from j : ℕ) → j < layers l → getD (cut l symbols from) j 0 ≡ getD symbols (from + j) 0
+unfolding cut
+cut-at l symbols from j h = getD-take (layers l) (drop from symbols) j 0 h ∙ getD-drop from symbols j 0
+
+pub runs-are : (l : Layout) (h s run total : ℕ) → Cabinet l → h < l .racks → s ≡ digits l → run ≡ min (s ^ h) (layerLimit + 1) → total ≡ layers l → RunsOf l h s run (total / (s * run))
+runs-are l h s run total a host es er et = record { digits-are = es; run-is = run-is; count-is = ap₂ _/_ (et ∙ whole) (ap₂ _*_ es run-is) ∙ mul-div-cancel (digits l ^ (l .racks - 1 - h)) some }
+  where
+    run-is : run ≡ digits l ^ h
+    run-is = er ∙ ap (λ b. min (b ^ h) (layerLimit + 1)) es ∙ omega (arith, power-in l a h (le-of-lt host))
+
+    some : 0 < digits l * digits l ^ h
+    some = mul-pos (bounds l a .digits-low) (power-pos (digits l) h (bounds l a .digits-low))
+
+    -- L is a power of s, of which s and the run are factors
+    whole : layers l ≡ digits l ^ (l .racks - 1 - h) * (digits l * digits l ^ h)
+    whole =
+        (let e : l .racks ≡ l .racks - 1 - h + suc h = omega arith in ap (λ n. digits l ^ n) e)
+        ∙ pow-add (digits l) (l .racks - 1 - h) (suc h)
+        ∙ ap (λ n. digits l ^ (l .racks - 1 - h) * n) (pow-suc (digits l) h ∙ mul-comm (digits l ^ h) (digits l))
+
+-- what is divided by is not zero, and a number
+pub block-some : (l : Layout) (h s run : ℕ) → Cabinet l → s ≡ digits l → run ≡ min (s ^ h) (layerLimit + 1) → 0 < s * run
+block-some l h s run a es er = mul-pos (omega (arith, bounds l a .digits-low)) (omega (arith, power-pos s h (omega (arith, bounds l a .digits-low))))
+
+pub block-low : (l : Layout) (h s run : ℕ) → Cabinet l → s ≡ digits l → run ≡ min (s ^ h) (layerLimit + 1) → s * run ≤ 60 * 4097
+block-low l h s run a es er =
+    let b = bounds l a in
+    let x : s ≤ 60 = omega arith in
+    let y : run ≤ 4097 = omega arith in
+    mul-le-mul x y
+
+-- a rack's trays are as long as the layout has layers
+pub rack-layers : (l : Layout) (rack : List ℕ) → Cabinet l → length rack ≡ l .size * layers l → length rack / l .size ≡ layers l
+rack-layers l rack a e = ap (λ n. n / l .size) (e ∙ mul-comm (l .size) (layers l)) ∙ mul-div-cancel (layers l) (bounds l a .size-low)
 
 module _ (l : Layout) (h s run count : ℕ) (a : Cabinet l) (host : h < l .racks) (r : RunsOf l h s run count) where
   run-pos : 0 < run
@@ -52,31 +83,53 @@ module _ (l : Layout) (h s run count : ℕ) (a : Cabinet l) (host : h < l .racks
       ∙ ap₂ _*_ (sym (groups-are l a) ∙ sym count-whole) (sym (r .digits-are))
       ∙ mul-assoc count run s ∙ ap (λ n. count * n) (mul-comm run s) ∙ sym (mul-assoc count s run)
 
-  pub runs-of : (N : ℕ) (symbols sums : List ℕ) → Summing N l h symbols sums → InRuns s run count 0 symbols sums
-  runs-of N symbols sums t = record {
+  pub runs-of : {A : Type 0} (f : Field A) (far : ℕ) (symbols : List ℕ) (at m : ℕ) (sums : List ℕ) → far ≡ count * s * run → Summing f l h symbols at m sums → InTrays f s run count symbols at far m sums
+  runs-of f far symbols at m sums e t = record {
     some = run-pos;
     some-runs = rw (r .count-is) (power-pos (digits l) (l .racks - 1 - h) (bounds l a .digits-low));
-    digit-in = omega (arith, r .digits-are, bounds l a .digits-low);
-    long = t .long ∙ layers-whole;
+    some-digits = omega (arith, r .digits-are, bounds l a .digits-low);
+    some-trays = t .some-trays;
+    whole = e;
+    long = rw (e ∙ sym layers-whole) (t .long);
     room = rw count-whole (t .room);
+    given = t .given;
+    held = λ n k. t .held n (rw count-whole at k);
+    few = let b = bounds l a in let d : s ≤ 60 = omega (arith, r .digits-are, b .digits-high, b .racks-high) in omega (arith, mul-le-mul (t .at-once) d);
   }
 
+  -- the length of a tray is a number
+  pub far-in : {A : Type 0} (f : Field A) (symbols : List ℕ) (at m : ℕ) (sums : List ℕ) → Summing f l h symbols at m sums → (count * s ≤ layerLimit) × (count * s * run ≤ layerLimit)
+  far-in f symbols at m sums t =
+      let w : count * s * run ≤ layerLimit = rw (sym layers-whole) (a .layers-high) in
+      (omega (arith, w, le-mul-of-pos-right (count * s) run-pos), w)
+
   -- number i of run q is group q·s^h + i, and its layers are those added
-  pub summed : {A : Type 0} {f : Field A} (W : Working f) → Admissible (f .order) l → (symbols was is : List ℕ) → DigitsAdded f s run count s symbols was is → Summed f l h symbols was is
-  summed {A} {f} W adm symbols was is d = record { same = d .same; done = at; small = low; rest = λ p k. d .rest p (rw count-whole k) }
+  pub summed : {A : Type 0} {f : Field A} (W : Working f) → Admissible (f .order) l → (far : ℕ) (symbols : List ℕ) (at m : ℕ) (was is : List ℕ) → far ≡ count * s * run → 0 < m →
+      TraysAdded f s run count symbols at far m was is → Summed f l h symbols at m was is
+  summed {A} {f} W adm far symbols at m was is e-far pos d = record { same = d .same; done = done; small = low; rest = λ p k. d .rest p (rw count-whole k) }
     where
       low : (p : ℕ) → p < groups l → getD is p 0 < f .coding .size
       low p k =
           subst (λ n. getD is n 0 < f .coding .size) (div-add-mod' p run)
-          (d .small (omega (arith, r .digits-are, bounds l a .digits-low)) (p / run) (p % run) (div-lt-iff-lt-mul run-pos .1 (rw count-whole k)) (mod-lt p run-pos))
+          (d .small pos (p / run) (p % run) (div-lt-iff-lt-mul run-pos .1 (rw count-whole k)) (mod-lt p run-pos))
 
-      at : (p : ℕ) → p < groups l → f .coding .elem (getD is p 0) ≡ f .ops .add (f .coding .elem (getD was p 0)) (sumAt f l h symbols p)
-      at p k =
-          subst (λ n. f .coding .elem (getD is n 0) ≡ f .ops .add (f .coding .elem (getD was n 0)) (sum (f .ops) s (λ b. f .coding .elem (getD symbols ((p / run * s + b) * run + p % run) 0)))) (div-add-mod' p run)
-          (d .done (p / run) (p % run) (div-lt-iff-lt-mul run-pos .1 (rw count-whole k)) (mod-lt p run-pos))
-          ∙ ap (f .ops .add (f .coding .elem (getD was p 0))) layered
+      done : (p : ℕ) → p < groups l →
+          f .coding .elem (getD is p 0) ≡ f .ops .add (f .coding .elem (getD was p 0)) (sum (f .ops) m (λ g. sumAt f l h (cut l symbols (at + g * layers l)) p))
+      done p k =
+          subst (λ n. f .coding .elem (getD is n 0) ≡ f .ops .add (f .coding .elem (getD was n 0)) (sum (f .ops) m (λ g. sum (f .ops) s (layered f s run symbols (at + g * far) (p / run) (p % run))))) (div-add-mod' p run)
+          (d .done (p / run) (p % run) within (mod-lt p run-pos))
+          ∙ ap (f .ops .add (f .coding .elem (getD was p 0))) (sum-congr (f .ops) m _ _ (λ g n. tray (at + g * far) ∙ ap (λ z. sumAt f l h (cut l symbols (at + g * z)) p) (e-far ∙ sym layers-whole)))
         where
-          layered : sum (f .ops) s (λ b. f .coding .elem (getD symbols ((p / run * s + b) * run + p % run) 0)) ≡ sumAt f l h symbols p
-          layered = unfold layerOf in
-              ap₂ (λ n w. sum (f .ops) n (λ b. f .coding .elem (getD symbols ((p / w * n + b) * w + p % w) 0))) (r .digits-are) (r .run-is)
-              ∙ sym (group-sum (shapeOf f l) (usable W l adm .fits) h host p (rw (groups-are l (adm .cabinet)) at k) (λ j. f .coding .elem (getD symbols j 0)))
+          within : p / run < count
+          within = div-lt-iff-lt-mul run-pos .1 (rw count-whole k)
+
+          -- a layer of the tray at a place
+          at-cut : (from b : ℕ) → b < s → f .coding .elem (getD symbols (from + ((p / run * s + b) * run + p % run)) 0) ≡ f .coding .elem (getD (cut l symbols from) ((p / run * s + b) * run + p % run) 0)
+          at-cut from b n =
+              ap (f .coding .elem) (sym (cut-at l symbols from _ (rw layers-whole (cell-in (count * s) run (p / run * s + b) (p % run) (cell-in count s (p / run) b within n) (mod-lt p run-pos)))))
+
+          tray : (from : ℕ) → sum (f .ops) s (layered f s run symbols from (p / run) (p % run)) ≡ sumAt f l h (cut l symbols from) p
+          tray from = unfold layered layerOf in
+              sum-congr (f .ops) s _ _ (at-cut from)
+              ∙ ap₂ (λ n w. sum (f .ops) n (λ b. f .coding .elem (getD (cut l symbols from) ((p / w * n + b) * w + p % w) 0))) (r .digits-are) (r .run-is)
+              ∙ sym (group-sum (shapeOf f l) (usable W l adm .fits) h host p (rw (groups-are l (adm .cabinet)) at k) (λ j. f .coding .elem (getD (cut l symbols from) j 0)))

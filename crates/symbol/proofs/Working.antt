@@ -7,6 +7,7 @@ use lib.Bits.{bitXor}
 use Rattle.algebra.specs.Field.{Ops}
 use Rattle.algebra.specs.Sum.{pow}
 use Rattle.algebra.specs.Plain.{reduced, plus, minus, times, raised, rootPower, Working}
+use Rattle.algebra.proofs.Plain.{elem-plus, elem-times}
 use Rattle.symbol.specs.Arithmetic.{_⊕_, _⊗_, power, zpow}
 use Rattle.symbol.specs.Elem.{Elem, elem, ops, z, gf256}
 use Rattle.symbol.proofs.Laws.{⊗-lt}
@@ -65,3 +66,13 @@ working = record {
   power-log = λ x p h. sym (zpow-is (log x)) ∙ zpow-log p h;
   room = lit≤ tt;
 }
+
+-- numbers that need not be reduced always are
+pub lazy-times : (a b r : ℕ) → r ≡ times gf256 a b → elem r ≡ ops .mul (elem a) (elem b)
+lazy-times a b r e = ap elem e ∙ elem-times working a b
+
+pub lazy-plus : (a b r : ℕ) → r ≡ plus gf256 a b → elem r ≡ ops .add (elem a) (elem b)
+lazy-plus a b r e = ap elem e ∙ elem-plus working a b
+
+pub sum-product-is : (a x y p r : ℕ) → p ≡ times gf256 x y → r ≡ plus gf256 a p → r ≡ plus gf256 a (times gf256 x y)
+sum-product-is a x y p r e d = d ∙ ap (plus gf256 a) e

@@ -3,8 +3,9 @@
 use crate::Symbol;
 use crate::powers::power_at;
 ghost use mathlib.Core.Path.{_≡_};
-ghost use Prim.Native.Nat.{ℕ, _<_};
+ghost use Prim.Native.Nat.{ℕ, _+_, _<_, _≤_};
 ghost use lib.ListN.{getD};
+ghost use Rattle.algebra.specs.Field.{Ops};
 ghost use Rattle.algebra.specs.Plain.{reduced, plus, minus, times, raised, rootPower};
 ghost use Rattle.symbol257.specs.Elem.{gf257};
 
@@ -46,15 +47,50 @@ pub fn difference(a: u16, b: u16) -> u16
     (a % Symbol::PRIME + (Symbol::PRIME - b % Symbol::PRIME)) % Symbol::PRIME
 }
 
-// 256 is less one modulo 257, so that of the four bytes of the whole product two are added and two taken away. No branch and only 16-bit numbers after the product,
-// so that a loop over it can be vectorised.
-pub fn product(a: u16, b: u16) -> u16
-    ensures { λ r. ⌜ r ≡ times gf257 a b ⌝ }
+// A product that need not be reduced, and a sum with such a one (lazy reduction). 256 is less one modulo 257, so that of the four bytes of the whole product two are
+// added and two taken away. No branch and only 16-bit numbers after the product, so that a loop over it can be vectorised.
+pub fn lazy_product(a: u16, b: u16) -> u16
+    ensures { λ r. ⌜ (gf257 .coding .elem r ≡ gf257 .ops .mul (gf257 .coding .elem a) (gf257 .coding .elem b)) × (r ≤ 1024) ⌝ }
 {
     let x = wide(a) * wide(b);
     let low = (x % 65536) as u16;
     let high = (x / 65536) as u16;
-    (low % 256 + high % 256 + 2 * Symbol::PRIME - low / 256 - high / 256) % Symbol::PRIME
+    low % 256 + high % 256 + 2 * Symbol::PRIME - low / 256 - high / 256
+}
+
+pub fn lazy_sum(a: u16, b: u16) -> u16
+    requires { ⌜ b ≤ 1024 ⌝ }
+    ensures { λ r. ⌜ gf257 .coding .elem r ≡ gf257 .ops .add (gf257 .coding .elem a) (gf257 .coding .elem b) ⌝ }
+{
+    a % 256 + b + Symbol::PRIME - a / 256
+}
+
+// A number added to a sum of few small ones.
+pub fn gather(a: u16, b: u16) -> u16
+    requires { ⌜ a + b < 65536 ⌝ }
+    ensures { λ r. ⌜ (gf257 .coding .elem r ≡ gf257 .ops .add (gf257 .coding .elem a) (gf257 .coding .elem b)) × ((m : ℕ) → gf257 .coding .size ≤ m → a + b ≤ m → r ≤ m) ⌝ }
+{
+    a + b
+}
+
+// The symbol that a number stands for.
+pub fn settle(a: u16) -> u16
+    ensures { λ r. ⌜ r ≡ reduced gf257 a ⌝ }
+{
+    a % Symbol::PRIME
+}
+
+pub fn product(a: u16, b: u16) -> u16
+    ensures { λ r. ⌜ r ≡ times gf257 a b ⌝ }
+{
+    settle(lazy_product(a, b))
+}
+
+// A number plus a product.
+pub fn sum_product(a: u16, x: u16, y: u16) -> u16
+    ensures { λ r. ⌜ r ≡ plus gf257 a (times gf257 x y) ⌝ }
+{
+    settle(lazy_sum(a, lazy_product(x, y)))
 }
 
 // The exponent is halved at each call.

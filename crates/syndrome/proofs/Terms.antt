@@ -15,9 +15,10 @@ use Rattle.algebra.proofs.Pow.{pow-zero, pow-one, pow-add-one}
 use Rattle.algebra.proofs.Ring.{one-mul, mul-comm, mul-assoc}
 use Rattle.algebra.specs.Coding.{Coding}
 use Rattle.algebra.specs.Shape.{Field, FieldLaws}
-use Rattle.algebra.specs.Plain.{times, Working}
-use Rattle.algebra.proofs.Plain.{elem-plus, elem-times}
-use Rattle.kernel.specs.Runs.{cell, Run, added, accrued, stepped}
+use Rattle.algebra.specs.Plain.{Working}
+use Rattle.algebra.proofs.Plain.{elem-plus}
+use Rattle.kernel.specs.Runs.{cell, Run, Standing, copied, added, accrued, stepped}
+use Rattle.kernel.proofs.Standing.{standing-run}
 use Rattle.kernel.proofs.Rows.{row-in, cell-other, row-zero, zero-cell}
 use Rattle.syndrome.specs.Syndrome.{Room, term, Terms, Later, Adding}
 
@@ -35,34 +36,34 @@ module _ {A : Type 0} {f : Field A} (W : Working f) where
   }
 
   module _ (w t : ℕ) (row was is old new : List ℕ) where
-    accrued-row : Run (accrued f was (t * w) old row) was is (t * w) w → (j : ℕ) → j < w → cell f w is t j ≡ ops .add (cell f w was t j) (ops .mul (elem (getD row j 0)) (elem (getD old j 0)))
+    accrued-row : Standing f (accrued f was (t * w) old row) was is (t * w) w → (j : ℕ) → j < w → cell f w is t j ≡ ops .add (cell f w was t j) (ops .mul (elem (getD row j 0)) (elem (getD old j 0)))
     unfolding cell accrued
-    accrued-row r j h =
-        ap elem (r .done j h) ∙ elem-plus W (getD was (t * w + j) 0) (times f (getD old j 0) (getD row j 0))
-        ∙ ap (ops .add (elem (getD was (t * w + j) 0))) (elem-times W (getD old j 0) (getD row j 0) ∙ mul-comm ops laws _ _)
+    accrued-row r j h = r .done j h ∙ ap (ops .add (elem (getD was (t * w + j) 0))) (mul-comm ops laws _ _)
 
-    stepped-row : Run (stepped f old row) old new 0 w → (j : ℕ) → j < w → elem (getD new j 0) ≡ ops .mul (elem (getD row j 0)) (elem (getD old j 0))
+    stepped-row : Standing f (stepped f old row) old new 0 w → (j : ℕ) → j < w → elem (getD new j 0) ≡ ops .mul (elem (getD row j 0)) (elem (getD old j 0))
     unfolding stepped
-    stepped-row r j h =
-        ap (λ i. elem (getD new i 0)) (sym (zero-add j)) ∙ ap elem (r .done j h) ∙ elem-times W (getD old j 0) (getD row j 0) ∙ mul-comm ops laws _ _
+    stepped-row r j h = ap (λ i. elem (getD new i 0)) (sym (zero-add j)) ∙ r .done j h ∙ mul-comm ops laws _ _
 
-  pub adding-more : (w t : ℕ) (row cur was is next old new : List ℕ) → 1 ≤ t → Adding f w row cur was is old t → Run (accrued f is (t * w) old row) is next (t * w) w → Run (stepped f old row) old new 0 w →
+  pub adding-more : (w t : ℕ) (row cur was is next old new : List ℕ) → 1 ≤ t → Adding f w row cur was is old t → Standing f (accrued f is (t * w) old row) is next (t * w) w → Standing f (stepped f old row) old new 0 w →
       Adding f w row cur was next new (t + 1)
   adding-more w t row cur was is next old new ht g r s = record {
-    first = λ j h. cell-other f _ is next t w r 0 j h (λ e. omega arith) ∙ g .first j h;
+    first = λ j h. cell-other f _ is next t w run 0 j h (λ e. omega arith) ∙ g .first j h;
     at = λ v j p h k. go v j p h k (ℕ-discrete v t);
-    rest = λ v j h k. cell-other f _ is next t w r v j k (λ e. omega arith) ∙ g .rest v j (omega arith) k;
+    rest = λ v j h k. cell-other f _ is next t w run v j k (λ e. omega arith) ∙ g .rest v j (omega arith) k;
     current = λ j h.
         ap (ops .mul (elem (getD row j 0))) (stepped-row w t row is next old new s j h ∙ g .current j h)
         ∙ sym (mul-assoc ops laws (elem (getD row j 0)) (pow ops (elem (getD row j 0)) t) (elem (getD cur j 0)))
         ∙ ap (λ y. ops .mul y (elem (getD cur j 0))) (sym (pow-add-one ops (elem (getD row j 0)) t));
   }
     where
+      run : Run (copied next (t * w)) is next (t * w) w
+      run = standing-run f _ is next (t * w) w r
+
       go : (v j : ℕ) → 0 < v → v < t + 1 → j < w → Dec (v ≡ t) → cell f w next v j ≡ ops .add (cell f w was v j) (term f row cur v j)
       go v j p h k (yes e) =
           subst (λ n. cell f w next n j ≡ ops .add (cell f w was n j) (term f row cur n j)) (sym e)
           (accrued-row w t row is next old new r j k ∙ ap₂ (ops .add) (g .rest t j (omega arith) k) (g .current j k))
-      go v j p h k (no d) = cell-other f _ is next t w r v j k d ∙ g .at v j p (omega arith) k
+      go v j p h k (no d) = cell-other f _ is next t w run v j k d ∙ g .at v j p (omega arith) k
 
   pub adding-end : (w r t : ℕ) (row cur was is old : List ℕ) → Adding f w row cur was is old t → r ≤ t → Later f w r row cur was is
   adding-end w r t row cur was is old g h = record { first = g .first; at = λ v j p l k. g .at v j p (omega arith) k }

@@ -26,7 +26,6 @@ add-multiple-spec =
     -- twin: (λ c. omega arith)
     -- twin: (λ c. omega arith)
     (λ c κs. search needs)
-    (λ c κs. search needs)
     -- twin: (λ c. omega arith)
     (λ c. omega arith)
     (λ c. omega arith)

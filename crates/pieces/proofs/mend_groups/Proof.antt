@@ -1,65 +1,26 @@
-use Rattle.pieces.proofs.Blocks.{rooms}
+use Prim.Native.Nat.{_≤_}
+use native.Mathlib.Nat.{mul-le-mul}
+use native.Mathlib.Omega.{arith}
 use borrow.Author.Needs.{needs}
+use Rattle.layout.proofs.Facts.{bounds}
+use Rattle.pieces.proofs.Blocks.{few-of}
 use Rattle.pieces.proofs.mend_groups.Statement.{statement}
 use Rattle.pieces.proofs.mend_groups.Tie as tie
 
-slice-aggregate-inverses : tie.Need-slice-aggregate-inverses
-slice-aggregate-inverses c = search needs
-
-inverses-requires : tie.Need-inverses-requires
-inverses-requires c κs = search needs
-
-slice-aggregate-mend-blocks : tie.Need-slice-aggregate-mend-blocks
-slice-aggregate-mend-blocks c = search needs
-
-slice-aggregate-mend-blocks-2 : tie.Need-slice-aggregate-mend-blocks-2
-slice-aggregate-mend-blocks-2 c = search needs
-
-slice-aggregate-mend-blocks-3 : tie.Need-slice-aggregate-mend-blocks-3
-slice-aggregate-mend-blocks-3 c = search needs
-
-slice-aggregate-mend-blocks-4 : tie.Need-slice-aggregate-mend-blocks-4
-slice-aggregate-mend-blocks-4 c = search needs
-
-slice-aggregate-mend-blocks-5 : tie.Need-slice-aggregate-mend-blocks-5
-slice-aggregate-mend-blocks-5 c = search needs
-
-slice-aggregate-mend-blocks-6 : tie.Need-slice-aggregate-mend-blocks-6
-slice-aggregate-mend-blocks-6 c = search needs
-
-slice-aggregate-mend-blocks-7 : tie.Need-slice-aggregate-mend-blocks-7
-slice-aggregate-mend-blocks-7 c = search needs
-
-slice-aggregate-mend-blocks-8 : tie.Need-slice-aggregate-mend-blocks-8
-slice-aggregate-mend-blocks-8 c = search needs
-
-mend-blocks-requires : tie.Need-mend-blocks-requires
-mend-blocks-requires c κs = (
-  c .before .before .before .before .before .before .before .before .before .before .before .before .before .before .before .before .before .pre,
-  rooms,
-  c .before .before .before .before .before .before .before .before .before .before .inverses .ensures,
-)
-
-same-length : tie.Need-same-length
-same-length c = search needs
-
-returns : tie.Need-returns
-returns c = search needs
-
 pub mend-groups-spec : {M : Type 1} → statement M
 mend-groups-spec =
-    tie.close
-    (tie.spec
-    slice-aggregate-inverses
-    inverses-requires
-    slice-aggregate-mend-blocks
-    slice-aggregate-mend-blocks-2
-    slice-aggregate-mend-blocks-3
-    slice-aggregate-mend-blocks-4
-    slice-aggregate-mend-blocks-5
-    slice-aggregate-mend-blocks-6
-    slice-aggregate-mend-blocks-7
-    slice-aggregate-mend-blocks-8
-    mend-blocks-requires
-    same-length
-    returns)
+    tie.close (tie.spec
+    (λ c. search needs)
+    (λ c κs. let p = c .before .before .before .before .before .pre in (p .adm .admissible .cabinet, p .losses .few))
+    (λ c. search needs)
+    (λ c.
+    let p = c .before .before .before .before .before .before .pre in
+    let b = bounds _ (p .adm .admissible .cabinet) in
+    let n : c .before .before .before .before .before .before .args .count ≤ 4096 = omega (arith, p .within, b .groups-high) in
+    omega (arith, mul-le-mul (c .row-count .ensures .few) n))
+    (λ c κs. (c .before .before .before .before .before .before .before .before .pre, few-of _ _ _ _ (c .before .before .row-count .ensures) (c .before .if1 .taken)))
+    (λ c. search needs)
+    (λ c. search needs)
+    (λ c κs. search needs)
+    (λ c. search needs)
+    (λ c. search needs))

@@ -1,11 +1,10 @@
 -- Made by tools/twin.py from crates/range/proofs/higher/Proof.antt.
 use native.Mathlib.Omega.{arith}
-use Rattle.range.proofs.Symbols.{higher-is}
 use Rattle.range257.proofs.higher.Statement.{statement}
 use Rattle.range257.proofs.higher.Tie as tie
 
 pub higher-spec : {M : Type 1} → statement M
 higher-spec =
     tie.close (tie.spec
-    (λ c. higher-is _ _ _ (omega arith) (omega arith) (λ n x y. y))
-    (λ c. higher-is _ _ _ (omega arith) (omega arith) (λ n x y. x)))
+    (λ c. (omega arith, omega arith, λ n x y. y))
+    (λ c. (omega arith, omega arith, λ n x y. x)))

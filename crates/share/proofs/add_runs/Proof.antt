@@ -4,45 +4,48 @@ use native.Mathlib.Omega.{arith}
 use lib.ListN.{length}
 use Rattle.symbol.specs.Elem.{gf256}
 use Rattle.symbol.proofs.Working.{working}
-use Rattle.share.specs.Inner.{DigitsAdded}
-use Rattle.share.proofs.Runs.{sums-run, tray-runs, one-run, tray-number, runs-none, runs-more, runs-end}
+use Rattle.share.specs.Inner.{TraysAdded}
+use Rattle.share.proofs.Runs.{sums-run, run-in, run-number, gridding, runs-none, runs-more, runs-end}
 use Rattle.share.proofs.add_runs.Statement.{statement}
 use Rattle.share.proofs.add_runs.Tie as tie
 
 abbrev Inv-loop : tie.InvT-loop
-Inv-loop s run count symbols sums₀ q₀ sums q = (q ≤ count) × DigitsAdded gf256 s run q s symbols sums₀ sums
+Inv-loop s run count symbols at far m sums₀ q₀ sums q = (q ≤ count) × TraysAdded gf256 s run q symbols at far m sums₀ sums
 
 abbrev μ-loop : tie.MeasureT-loop
-μ-loop s run count symbols sums₀ q₀ sums q = count - q
+μ-loop s run count symbols at far m sums₀ q₀ sums q = count - q
 
 -- the runs of the turn
-record Lies (s run q : ℕ) (symbols sums : List ℕ) : Type 0 where
+record Lies (s run q at : ℕ) (symbols sums : List ℕ) : Type 0 where
   in-sums : q * run + run ≤ length sums
-  in-tray : q * s * run + s * run ≤ length symbols
-  one : run ≤ s * run
+  in-tray : at + q * s * run + run ≤ length symbols
   number : q * s ≤ length symbols
 
-lies : (c : tie.In-loop Inv-loop μ-loop) → let a = c .before .before .before .before .args in Lies (a .s) (a .run) (c .before .loop .q) (a .symbols .now) (a .sums .now)
+lies : (c : tie.After-add-grid-arg Inv-loop μ-loop) → let a = c .before .before .before .before .before .args in Lies (a .s) (a .run) (c .before .before .loop .q) (a .at) (a .symbols .now) (a .sums .now)
 lies c =
-    let a = c .before .before .before .before .args in
-    let p = c .before .before .before .before .pre in
-    let q = c .before .loop .q in
-    let t = c .loop-test .taken in
+    let a = c .before .before .before .before .before .args in
+    let p = c .before .before .before .before .before .pre in
+    let q = c .before .before .loop .q in
+    let t = c .before .loop-test .taken in
     record {
-      in-sums = sums-run (a .s) (a .run) (a .count) 0 (a .symbols .now) (a .sums .now) p q t;
-      in-tray = tray-runs (a .s) (a .run) (a .count) 0 (a .symbols .now) (a .sums .now) p q t;
-      one = one-run (a .s) (a .run) (a .count) 0 (a .symbols .now) (a .sums .now) p;
-      number = tray-number (a .s) (a .run) (a .count) 0 (a .symbols .now) (a .sums .now) p q t;
+      in-sums = sums-run (a .s) (a .run) (a .count) (a .symbols .now) (a .at) (a .far) (a .m) (a .sums .now) p q t;
+      in-tray = run-in (a .s) (a .run) (a .count) (a .symbols .now) (a .at) (a .far) (a .m) (a .sums .now) p q t;
+      number = run-number (a .s) (a .run) (a .count) (a .symbols .now) (a .at) (a .far) (a .m) (a .sums .now) p q t;
     }
 
 pub add-runs-spec : {M : Type 1} → statement M
 add-runs-spec =
     tie.close (tie.spec Inv-loop μ-loop
-    (λ c. (omega arith, runs-none working _ _ _ _))
-    (λ c. let r = lies (c .before) in omega arith)
-    (λ c. let r = lies (c .before) in omega arith)
-    (λ c. let r = lies (c .before) in omega arith)
-    (λ c κs. let r = lies (c .before) in let e = c .before .before .loop .inv .1 .same in (omega arith, omega arith, omega arith))
+    (λ c. (omega arith, runs-none working _ _ _ _ _ _ _))
+    (λ c. let r = lies c in omega arith)
+    (λ c. let r = lies c in omega arith)
+    (λ c. let r = lies c in omega arith)
+    (λ c. let r = lies c in omega arith)
+    (λ c κs.
+    let a = c .before .before .before .before .before .args in
+    let d = c .before .before .loop .inv .1 in
+    gridding (a .s) (a .run) (a .count) (a .symbols .now) (a .at) (a .far) (a .m) (a .sums .now) (c .before .before .before .before .before .pre) (c .before .before .loop .q) _
+    (c .before .loop-test .taken) (d .same) (d .rest))
     (λ c. omega arith)
     (λ c. omega arith)
     (λ c. (omega arith, search (runs-more working)))

@@ -1,8 +1,9 @@
 -- Made by tools/twin.py from crates/share/proofs/add_later/Proof.antt.
 use borrow.Author.Needs.{needs}
+use native.Mathlib.Omega.{arith}
 use Rattle.symbol257.proofs.Working.{working}
 use Rattle.layout.proofs.Facts.{bounds}
-use Rattle.share.proofs.Parts.{sums-only}
+use Rattle.share.proofs.Parts.{sums-only, zeros-held}
 use Rattle.share257.proofs.add_later.Statement.{statement}
 use Rattle.share257.proofs.add_later.Tie as tie
 
@@ -11,13 +12,28 @@ add-later-spec =
     tie.close (tie.spec
     (λ c. search needs)
     (λ c κs.
-    let p = c .before .before .before .pre .0 in
-    (record { adm = p .adm; long = p .long; room = bounds _ (p .adm .cabinet) .groups-high; host-in = p .host-in }, c .before .before .before .pre .1))
+    let p = c .before .before .before .pre .0 in (
+      record {
+        adm = p .adm;
+        long = p .long;
+        room = bounds _
+            (p .adm .cabinet) .groups-high;
+        host-in = p .host-in;
+        some-trays = omega arith;
+        at-once = omega arith;
+        given = p .given;
+        held = zeros-held working _ 4096 (bounds _
+            (p .adm .cabinet) .groups-high);
+      },
+      c .before .before .before .pre .1,
+    ))
     (λ c. search needs)
     (λ c κs.
     let p = c .before .before .before .before .before .before .before .pre .0 in
     record { adm = p .adm .cabinet; long = rw (c .before .before .before .add-sums .ensures .same) (bounds _ (p .adm .cabinet) .groups-high); room = p .room; some = p .some; few = p .few })
     (λ c. search needs)
-    (λ c held u.
+    (λ c.
     let a = c .before .before .before .before .before .before .before .before .before .before .args in
-    c .before .before .add-weighted .ensures (a .h) (a .symbols .now) held (sums-only working (a .l) (a .h) 4096 (a .symbols .now) _ (bounds _ (c .before .before .before .before .before .before .before .before .before .before .pre .0 .adm .cabinet) .groups-high) (c .before .before .before .before .before .before .add-sums .ensures)) u))
+    c .before .before .add-weighted .ensures (a .h) _ (sums-only working (a .l) (a .h) 4096 (a .symbols .now) (a .at) _ (bounds _
+    (c .before .before .before .before .before .before .before .before .before .before .pre .0 .adm .cabinet) .groups-high)
+    (c .before .before .before .before .before .before .add-sums .ensures))))

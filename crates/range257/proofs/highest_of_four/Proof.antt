@@ -1,0 +1,25 @@
+-- Made by tools/twin.py from crates/range/proofs/highest_of_four/Proof.antt.
+use Prim.Native.Nat.{_-_, _≤_}
+use native.Mathlib.Omega.{arith}
+use borrow.Author.Needs.{needs}
+use Rattle.range.proofs.Symbols.{Four, four-none, four-more, four-end}
+use Rattle.range257.proofs.highest_of_four.Statement.{statement}
+use Rattle.range257.proofs.highest_of_four.Tie as tie
+
+abbrev Inv-loop : tie.InvT-loop
+Inv-loop xs from gap top₀ k₀ top k = (k ≤ gap) × Four xs from gap k top
+
+abbrev μ-loop : tie.MeasureT-loop
+μ-loop xs from gap top₀ k₀ top k = gap - k
+
+pub highest-of-four-spec : {M : Type 1} → statement M
+highest-of-four-spec =
+    tie.close (tie.spec Inv-loop μ-loop
+    (λ c. (omega arith, four-none _ _ _))
+    (λ c. omega arith)
+    (λ c κs. omega arith)
+    (λ c κs. search needs)
+    (λ c. omega arith)
+    (λ c. omega arith)
+    (λ c. let t = c .higher .ensures in (omega arith, four-more _ _ _ (c .before .before .before .loop .k) (c .before .before .before .loop .top) _ _ (c .before .before .before .loop .inv .1) (c .before .before .loop-test .taken) (c .before .highest-apart .ensures) (t .0) (t .1) (t .2)))
+    (λ c. four-end _ _ _ (c .before .loop .k) (c .before .loop .top) (c .before .loop .inv .1) (omega arith)))

@@ -1,0 +1,7 @@
+use Rattle.symbol257.proofs.Working.{reduced-is}
+use Rattle.symbol257.proofs.plain.settle.Statement.{statement}
+use Rattle.symbol257.proofs.plain.settle.Tie as tie
+
+pub settle-spec : {M : Type 1} → statement M
+settle-spec = tie.close (tie.spec
+    (λ c. reduced-is _))
