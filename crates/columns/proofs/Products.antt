@@ -153,7 +153,8 @@ module _ {A : Type 0} {f : Field A} (W : Working f) where
             ∙ ap (λ a. grown f (ops .inv a) p i (m + 1)) (differences-other m d)
             ∙ ap (λ a. grown f a p i (m + 1)) (inv-times (differences f p i m) (ops .add (p i) (ops .neg (p m))) ∙ mul-comm ops laws _ _)
             ∙ grown-other (ops .mul (ops .inv (ops .add (p i) (ops .neg (p m)))) (ops .inv (differences f p i m))) m d
-            ∙ ap (linear ops (p m)) (sym (scale-grown (ops .inv (ops .add (p i) (ops .neg (p m)))) (ops .inv (differences f p i m)) m) ∙ ap (scale ops (ops .inv (ops .add (p i) (ops .neg (p m))))) ih)
+            ∙ ap (linear ops (p m)) (sym (scale-grown (ops .inv (ops .add (p i) (ops .neg (p m)))) (ops .inv (differences f p i m)) m)
+            ∙ ap (scale ops (ops .inv (ops .add (p i) (ops .neg (p m))))) ih)
             ∙ sym (scale-linear (ops .inv (ops .add (p i) (ops .neg (p m)))) (p m) (basis ops p i m))
             ∙ sym (basis-other ops p i m d)
 

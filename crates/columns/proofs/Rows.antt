@@ -3,7 +3,8 @@
 use mathlib.Core.Path.{_≡_, refl, sym, ap, ap₂, _∙_, subst}
 use mathlib.Core.List.{List, []}
 use Prim.Native.Nat.{ℕ, _+_, _*_, _/_, _%_, _<_, _≤_}
-use native.Mathlib.Nat.{mul-comm as times-comm, mul-assoc as times-assoc, zero-mul, zero-add, mod-lt, mul-pos, mul-le-mul-right, le-mul-of-pos-right, not-suc-le-zero, add-assoc, mul-one, one-mul, div-one, mod-one}
+use native.Mathlib.Nat.{mul-comm as times-comm, mul-assoc as times-assoc, zero-mul, zero-add, mod-lt, mul-pos, mul-le-mul-right, le-mul-of-pos-right}
+use native.Mathlib.Nat.{not-suc-le-zero, add-assoc, mul-one, one-mul, div-one, mod-one}
 use native.Mathlib.Decide.{ℕ-discrete, decLe}
 use native.Mathlib.Omega.{arith}
 use mir.Val.{Fits}
@@ -26,7 +27,8 @@ use Rattle.kernel.specs.Runs.{cell, Run, filled, copied, repeated, addedProduct
 use Rattle.kernel.proofs.Runs.{run-none, run-append}
 use Rattle.kernel.proofs.Rows.{row-end, row-before, row-in, row-other}
 use Rattle.planes.specs.Planes.{Summed, Rows as PlaneRows}
-use Rattle.columns.specs.Columns.{column, Columns, Divisors, Quotient, scaled, scaledBy, negated, weighted, stretched, widened, room, Places, Systems, Wholes, Combined, Divided, RowSolved, Solved}
+use Rattle.columns.specs.Columns.{column, Columns, Divisors, Quotient, scaled, scaledBy, negated, weighted, stretched, widened, room, Places, Systems, Wholes}
+use Rattle.columns.specs.Columns.{Combined, Divided, RowSolved, Solved}
 use Rattle.columns.proofs.Quotients.{quotient-basis}
 use Rattle.columns.proofs.Dividing.{first-done}
 
@@ -39,7 +41,8 @@ pub spread-more : (coefs : List ℕ) (at run c x : ℕ) (was is new : List ℕ) 
 unfolding stretched filled
 spread-more coefs at run c x was is new r e n =
     rw (row-end c run)
-    (run-append (stretched coefs at run) (filled (getD coefs (at + c) 0)) was is new 0 (c * run) run r (subst (λ k. Run (filled (getD coefs (at + c) 0)) is new k run) (sym (zero-add (c * run))) (subst (λ y. Run (filled y) is new (c * run) run) e n))
+    (run-append (stretched coefs at run) (filled (getD coefs (at + c) 0)) was is new 0 (c * run) run r
+    (subst (λ k. Run (filled (getD coefs (at + c) 0)) is new k run) (sym (zero-add (c * run))) (subst (λ y. Run (filled y) is new (c * run) run) e n))
     (λ i h. ap (λ k. getD coefs (at + k) 0) (sym (digits-div c h))))
 
 pub spread-end : (coefs : List ℕ) (at run c v : ℕ) (was is : List ℕ) → Run (stretched coefs at run) was is 0 (c * run) → c ≤ v → v ≤ c → Run (stretched coefs at run) was is 0 (v * run)
@@ -108,7 +111,8 @@ column-coefs to v run turns found sums from coefs at c p = let e = mod-lt c (p .
 pub count-fits : (to v run turns : ℕ) (found sums : List ℕ) (from : ℕ) (coefs : List ℕ) (at : ℕ) → Places to v run turns found sums from coefs at → Fits w64 (length sums) → Fits w64 (v * turns)
 count-fits to v run turns found sums from coefs at p f = let e = le-mul-of-pos-right (v * turns) (p .run-low) in let k = p .sums-long in omega arith
 
-pub next-fits : (to v run turns : ℕ) (found sums : List ℕ) (from : ℕ) (coefs : List ℕ) (at c : ℕ) → Places to v run turns found sums from coefs at → c < v * turns → Fits w64 (length sums) → Fits w64 (c + 1)
+pub next-fits : (to v run turns : ℕ) (found sums : List ℕ) (from : ℕ) (coefs : List ℕ) (at c : ℕ) → Places to v run turns found sums from coefs at → c < v * turns →
+    Fits w64 (length sums) → Fits w64 (c + 1)
 next-fits to v run turns found sums from coefs at c p h f = let e = count-fits to v run turns found sums from coefs at p f in omega arith
 
 pub width-fits : (to v run turns : ℕ) (found sums : List ℕ) (from : ℕ) (coefs : List ℕ) (at : ℕ) → Places to v run turns found sums from coefs at → Fits w64 (length sums) → Fits w64 (v * turns * run)
@@ -154,7 +158,8 @@ systems-next w v run turns m was is sums before after old row s e f g = record {
 }
 
 -- ---- these numbers fit
-pub column-fits : (to v run turns : ℕ) (found sums : List ℕ) (from : ℕ) (coefs : List ℕ) (at c : ℕ) → Places to v run turns found sums from coefs at → c < v * turns → Fits w64 (length sums) → Fits w64 (c * run)
+pub column-fits : (to v run turns : ℕ) (found sums : List ℕ) (from : ℕ) (coefs : List ℕ) (at c : ℕ) → Places to v run turns found sums from coefs at →
+    c < v * turns → Fits w64 (length sums) → Fits w64 (c * run)
 column-fits to v run turns found sums from coefs at c p h f = let e = column-sums to v run turns found sums from coefs at c p h in omega arith
 
 pub found-fits : (w v run turns m i : ℕ) (found sums coefs row : List ℕ) → Systems w v run turns m found sums coefs row → i < m → Fits w64 (length sums) → Fits w64 (i * w)
@@ -182,10 +187,12 @@ divisor-row v m i divs l h = row-in divs m v i l h
 pub room-row : (w v run turns m : ℕ) (found sums coefs was is : List ℕ) → Systems w v run turns m found sums coefs was → length is ≡ length was → w ≤ length is
 room-row w v run turns m found sums coefs was is s e = rw e (s .row-long)
 
-pub to-fits : (to v run turns : ℕ) (found sums : List ℕ) (from : ℕ) (coefs : List ℕ) (at c : ℕ) → Places to v run turns found sums from coefs at → c < v * turns → Fits w64 (length found) → Fits w64 (to + c * run)
+pub to-fits : (to v run turns : ℕ) (found sums : List ℕ) (from : ℕ) (coefs : List ℕ) (at c : ℕ) → Places to v run turns found sums from coefs at → c < v * turns →
+    Fits w64 (length found) → Fits w64 (to + c * run)
 to-fits to v run turns found sums from coefs at c p h f = let e = column-found to v run turns found sums from coefs at c p h in omega arith
 
-pub from-fits : (to v run turns : ℕ) (found sums : List ℕ) (from : ℕ) (coefs : List ℕ) (at c : ℕ) → Places to v run turns found sums from coefs at → c < v * turns → Fits w64 (length sums) → Fits w64 (from + c * run)
+pub from-fits : (to v run turns : ℕ) (found sums : List ℕ) (from : ℕ) (coefs : List ℕ) (at c : ℕ) → Places to v run turns found sums from coefs at → c < v * turns →
+    Fits w64 (length sums) → Fits w64 (from + c * run)
 from-fits to v run turns found sums from coefs at c p h f = let e = column-sums to v run turns found sums from coefs at c p h in omega arith
 
 pub coef-fits : (to v run turns : ℕ) (found sums : List ℕ) (from : ℕ) (coefs : List ℕ) (at c : ℕ) → Places to v run turns found sums from coefs at → Fits w64 (length coefs) → Fits w64 (at + c % v)
@@ -198,7 +205,8 @@ one-found w v run turns m found sums coefs row s e = let h = s .found-long in le
 pub one-sums : (w v run turns m : ℕ) (found sums coefs row : List ℕ) → Systems w v run turns m found sums coefs row → m ≡ 1 → 0 + w ≤ length sums
 one-sums w v run turns m found sums coefs row s e = let h = s .sums-long in let d : m * w ≡ w = ap (λ (x : ℕ). x * w) e ∙ one-mul w in omega arith
 
-pub columns-room : (w v run turns m : ℕ) (found sums coefs points row : List ℕ) → Systems w v run turns m found sums coefs row → m * v ≤ length points → m * v ≤ room → Columns v m points (replicate room 0)
+pub columns-room : (w v run turns m : ℕ) (found sums coefs points row : List ℕ) → Systems w v run turns m found sums coefs row → m * v ≤ length points →
+    m * v ≤ room → Columns v m points (replicate room 0)
 columns-room w v run turns m found sums coefs points row s p h = record { columns-low = s .columns-low; points-long = p; out-long = rw (length-replicate {A = ℕ} room 0) h }
 
 pub carry-in : (w v run turns m : ℕ) (found sums coefs was is : List ℕ) → Systems w v run turns m found sums coefs was → length is ≡ length was → v ≤ length is
@@ -264,7 +272,8 @@ module _ {A : Type 0} {f : Field A} (W : Working f) where
   columns-none found to v run sums from coefs at = rw (zero-mul run) (run-none (weighted f found to v run sums from coefs at) found to)
 
   pub columns-more : (was is new : List ℕ) (to v run : ℕ) (sums : List ℕ) (from : ℕ) (coefs : List ℕ) (at c x : ℕ) →
-      Run (weighted f was to v run sums from coefs at) was is to (c * run) → x ≡ getD coefs (at + c % v) 0 → Run (addedMultiple f is (to + c * run) sums (from + c * run) x) is new (to + c * run) run →
+      Run (weighted f was to v run sums from coefs at) was is to (c * run) → x ≡ getD coefs (at + c % v) 0 →
+      Run (addedMultiple f is (to + c * run) sums (from + c * run) x) is new (to + c * run) run →
       Run (weighted f was to v run sums from coefs at) was new to ((c + 1) * run)
   unfolding addedMultiple weighted
   columns-more was is new to v run sums from coefs at c x r e n =
@@ -377,7 +386,8 @@ module _ {A : Type 0} {f : Field A} (W : Working f) where
       here = λ j h.
           d .here j h ∙ ap (λ x. ops .mul x (cell f v divs i (j / run % v))) (a .here j h)
           ∙ sym (sum-mul-right ops laws m (cell f v divs i (j / run % v)) (λ t. ops .mul (cell f w sums t j) (cell f v coefs t (j / run % v))))
-          ∙ sum-congr ops m _ _ (λ t l. term (cell f w sums t j) (cell f v coefs t (j / run % v)) (cell f v divs i (j / run % v)) (coeff ops (basis ops (column f v points (j / run % v)) i m) t) (basis-is t j l));
+          ∙ sum-congr ops m _ _ (λ t l. term (cell f w sums t j) (cell f v coefs t (j / run % v)) (cell f v divs i (j / run % v))
+          (coeff ops (basis ops (column f v points (j / run % v)) i m) t) (basis-is t j l));
       small = d .small;
       others = λ x j h e. d .others x j h e ∙ a .others x j h e;
     }
@@ -405,7 +415,8 @@ module _ {A : Type 0} {f : Field A} (W : Working f) where
         long = a .long;
         here = λ j h.
             a .here j h
-            ∙ sum-congr ops m _ _ (λ t l. ap (ops .mul (cell f w sums t j)) (scaled-is t j l) ∙ sym (mul-assoc ops laws (cell f w sums t j) (cell f v coefs t (j / run % v)) (cell f v divs i (j / run % v)))
+            ∙ sum-congr ops m _ _ (λ t l. ap (ops .mul (cell f w sums t j)) (scaled-is t j l)
+            ∙ sym (mul-assoc ops laws (cell f w sums t j) (cell f v coefs t (j / run % v)) (cell f v divs i (j / run % v)))
             ∙ term (cell f w sums t j) (cell f v coefs t (j / run % v)) (cell f v divs i (j / run % v)) (coeff ops (basis ops (column f v points (j / run % v)) i m) t) (basis-is t j l));
         small = a .small;
         others = a .others;
@@ -426,7 +437,8 @@ module _ {A : Type 0} {f : Field A} (W : Working f) where
         (let z : i ≡ 0 = omega arith in ap (λ (x : ℕ). elem (getD is (x * w + j) 0)) z) ∙ ap (λ (x : ℕ). elem (getD is x 0)) (row-first w j) ∙ ap elem (r .done j k)
         ∙ elem-minus W 0 (getD sums (0 + j) 0) ∙ ap (λ x. ops .add x (ops .neg (elem (getD sums (0 + j) 0)))) (elem-zero W) ∙ zero-plus ops laws _
         ∙ ap (λ (x : ℕ). ops .neg (elem (getD sums x 0))) (sym (row-first w j)) ∙ sym (alone (column f v points (j / run % v)) (λ t. ops .neg (elem (getD sums (t * w + j) 0))))
-        ∙ (let z : 0 ≡ i = omega arith in ap₂ (λ (x y : ℕ). sum ops x (λ t. ops .mul (ops .neg (elem (getD sums (t * w + j) 0))) (coeff ops (basis ops (column f v points (j / run % v)) y x) t))) (sym e) z);
+        ∙ (let z : 0 ≡ i = omega arith in ap₂ (λ (x y : ℕ). sum ops x (λ t. ops .mul (ops .neg (elem (getD sums (t * w + j) 0)))
+        (coeff ops (basis ops (column f v points (j / run % v)) y x) t))) (sym e) z);
     small = λ i j l k. (let z : i * w + j ≡ 0 + j = (let y : i ≡ 0 = omega arith in ap (λ (x : ℕ). x * w + j) y ∙ row-first w j) in rw z (rw (r .done j k) (minus-below W _ _)));
   }
     where

@@ -248,7 +248,8 @@ fn solve_columns(
     coefs: &[u8],
     row: &mut [u8],
 )
-    requires { ⌜ Systems w v run turns m (now found) (now sums) (now coefs) (now row) × (i < m) × (m * v ≤ length (now divs)) × Divisors gf256 v m (now points) (now divs) × Quotient gf256 v m (now points) i 0 (now coefs) ⌝ }
+    requires { ⌜ Systems w v run turns m (now found) (now sums) (now coefs) (now row) × (i < m) × (m * v ≤ length (now divs))
+        × Divisors gf256 v m (now points) (now divs) × Quotient gf256 v m (now points) i 0 (now coefs) ⌝ }
     ensures { λ _. ⌜ RowSolved gf256 w v run m i (now (sums .entry)) (now (points .entry)) (now (found .entry)) (now (found .exit)) ⌝ }
 {
     combine(found, w, v, run, turns, m, i, sums, coefs, row);
@@ -268,7 +269,8 @@ fn solve_whole(
     divs: &[u8],
     coefs: &mut [u8],
 )
-    requires { ⌜ Wholes w v m (now found) (now sums) (now coefs) × (i < m) × (m * v ≤ length (now divs)) × Divisors gf256 v m (now points) (now divs) × Quotient gf256 v m (now points) i 0 (now coefs) ⌝ }
+    requires { ⌜ Wholes w v m (now found) (now sums) (now coefs) × (i < m) × (m * v ≤ length (now divs)) × Divisors gf256 v m (now points) (now divs)
+        × Quotient gf256 v m (now points) i 0 (now coefs) ⌝ }
     ensures { λ _. ⌜ RowSolved gf256 w v run m i (now (sums .entry)) (now (points .entry)) (now (found .entry)) (now (found .exit)) ⌝ }
 {
     scale_by(coefs, 0, m * v, kernel::at(divs, i * v));

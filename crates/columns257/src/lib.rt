@@ -257,7 +257,8 @@ fn solve_columns(
     coefs: &[u16],
     row: &mut [u16],
 )
-    requires { ⌜ Systems w v run turns m (now found) (now sums) (now coefs) (now row) × (i < m) × (m * v ≤ length (now divs)) × Divisors gf257 v m (now points) (now divs) × Quotient gf257 v m (now points) i 0 (now coefs) ⌝ }
+    requires { ⌜ Systems w v run turns m (now found) (now sums) (now coefs) (now row) × (i < m) × (m * v ≤ length (now divs))
+        × Divisors gf257 v m (now points) (now divs) × Quotient gf257 v m (now points) i 0 (now coefs) ⌝ }
     ensures { λ _. ⌜ RowSolved gf257 w v run m i (now (sums .entry)) (now (points .entry)) (now (found .entry)) (now (found .exit)) ⌝ }
 {
     combine(found, w, v, run, turns, m, i, sums, coefs, row);
@@ -277,7 +278,8 @@ fn solve_whole(
     divs: &[u16],
     coefs: &mut [u16],
 )
-    requires { ⌜ Wholes w v m (now found) (now sums) (now coefs) × (i < m) × (m * v ≤ length (now divs)) × Divisors gf257 v m (now points) (now divs) × Quotient gf257 v m (now points) i 0 (now coefs) ⌝ }
+    requires { ⌜ Wholes w v m (now found) (now sums) (now coefs) × (i < m) × (m * v ≤ length (now divs)) × Divisors gf257 v m (now points) (now divs)
+        × Quotient gf257 v m (now points) i 0 (now coefs) ⌝ }
     ensures { λ _. ⌜ RowSolved gf257 w v run m i (now (sums .entry)) (now (points .entry)) (now (found .entry)) (now (found .exit)) ⌝ }
 {
     scale_by(coefs, 0, m * v, kernel257::at(divs, i * v));

@@ -38,7 +38,8 @@ use Rattle.group.specs.Inner.{Lying, LostPlaces, Rests, PutRows, foundAt
 
 -- ---- room
 pub space-next : (e w : ℕ) (rests found places coefs row cur rests′ found′ places′ coefs′ row′ cur′ : List ℕ) → Workspace e w rests found places coefs row cur → length rests′ ≡ length rests →
-    length found′ ≡ length found → length places′ ≡ length places → length coefs′ ≡ length coefs → length row′ ≡ length row → length cur′ ≡ length cur → Workspace e w rests′ found′ places′ coefs′ row′ cur′
+    length found′ ≡ length found → length places′ ≡ length places → length coefs′ ≡ length coefs → length row′ ≡ length row → length cur′ ≡ length cur →
+    Workspace e w rests′ found′ places′ coefs′ row′ cur′
 space-next e w rests found places coefs row cur rests′ found′ places′ coefs′ row′ cur′ g a b c d f k = record {
   few = g .few;
   rests-long = rw a (g .rests-long);

@@ -110,7 +110,8 @@ module _ {A : Type 0} (f : Field A) where
   pub record Rests (l : Layout) (lost host : List ℕ) (w a start run stride : ℕ) (sums rests : List ℕ) : Type 0 where
     pub at : (m j : ℕ) → m < length lost → j < w →
         cell f w rests m j
-        ≡ ops .neg (rest ops (place (shapeOf f l)) (l .size) (lostPlace l lost) (length lost) (λ m. ops .neg (cell f w sums (m * digits l + a) j)) (λ g. rackSymbol f l host g (spot start run stride j)) m)
+        ≡ ops .neg (rest ops (place (shapeOf f l)) (l .size) (lostPlace l lost) (length lost) (λ m. ops .neg (cell f w sums (m * digits l + a) j))
+        (λ g. rackSymbol f l host g (spot start run stride j)) m)
 
   -- the lost symbols of the layer of group first + j with the digit a, where a buffer holds less the block's host sums: the i-th of them
   unfoldable pub foundAt : (l : Layout) (lost host : List ℕ) (h w first : ℕ) (sums : List ℕ) (a j i : ℕ) → A

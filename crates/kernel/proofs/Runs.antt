@@ -102,7 +102,8 @@ module _ {A : Type 0} (f : Field A) where
       q ≡ plus f (getD is (to + j) 0) (times f (getD src (from + j) 0) (getD by (at + j) 0)) → Run (addedProduct f was to src from by at) was (set is (to + j) q) to (j + 1)
   unfolding addedProduct
   product-more was is src by to from at j len q r h l d =
-      run-more (addedProduct f was to src from by at) was is to j q r (omega arith) (d ∙ ap (λ (x : ℕ). plus f x (times f (getD src (from + j) 0) (getD by (at + j) 0))) (r .high (to + j) (omega arith)))
+      run-more (addedProduct f was to src from by at) was is to j q r (omega arith)
+      (d ∙ ap (λ (x : ℕ). plus f x (times f (getD src (from + j) 0) (getD by (at + j) 0))) (r .high (to + j) (omega arith)))
 
   pub multiple-more : (was is src : List ℕ) (to from j len v q : ℕ) → Run (addedMultiple f was to src from v) was is to j → j < len → to + len ≤ length was →
       q ≡ plus f (getD is (to + j) 0) (times f (getD src (from + j) 0) v) → Run (addedMultiple f was to src from v) was (set is (to + j) q) to (j + 1)

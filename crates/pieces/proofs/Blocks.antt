@@ -130,7 +130,8 @@ module _ {n : ℕ} (N : ℕ) (l : Layout) (lost helpers shares host : List ℕ) 
         cur-long = rw e6 (le-trans (fit .small) (r .cur-long));
       }
 
-pub rooms-next : (sums sides found points coefs row cur sums′ sides′ found′ points′ coefs′ row′ cur′ : List ℕ) → Rooms (length sums) sums sides found points coefs row cur → length sums′ ≡ length sums →
+pub rooms-next : (sums sides found points coefs row cur sums′ sides′ found′ points′ coefs′ row′ cur′ : List ℕ) →
+    Rooms (length sums) sums sides found points coefs row cur → length sums′ ≡ length sums →
     length sides′ ≡ length sides → length found′ ≡ length found → length points′ ≡ length points → length coefs′ ≡ length coefs → length row′ ≡ length row → length cur′ ≡ length cur →
     Rooms (length sums′) sums′ sides′ found′ points′ coefs′ row′ cur′
 rooms-next sums sides found points coefs row cur sums′ sides′ found′ points′ coefs′ row′ cur′ r e1 e2 e3 e4 e5 e6 e7 = record {
@@ -150,7 +151,17 @@ fitting-in l e rows p left w count n n′ r a h s same = rw same (s .fits w h (f
 
 -- the arrays
 pub rooms : Rooms (length roomOf) roomOf roomOf roomOf roomOf roomOf rowOf rowOf
-rooms = record { enough = rw room-long (omega arith); sums-long = le-refl _; sides-long = le-refl _; found-long = le-refl _; points-long = le-refl _; coefs-long = le-refl _; row-long = row; cur-long = row }
+rooms = record {
+  enough = rw room-long (omega arith);
+  sums-long = le-refl _;
+  sides-long = le-refl _;
+  found-long = le-refl _;
+  points-long = le-refl _;
+  coefs-long =
+      le-refl _;
+  row-long = row;
+  cur-long = row;
+}
   where
     row : blockLimit ≤ length rowOf
     row = rw row-long (omega arith)
@@ -176,5 +187,6 @@ few-spacious l e count s = record {
 pub few-of : (l : Layout) (e rows count : ℕ) → Rows l e rows → rows * count ≤ blockLimit → Few l e count
 few-of l e rows count r h = record { unknowns = le-trans (mul-le-mul-right count (r .unknowns)) h; sums = le-trans (mul-le-mul-right count (r .sums)) h }
 
-pub start-fits : (N : ℕ) (l : Layout) (lost helpers shares host : List ℕ) (first count k : ℕ) (spare : List ℕ) → Piecing N l lost helpers shares host first count spare → k < count → Fits w32 (first + k)
+pub start-fits : (N : ℕ) (l : Layout) (lost helpers shares host : List ℕ) (first count k : ℕ) (spare : List ℕ) →
+    Piecing N l lost helpers shares host first count spare → k < count → Fits w32 (first + k)
 start-fits N l lost helpers shares host first count k spare p h = let b = bounds l (p .adm .admissible .cabinet) in record { fits = omega (arith, p .within) }

@@ -45,7 +45,9 @@ fn mend_block(
     cur: &mut [u16],
     table: &[u16],
 )
-    requires { ⌜ Piecing (gf257 .order) l (now lost) (now helpers) (now shares) (now host) first w (now spare) × Groups l w first × Fitting l (length (now lost)) w (length (now sums)) × Rooms (length (now sums)) (now sums) (now sides) (now found) (now points) (now coefs) (now row) (now cur) × Inverses gf257 (now table) ⌝ }
+    requires { ⌜ Piecing (gf257 .order) l (now lost) (now helpers) (now shares) (now host) first w (now spare) × Groups l w first
+        × Fitting l (length (now lost)) w (length (now sums))
+        × Rooms (length (now sums)) (now sums) (now sides) (now found) (now points) (now coefs) (now row) (now cur) × Inverses gf257 (now table) ⌝ }
     ensures { λ _. ⌜ Piece gf257 l (now (lost .entry)) (now (helpers .entry)) (now (shares .entry)) (now (host .entry)) first w (now (spare .entry)) (now (spare .exit)) ⌝ }
 {
     let h = lost[0] / l.size;
@@ -105,7 +107,9 @@ fn mend_blocks(
     cur: &mut [u16],
     table: &[u16],
 )
-    requires { ⌜ Piecing (gf257 .order) l (now lost) (now helpers) (now shares) (now host) first count (now spare) × Spacious l (length (now lost)) count (length (now sums)) × Rooms (length (now sums)) (now sums) (now sides) (now found) (now points) (now coefs) (now row) (now cur) × Inverses gf257 (now table) ⌝ }
+    requires { ⌜ Piecing (gf257 .order) l (now lost) (now helpers) (now shares) (now host) first count (now spare)
+        × Spacious l (length (now lost)) count (length (now sums))
+        × Rooms (length (now sums)) (now sums) (now sides) (now found) (now points) (now coefs) (now row) (now cur) × Inverses gf257 (now table) ⌝ }
     ensures { λ _. ⌜ Piece gf257 l (now (lost .entry)) (now (helpers .entry)) (now (shares .entry)) (now (host .entry)) first count (now (spare .entry)) (now (spare .exit)) ⌝ }
 {
     let rows = row_count(l, lost.len() as u32);

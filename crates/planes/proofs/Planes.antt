@@ -74,7 +74,8 @@ module _ (w i k : ℕ) (sums coefs : List ℕ) (at : ℕ) (was : List ℕ) where
     others = λ x j h d. refl;
   }
 
-  pub plane-more : (n : ℕ) (is next : List ℕ) → Plane w n i k sums coefs at was is → BitAdded w n i (bitAnd (getD coefs (at + n) 0 / 2 ^ k) 1) sums is next → Plane w (n + 1) i k sums coefs at was next
+  pub plane-more : (n : ℕ) (is next : List ℕ) → Plane w n i k sums coefs at was is → BitAdded w n i (bitAnd (getD coefs (at + n) 0 / 2 ^ k) 1) sums is next →
+      Plane w (n + 1) i k sums coefs at was next
   plane-more n is next p b = record {
     long = b .long ∙ p .long;
     here = λ j h.
@@ -108,8 +109,10 @@ module _ (w m i : ℕ) (sums coefs : List ℕ) (at : ℕ) (was : List ℕ) (byte
     here = λ j h.
         p .here j h
         ∙ ap (λ x. ops .add x (sum ops m (λ t. ops .mul (cell gf256 w sums t j) (elem (getD coefs (at + t) 0 / 2 ^ (k - 1) % 2)))))
-        (double-row w i is mid d j h ∙ ap (λ x. ops .mul x z) (u .here j h) ∙ mul-comm ops laws _ z ∙ sym (sum-mul-left ops laws m z (λ t. ops .mul (cell gf256 w sums t j) (elem (getD coefs (at + t) 0 / 2 ^ k)))))
-        ∙ sym (sum-add ops laws m (λ t. ops .mul z (ops .mul (cell gf256 w sums t j) (elem (getD coefs (at + t) 0 / 2 ^ k)))) (λ t. ops .mul (cell gf256 w sums t j) (elem (getD coefs (at + t) 0 / 2 ^ (k - 1) % 2))))
+        (double-row w i is mid d j h ∙ ap (λ x. ops .mul x z) (u .here j h) ∙ mul-comm ops laws _ z
+        ∙ sym (sum-mul-left ops laws m z (λ t. ops .mul (cell gf256 w sums t j) (elem (getD coefs (at + t) 0 / 2 ^ k)))))
+        ∙ sym (sum-add ops laws m (λ t. ops .mul z (ops .mul (cell gf256 w sums t j) (elem (getD coefs (at + t) 0 / 2 ^ k))))
+        (λ t. ops .mul (cell gf256 w sums t j) (elem (getD coefs (at + t) 0 / 2 ^ (k - 1) % 2))))
         ∙ sum-congr ops m _ _ (λ t q. join (cell gf256 w sums t j) (elem (getD coefs (at + t) 0 / 2 ^ k)) z (elem (getD coefs (at + t) 0 / 2 ^ (k - 1) % 2))
         ∙ ap (ops .mul (cell gf256 w sums t j)) (sym (elem-half (getD coefs (at + t) 0) k (bytes (at + t) .fits) g)));
     small = λ j h. p .small j h (double-small w i is mid d j h);

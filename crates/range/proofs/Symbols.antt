@@ -125,7 +125,8 @@ symbols-highest f xs from a b len top rest r pos e t u p q g = go (decLt r (f .c
             subst (λ n. getD xs n 0 < f .coding .size) i (omega arith)
     go (no h) = le-ltb r (f .coding .size) (omega arith) ∙ (not-true-false _ (λ z. h (g (f .coding .size)
         (t .least (f .coding .size) pos (λ j l. symbols-all f xs from len z j (omega arith)))
-        (u .least (f .coding .size) pos (λ j l. let i : from + (a + j) ≡ from + a + j = omega arith in subst (λ n. getD xs n 0 < f .coding .size) i (symbols-all f xs from len z (a + j) (omega arith)))))))
+        (u .least (f .coding .size) pos (λ j l. let i : from + (a + j) ≡ from + a + j = omega arith in subst (λ n. getD xs n 0 < f .coding .size) i
+        (symbols-all f xs from len z (a + j) (omega arith)))))))
 
 -- ---- rows
 pub row-in : (xs : List ℕ) (rows width first count r : ℕ) → length xs ≡ rows * width → first + count ≤ width → r < rows → r * width + first + count ≤ length xs

@@ -79,7 +79,8 @@ module _ {A : Type 0} {f : Field A} (W : Working f) where
   terms-end l w first r es found was is k g h n = let e : k ≡ length es = omega arith in subst (λ m. FoundTerms f l w first r es found was is m) e g
 
   -- ---- a block
-  module _ (l : Layout) (w first total r : ℕ) (es c sums found new : List ℕ) (p : Erasing l total es c) (er : r ≡ checks l) (s : (Sums f) l w first r c es (trays l) sums) (z : (FoundBlock f) l w first es sums found)
+  module _ (l : Layout) (w first total r : ℕ) (es c sums found new : List ℕ) (p : Erasing l total es c) (er : r ≡ checks l)
+      (s : (Sums f) l w first r c es (trays l) sums) (z : (FoundBlock f) l w first es sums found)
       (g : (FoundTerms f) l w first r es found sums new (length es)) where
     -- the sums are then the checks of the layer restored
     block-check : (t j : ℕ) → t < r → j < w → cell f w new t j ≡ check ops (pointAt f l (first + j)) (trays l) (λ x. restoredAt f l es c x (first + j)) t
@@ -128,7 +129,8 @@ module _ {A : Type 0} {f : Field A} (W : Working f) where
           let e : q * w + (j - q * w) ≡ j = omega arith in
           subst (LayerFits f l es c) e (b (j - q * w) (omega arith))
 
-  pub fit-end : (l : Layout) (w q count : ℕ) (es c : List ℕ) → ((j : ℕ) → j < q * w → LayerFits f l es c j) → q ≤ count → count ≤ q → count * w ≡ layers l → (j : ℕ) → j < layers l → LayerFits f l es c j
+  pub fit-end : (l : Layout) (w q count : ℕ) (es c : List ℕ) → ((j : ℕ) → j < q * w → LayerFits f l es c j) → q ≤ count → count ≤ q → count * w ≡ layers l →
+      (j : ℕ) → j < layers l → LayerFits f l es c j
   fit-end l w q count es c g h k e j b = let u : q ≡ count = omega arith in g j (rw (u, e) b)
 
   pub fit-block : (l : Layout) (w q : ℕ) (es c : List ℕ) → q * w + w ≤ layers l → ((j : ℕ) → j < layers l → LayerFits f l es c j) → BlockFits f l w (q * w) es c

@@ -18,7 +18,8 @@ use Rattle.restore.specs.Restored.{Erasing}
 use Rattle.restore.specs.Inner.{Workspace}
 
 pub space-next : (l : Layout) (w : ℕ) (sums found points coefs row sums′ found′ points′ coefs′ row′ : List ℕ) → Workspace l w sums found points coefs row →
-    length sums′ ≡ length sums → length found′ ≡ length found → length points′ ≡ length points → length coefs′ ≡ length coefs → length row′ ≡ length row → Workspace l w sums′ found′ points′ coefs′ row′
+    length sums′ ≡ length sums → length found′ ≡ length found → length points′ ≡ length points → length coefs′ ≡ length coefs → length row′ ≡ length row →
+    Workspace l w sums′ found′ points′ coefs′ row′
 space-next l w sums found points coefs row sums′ found′ points′ coefs′ row′ g a b c d e = record {
   few = g .few;
   sums-long = rw a (g .sums-long);

@@ -80,7 +80,8 @@ module _ {A : Type 0} {f : Field A} (W : Working f) where
           (sym (cell-is f v is k c) ∙ ap elem (r .done c b) ∙ p .at (c * run) (let q = row-before c v run b in omega arith))
       go i c h b (no d) = cell-other f _ was is k v r i c b d ∙ g .at i c (omega arith) b
 
-  pub listed-end : (l : Layout) (first : ℕ) (es : List ℕ) (v run k : ℕ) (points : List ℕ) → ListedPoints f l first es v run k points → length es ≤ k → ListedPoints f l first es v run (length es) points
+  pub listed-end : (l : Layout) (first : ℕ) (es : List ℕ) (v run k : ℕ) (points : List ℕ) → ListedPoints f l first es v run k points → length es ≤ k →
+      ListedPoints f l first es v run (length es) points
   listed-end l first es v run k points g h = record { at = λ i c b d. g .at i c (omega arith) d }
 
   -- and so have those of every turn

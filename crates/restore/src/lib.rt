@@ -103,7 +103,8 @@ fn restore_block(
     cur: &mut [u8],
     table: &[u8],
 )
-    requires { ⌜ Block l w first × (e ≤ l .racks) × (w ≡ digits l ^ e) × Erasing l total (now es) (now c) × Workspace l w (now sums) (now found) (now points) (now coefs) (now row) × (w ≤ length (now cur)) × Inverses gf256 (now table) ⌝ }
+    requires { ⌜ Block l w first × (e ≤ l .racks) × (w ≡ digits l ^ e) × Erasing l total (now es) (now c)
+        × Workspace l w (now sums) (now found) (now points) (now coefs) (now row) × (w ≤ length (now cur)) × Inverses gf256 (now table) ⌝ }
     ensures { λ _. ⌜ BlockRestored gf256 l w first (now (es .entry)) (now (c .entry)) (now (c .exit)) ⌝ }
 {
     rack_checks::sum_kept(sums, l, w, first, es.len(), c, es, cur, row);
@@ -126,7 +127,8 @@ fn restore_blocks(
     cur: &mut [u8],
     table: &[u8],
 )
-    requires { ⌜ (e ≤ l .racks) × Erasing l total (now es) (now c) × Workspace l (digits l ^ e) (now sums) (now found) (now points) (now coefs) (now row) × (digits l ^ e ≤ length (now cur)) × Inverses gf256 (now table) ⌝ }
+    requires { ⌜ (e ≤ l .racks) × Erasing l total (now es) (now c) × Workspace l (digits l ^ e) (now sums) (now found) (now points) (now coefs) (now row)
+        × (digits l ^ e ≤ length (now cur)) × Inverses gf256 (now table) ⌝ }
     ensures { λ _. ⌜ RestoredTo gf256 l (now (es .entry)) (now (c .entry)) (layers l) (now (c .exit)) ⌝ }
 {
     let w = blocks::block_width(l, e);
@@ -224,7 +226,8 @@ fn block_fits(
     cur: &mut [u8],
     table: &[u8],
 ) -> bool
-    requires { ⌜ Block l w first × (e ≤ l .racks) × (w ≡ digits l ^ e) × Erasing l total (now es) (now c) × Workspace l w (now sums) (now found) (now points) (now coefs) (now row) × (w ≤ length (now cur)) × Inverses gf256 (now table) ⌝ }
+    requires { ⌜ Block l w first × (e ≤ l .racks) × (w ≡ digits l ^ e) × Erasing l total (now es) (now c)
+        × Workspace l w (now sums) (now found) (now points) (now coefs) (now row) × (w ≤ length (now cur)) × Inverses gf256 (now table) ⌝ }
     ensures { λ r. ⌜ Says r (BlockFits gf256 l w first (now (es .entry)) (now (c .entry))) ⌝ }
 {
     let r = layout::check_count(l) as usize;
@@ -249,7 +252,8 @@ fn blocks_fit(
     cur: &mut [u8],
     table: &[u8],
 ) -> bool
-    requires { ⌜ (e ≤ l .racks) × Erasing l total (now es) (now c) × Workspace l (digits l ^ e) (now sums) (now found) (now points) (now coefs) (now row) × (digits l ^ e ≤ length (now cur)) × Inverses gf256 (now table) ⌝ }
+    requires { ⌜ (e ≤ l .racks) × Erasing l total (now es) (now c) × Workspace l (digits l ^ e) (now sums) (now found) (now points) (now coefs) (now row)
+        × (digits l ^ e ≤ length (now cur)) × Inverses gf256 (now table) ⌝ }
     ensures { λ r. ⌜ Says r ((j : ℕ) → j < layers l → LayerFits gf256 l (now (es .entry)) (now (c .entry)) j) ⌝ }
 {
     let w = blocks::block_width(l, e);

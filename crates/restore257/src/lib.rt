@@ -104,7 +104,8 @@ fn restore_block(
     cur: &mut [u16],
     table: &[u16],
 )
-    requires { ⌜ Block l w first × (e ≤ l .racks) × (w ≡ digits l ^ e) × Erasing l total (now es) (now c) × Workspace l w (now sums) (now found) (now points) (now coefs) (now row) × (w ≤ length (now cur)) × Inverses gf257 (now table) ⌝ }
+    requires { ⌜ Block l w first × (e ≤ l .racks) × (w ≡ digits l ^ e) × Erasing l total (now es) (now c)
+        × Workspace l w (now sums) (now found) (now points) (now coefs) (now row) × (w ≤ length (now cur)) × Inverses gf257 (now table) ⌝ }
     ensures { λ _. ⌜ BlockRestored gf257 l w first (now (es .entry)) (now (c .entry)) (now (c .exit)) ⌝ }
 {
     syndrome257::sum_kept(sums, l, w, first, es.len(), c, es, cur, row);
@@ -127,7 +128,8 @@ fn restore_blocks(
     cur: &mut [u16],
     table: &[u16],
 )
-    requires { ⌜ (e ≤ l .racks) × Erasing l total (now es) (now c) × Workspace l (digits l ^ e) (now sums) (now found) (now points) (now coefs) (now row) × (digits l ^ e ≤ length (now cur)) × Inverses gf257 (now table) ⌝ }
+    requires { ⌜ (e ≤ l .racks) × Erasing l total (now es) (now c) × Workspace l (digits l ^ e) (now sums) (now found) (now points) (now coefs) (now row)
+        × (digits l ^ e ≤ length (now cur)) × Inverses gf257 (now table) ⌝ }
     ensures { λ _. ⌜ RestoredTo gf257 l (now (es .entry)) (now (c .entry)) (layers l) (now (c .exit)) ⌝ }
 {
     let w = blocks::block_width(l, e);
@@ -225,7 +227,8 @@ fn block_fits(
     cur: &mut [u16],
     table: &[u16],
 ) -> bool
-    requires { ⌜ Block l w first × (e ≤ l .racks) × (w ≡ digits l ^ e) × Erasing l total (now es) (now c) × Workspace l w (now sums) (now found) (now points) (now coefs) (now row) × (w ≤ length (now cur)) × Inverses gf257 (now table) ⌝ }
+    requires { ⌜ Block l w first × (e ≤ l .racks) × (w ≡ digits l ^ e) × Erasing l total (now es) (now c)
+        × Workspace l w (now sums) (now found) (now points) (now coefs) (now row) × (w ≤ length (now cur)) × Inverses gf257 (now table) ⌝ }
     ensures { λ r. ⌜ Says r (BlockFits gf257 l w first (now (es .entry)) (now (c .entry))) ⌝ }
 {
     let r = layout::check_count(l) as usize;
@@ -250,7 +253,8 @@ fn blocks_fit(
     cur: &mut [u16],
     table: &[u16],
 ) -> bool
-    requires { ⌜ (e ≤ l .racks) × Erasing l total (now es) (now c) × Workspace l (digits l ^ e) (now sums) (now found) (now points) (now coefs) (now row) × (digits l ^ e ≤ length (now cur)) × Inverses gf257 (now table) ⌝ }
+    requires { ⌜ (e ≤ l .racks) × Erasing l total (now es) (now c) × Workspace l (digits l ^ e) (now sums) (now found) (now points) (now coefs) (now row)
+        × (digits l ^ e ≤ length (now cur)) × Inverses gf257 (now table) ⌝ }
     ensures { λ r. ⌜ Says r ((j : ℕ) → j < layers l → LayerFits gf257 l (now (es .entry)) (now (c .entry)) j) ⌝ }
 {
     let w = blocks::block_width(l, e);

@@ -32,7 +32,8 @@ use Rattle.range.specs.Range.{symbolsFrom}
 use Rattle.rule.proofs.Racks.{tray-at, tray-long}
 use Rattle.share.specs.Many.{sharesOf, partAt, fedMany, fedRefusal, fedBuffer, manyRefusal, manyBuffer, addManyRefusal, addManyBuffer}
 use Rattle.share.specs.Feeds.{count, odd, cleared, Feeds, none, feed, refused}
-use Rattle.share.proofs.Refusals.{symbols-in, symbols-range, rack-shareable, tray-done, tray-shareable, tray-ground-0, buffer-done, add-refused, add-done, many-plain, many-same, many-done, add-many-refused, add-many-left, add-many-done}
+use Rattle.share.proofs.Refusals.{symbols-in, symbols-range, rack-shareable, tray-done, tray-shareable, tray-ground-0, buffer-done, add-refused, add-done}
+use Rattle.share.proofs.Refusals.{many-plain, many-same, many-done, add-many-refused, add-many-left, add-many-done}
 use Rattle.share.proofs.Parts.{all-parts}
 
 -- one tray more among those counted
@@ -199,7 +200,8 @@ module _ {A : Type 0} {f : Field A} (W : Working f) (l : Layout) (e : ℕ) where
       let z = many-plain f l e host i rack out q in
       let h = many-same f l e host i rack out z ∙ q in
       let p = rack-shareable W l e host i rack (length out) h in
-      feeds-shares W l e (p .adm) host i (p .host-in) (p .helper-in) (p .some) (p .few) (p .differ) rack (p .long) (symbols-range f rack (p .symbols-so)) (cleared f l e) cleared-long cleared-range refl places held feeds once
+      feeds-shares W l e (p .adm) host i (p .host-in) (p .helper-in) (p .some) (p .few) (p .differ) rack (p .long) (symbols-range f rack (p .symbols-so))
+      (cleared f l e) cleared-long cleared-range refl places held feeds once
       ∙ buffer-done f l e host i rack out h
       ∙ many-done f l e host i rack out _ _ z refl refl .1
 

@@ -98,7 +98,10 @@ module _ {A : Type 0} (f : Field A) (laws : FieldLaws f) (l : Layout) where
 
     pub partly-range : (n : ℕ) → InRange (f .coding) (partly n)
     unfolding partly
-    partly-range n = record { at = λ q k. rw (table-at (λ q. f .coding .val (sum o n (λ g. partAt f l h (i * l .size + g) (trayPart l rack g) q))) (e * groups l) q (rw (partly-long n) at k)) (laws .coded .val-below _) }
+    partly-range n = record {
+      at = λ q k. rw (table-at (λ q. f .coding .val (sum o n (λ g. partAt f l h (i * l .size + g) (trayPart l rack g) q))) (e * groups l) q
+          (rw (partly-long n) at k)) (laws .coded .val-below _);
+    }
 
     pub partly-all : (n : ℕ) → n ≡ l .size → partly n ≡ sharesOf f l e h rack
     unfolding partly sharesOf
@@ -309,7 +312,8 @@ module _ {A : Type 0} {f : Field A} (W : Working f) where
 
       pub fed-more : (is : List ℕ) → Rested f l e h x symbols at m mid is → is ≡ fedTrays f l e h x symbols at m was
       unfolding fedTrays
-      fed-more is r = is-table is _ (e * groups l) (r .same ∙ d .same ∙ room) (λ n k. sym (W .field .coded .val-elem (getD is n 0) (r .range .at n (rw (r .same ∙ d .same ∙ room) k))) ∙ ap val (go n k (decLt n (groups l))))
+      fed-more is r = is-table is _ (e * groups l) (r .same ∙ d .same ∙ room)
+          (λ n k. sym (W .field .coded .val-elem (getD is n 0) (r .range .at n (rw (r .same ∙ d .same ∙ room) k))) ∙ ap val (go n k (decLt n (groups l))))
         where
           go : (n : ℕ) → n < e * groups l → Dec (n < groups l) → elem (getD is n 0) ≡ ops .add (elem (getD was n 0)) (partsAt f l h x symbols at m n)
           go n k (yes b) = ap elem (r .first n b) ∙ first-part n b

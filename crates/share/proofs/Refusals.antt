@@ -173,7 +173,8 @@ module _ {A : Type 0} {f : Field A} (W : Working f) (l : Layout) where
     tray-shareable h = shareable (f .order) l e 1 host (x / l .size) (length symbols) (length held) traySeen (tray-grounds (tray-admissible h) ∙ h)
 
   -- the same tray is not refused where the shares hold something else
-  pub tray-ground-0 : (e host x : ℕ) (symbols held : List ℕ) (old : ℕ) (b : Bool) → Shareable (f .order) l e 1 host (x / l .size) (length symbols) old (symbolsFrom f symbols 0 (length symbols) && b) →
+  pub tray-ground-0 : (e host x : ℕ) (symbols held : List ℕ) (old : ℕ) (b : Bool) → Shareable (f .order) l e 1 host (x / l .size) (length symbols) old
+      (symbolsFrom f symbols 0 (length symbols) && b) →
       length held ≡ old → symbolsFrom f held 0 (length held) ≡ true → 0 ≡ fedRefusal f l e host x symbols held
   tray-ground-0 e host x symbols held old b s long range =
       ground-0 (f .order) l e 1 host (x / l .size) (length symbols) (length held) _ (sym (facts-admissible (f .order) l (s .adm))) (s .long) (long ∙ s .room-long) (s .host-in) (s .helper-in)

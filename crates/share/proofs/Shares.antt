@@ -21,7 +21,8 @@ pub sent : {A : Type 0} (f : Field A) → FieldLaws f → (l : Layout) (e h : �
     take (groups l) (drop ((k * e + m) * groups l) shares) ≡ shareOf f l m h rack → (p : ℕ) → p < groups l → sentSymbol f l e shares m p k ≡ shareSymbol f l m h rack p
 unfolding sentSymbol shareOf
 sent f laws l e h shares rack k m q p hp =
-    ap (f .coding .elem) (sym (getD-take (groups l) (drop ((k * e + m) * groups l) shares) p 0 hp ∙ getD-drop ((k * e + m) * groups l) shares p 0) ∙ ap (λ o. getD o p 0) q ∙ table-at _ (groups l) p hp)
+    ap (f .coding .elem) (sym (getD-take (groups l) (drop ((k * e + m) * groups l) shares) p 0 hp ∙ getD-drop ((k * e + m) * groups l) shares p 0)
+    ∙ ap (λ o. getD o p 0) q ∙ table-at _ (groups l) p hp)
     ∙ laws .coded .elem-val (shareSymbol f l m h rack p)
 
 -- a part of the front of a list is one of the list

@@ -83,7 +83,8 @@ module _ (l : Layout) (h s run count : ℕ) (a : Cabinet l) (host : h < l .racks
       ∙ ap₂ _*_ (sym (groups-are l a) ∙ sym count-whole) (sym (r .digits-are))
       ∙ mul-assoc count run s ∙ ap (λ n. count * n) (mul-comm run s) ∙ sym (mul-assoc count s run)
 
-  pub runs-of : {A : Type 0} (f : Field A) (far : ℕ) (symbols : List ℕ) (at m : ℕ) (sums : List ℕ) → far ≡ count * s * run → Summing f l h symbols at m sums → InTrays f s run count symbols at far m sums
+  pub runs-of : {A : Type 0} (f : Field A) (far : ℕ) (symbols : List ℕ) (at m : ℕ) (sums : List ℕ) → far ≡ count * s * run → Summing f l h symbols at m sums →
+      InTrays f s run count symbols at far m sums
   runs-of f far symbols at m sums e t = record {
     some = run-pos;
     some-runs = rw (r .count-is) (power-pos (digits l) (l .racks - 1 - h) (bounds l a .digits-low));
@@ -116,7 +117,8 @@ module _ (l : Layout) (h s run count : ℕ) (a : Cabinet l) (host : h < l .racks
       done : (p : ℕ) → p < groups l →
           f .coding .elem (getD is p 0) ≡ f .ops .add (f .coding .elem (getD was p 0)) (sum (f .ops) m (λ g. sumAt f l h (cut l symbols (at + g * layers l)) p))
       done p k =
-          subst (λ n. f .coding .elem (getD is n 0) ≡ f .ops .add (f .coding .elem (getD was n 0)) (sum (f .ops) m (λ g. sum (f .ops) s (layered f s run symbols (at + g * far) (p / run) (p % run))))) (div-add-mod' p run)
+          subst (λ n. f .coding .elem (getD is n 0) ≡ f .ops .add (f .coding .elem (getD was n 0))
+          (sum (f .ops) m (λ g. sum (f .ops) s (layered f s run symbols (at + g * far) (p / run) (p % run))))) (div-add-mod' p run)
           (d .done (p / run) (p % run) within (mod-lt p run-pos))
           ∙ ap (f .ops .add (f .coding .elem (getD was p 0))) (sum-congr (f .ops) m _ _ (λ g n. tray (at + g * far) ∙ ap (λ z. sumAt f l h (cut l symbols (at + g * z)) p) (e-far ∙ sym layers-whole)))
         where
@@ -124,7 +126,8 @@ module _ (l : Layout) (h s run count : ℕ) (a : Cabinet l) (host : h < l .racks
           within = div-lt-iff-lt-mul run-pos .1 (rw count-whole k)
 
           -- a layer of the tray at a place
-          at-cut : (from b : ℕ) → b < s → f .coding .elem (getD symbols (from + ((p / run * s + b) * run + p % run)) 0) ≡ f .coding .elem (getD (cut l symbols from) ((p / run * s + b) * run + p % run) 0)
+          at-cut : (from b : ℕ) → b < s → f .coding .elem (getD symbols (from + ((p / run * s + b) * run + p % run)) 0)
+              ≡ f .coding .elem (getD (cut l symbols from) ((p / run * s + b) * run + p % run) 0)
           at-cut from b n =
               ap (f .coding .elem) (sym (cut-at l symbols from _ (rw layers-whole (cell-in (count * s) run (p / run * s + b) (p % run) (cell-in count s (p / run) b within n) (mod-lt p run-pos)))))
 

@@ -275,7 +275,8 @@ fn add_sums(l: Layout, h: u32, r: HostRuns, symbols: &[u8], at: usize, m: usize,
 // Adds tray x's parts of the weights from 1 on, worked out from its sums; those of weight 0 are the sums themselves.
 fn add_weighted(l: Layout, count: u32, x: u32, sums: &[u8], shares: &mut [u8])
     requires { ⌜ Weighing l count (now sums) (now shares) ⌝ }
-    ensures { λ _. ⌜ ((h : ℕ) (symbols : List ℕ) → ((p : ℕ) → p < groups l → gf256 .coding .elem (getD (now (sums .entry)) p 0) ≡ sumAt gf256 l h symbols p) → Added gf256 l h x symbols (now (shares .entry)) (now (shares .exit)) count) ⌝ }
+    ensures { λ _. ⌜ ((h : ℕ) (symbols : List ℕ) → ((p : ℕ) → p < groups l → gf256 .coding .elem (getD (now (sums .entry)) p 0) ≡ sumAt gf256 l h symbols p) →
+        Added gf256 l h x symbols (now (shares .entry)) (now (shares .exit)) count) ⌝ }
 {
     let u = l.size;
     let total = layout::group_count(l);

@@ -141,11 +141,13 @@ zero-one e = omega arith
 
 pub laws : Laws ops
 laws = record {
-  add-assoc = λ a b c. elem-path _ _ (val-add (ops .add a b) c ∙ ap (λ (x : ℕ). x ⊕ c .val) (val-add a b) ∙ ⊕-assoc (a .val) (b .val) (c .val) ∙ sym (val-add a (ops .add b c) ∙ ap (λ (x : ℕ). a .val ⊕ x) (val-add b c)));
+  add-assoc = λ a b c. elem-path _ _ (val-add (ops .add a b) c ∙ ap (λ (x : ℕ). x ⊕ c .val) (val-add a b) ∙ ⊕-assoc (a .val) (b .val) (c .val)
+      ∙ sym (val-add a (ops .add b c) ∙ ap (λ (x : ℕ). a .val ⊕ x) (val-add b c)));
   add-comm = λ a b. elem-path _ _ (val-add a b ∙ ⊕-comm (a .val) (b .val) ∙ sym (val-add b a));
   zero-add = λ a. elem-path _ _ (val-add (ops .zero) a ∙ ap (λ (x : ℕ). x ⊕ a .val) val-zero ∙ zero-⊕ (a .val));
   neg-add = λ a. elem-path _ _ (val-add (ops .neg a) a ∙ ap (λ x. x .val ⊕ a .val) (neg-is a) ∙ ⊕-self (a .val) ∙ sym val-zero);
-  mul-assoc = λ a b c. elem-path _ _ (val-mul (ops .mul a b) c ∙ ap (λ (x : ℕ). x ⊗ c .val) (val-mul a b) ∙ ⊗-assoc (a .val) (b .val) (c .val) ∙ sym (val-mul a (ops .mul b c) ∙ ap (λ (x : ℕ). a .val ⊗ x) (val-mul b c)));
+  mul-assoc = λ a b c. elem-path _ _ (val-mul (ops .mul a b) c ∙ ap (λ (x : ℕ). x ⊗ c .val) (val-mul a b) ∙ ⊗-assoc (a .val) (b .val) (c .val)
+      ∙ sym (val-mul a (ops .mul b c) ∙ ap (λ (x : ℕ). a .val ⊗ x) (val-mul b c)));
   mul-comm = λ a b. elem-path _ _ (val-mul a b ∙ ⊗-comm (a .val) (b .val) ∙ sym (val-mul b a));
   one-mul = λ a. elem-path _ _ (val-mul (ops .one) a ∙ ap (λ (x : ℕ). x ⊗ a .val) val-one ∙ one-⊗ (small a));
   mul-add = λ a b c. elem-path _ _ (

@@ -109,7 +109,8 @@ tray-in l w first x total c b e h t =
 pub tray-fits : (l : Layout) (w first x total : ℕ) (c : List ℕ) → Block l w first → length c ≡ trays l * layers l → x < trays l → total ≡ layers l → Fits w64 (length c) → Fits w64 (x * total)
 tray-fits l w first x total c b e h t f = let q = tray-in l w first x total c b e h t in omega arith
 
-pub tray-fits-2 : (l : Layout) (w first x total : ℕ) (c : List ℕ) → Block l w first → length c ≡ trays l * layers l → x < trays l → total ≡ layers l → Fits w64 (length c) → Fits w64 (x * total + first)
+pub tray-fits-2 : (l : Layout) (w first x total : ℕ) (c : List ℕ) → Block l w first → length c ≡ trays l * layers l → x < trays l → total ≡ layers l →
+    Fits w64 (length c) → Fits w64 (x * total + first)
 tray-fits-2 l w first x total c b e h t f = let q = tray-in l w first x total c b e h t in omega arith
 
 pub sums-fits : (w r : ℕ) (sums cur row : List ℕ) → Room w r sums cur row → Fits w64 (length sums) → Fits w64 (r * w)

@@ -44,7 +44,8 @@ module _ {A : Type 0} {f : Field A} (W : Working f) where
     unfolding stepped
     stepped-row r j h = ap (λ i. elem (getD new i 0)) (sym (zero-add j)) ∙ r .done j h ∙ mul-comm ops laws _ _
 
-  pub adding-more : (w t : ℕ) (row cur was is next old new : List ℕ) → 1 ≤ t → Adding f w row cur was is old t → Standing f (accrued f is (t * w) old row) is next (t * w) w → Standing f (stepped f old row) old new 0 w →
+  pub adding-more : (w t : ℕ) (row cur was is next old new : List ℕ) → 1 ≤ t → Adding f w row cur was is old t → Standing f (accrued f is (t * w) old row) is next
+      (t * w) w → Standing f (stepped f old row) old new 0 w →
       Adding f w row cur was next new (t + 1)
   adding-more w t row cur was is next old new ht g r s = record {
     first = λ j h. cell-other f _ is next t w run 0 j h (λ e. omega arith) ∙ g .first j h;

@@ -142,7 +142,8 @@ module _ (m : ℕ) (src was is : List ℕ) (from gap len : ℕ) where
         ∙ elem-⊕ (getD src (from + j) 0) _
         ∙ ap (ops .add (elem (getD src (from + j) 0))) (mix-is (getD src (from + gap + j) 0) (getD src (from + gap + gap + j) 0) 0 0 p q 0 0)
         ∙ ap (λ o. ops .add (elem (getD src (from + j) 0))
-        (ops .add (ops .add (ops .mul (elem (getD src (from + gap + j) 0)) (elem p)) (ops .mul (elem (getD src (from + gap + gap + j) 0)) (elem q))) (ops .add (ops .mul o o) (ops .mul o o)))) elem-zero
+        (ops .add (ops .add (ops .mul (elem (getD src (from + gap + j) 0)) (elem p)) (ops .mul (elem (getD src (from + gap + gap + j) 0)) (elem q)))
+        (ops .add (ops .mul o o) (ops .mul o o)))) elem-zero
         ∙ three-terms (elem (getD src (from + j) 0)) (elem (getD src (from + gap + j) 0)) (elem (getD src (from + gap + gap + j) 0)) (elem p) (elem q)
         ∙ ap₂ (ops .add) (ap₂ (ops .add) (ap (ops .add (ops .zero)) (first-is 3 m src from gap j)) (term-is 3 m src from gap j 1 _ p (omega arith) ep))
         (term-is 3 m src from gap j 2 _ q (omega arith) eq);

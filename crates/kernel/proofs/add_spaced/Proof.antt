@@ -17,10 +17,16 @@ abbrev μ-loop : tie.MeasureT-loop
 
 -- the places read and written in a turn
 to-in : (c : tie.In-loop Inv-loop μ-loop) → let a = c .before .before .before .before .args in a .to + c .before .loop .j * a .step < length (c .before .loop .out)
-to-in c = let a = c .before .before .before .before .args in omega (arith, c .before .loop .inv .1, place-in (a .out .now) (a .to) (a .step) (c .before .loop .j) (a .len) (c .before .before .before .before .pre .0) (c .loop-test .taken))
+to-in c = let a = c .before .before .before .before .args in omega (
+  arith,
+  c .before .loop .inv .1,
+  place-in (a .out .now) (a .to) (a .step) (c .before .loop .j)
+      (a .len) (c .before .before .before .before .pre .0) (c .loop-test .taken),
+)
 
 from-in : (c : tie.In-loop Inv-loop μ-loop) → let a = c .before .before .before .before .args in a .from + c .before .loop .j * a .stride < length (a .src .now)
-from-in c = let a = c .before .before .before .before .args in place-in (a .src .now) (a .from) (a .stride) (c .before .loop .j) (a .len) (c .before .before .before .before .pre .1) (c .loop-test .taken)
+from-in c = let a = c .before .before .before .before .args in place-in (a .src .now) (a .from) (a .stride) (c .before .loop .j) (a .len)
+    (c .before .before .before .before .pre .1) (c .loop-test .taken)
 
 pub add-spaced-spec : {M : Type 1} → statement M
 add-spaced-spec =

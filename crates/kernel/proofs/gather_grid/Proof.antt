@@ -27,7 +27,8 @@ gather-grid-spec =
     (λ c. (omega arith, grid-none working _ _ _ _ _ _, omega arith))
     (λ c. omega (arith, first-in c))
     (λ c. omega (arith, first-in c))
-    (λ c κs. let p = c .before .before .before .pre in let a = c .before .before .before .args in (p .0, p .1 .rows _ (c .loop-test .taken), omega (arith, row-before (c .before .loop .g) (a .m) (a .n) (c .loop-test .taken))))
+    (λ c κs. let p = c .before .before .before .pre in let a = c .before .before .before .args in
+    (p .0, p .1 .rows _ (c .loop-test .taken), omega (arith, row-before (c .before .loop .g) (a .m) (a .n) (c .loop-test .taken))))
     (λ c. omega arith)
     (λ c. omega arith)
     (λ c. (omega arith, search (grid-more working), omega (arith, row-end (c .before .before .loop .g) (c .before .before .before .before .args .n))))

@@ -11,7 +11,8 @@ use Rattle.kernel257.proofs.accrue.Statement.{statement}
 use Rattle.kernel257.proofs.accrue.Tie as tie
 
 abbrev Inv-loop : tie.InvT-loop
-Inv-loop out₀ to len cur₀ by j₀ out cur j = (j ≤ len) × (length out ≡ length out₀) × (length cur ≡ length cur₀) × Standing gf257 (accrued gf257 out₀ to cur₀ by) out₀ out to j × Standing gf257 (stepped gf257 cur₀ by) cur₀ cur 0 j
+Inv-loop out₀ to len cur₀ by j₀ out cur j = (j ≤ len) × (length out ≡ length out₀) × (length cur ≡ length cur₀) × Standing gf257 (accrued gf257 out₀ to cur₀ by) out₀
+    out to j × Standing gf257 (stepped gf257 cur₀ by) cur₀ cur 0 j
 
 abbrev μ-loop : tie.MeasureT-loop
 μ-loop out₀ to len cur₀ by j₀ out cur j = len - j
@@ -36,7 +37,16 @@ accrue-spec =
     (λ c. omega arith)
     (λ c. omega arith)
     (λ c. omega arith)
-    (λ c. (omega arith, simp length-set (omega arith), simp length-set (omega arith), let k = c .before .before .before .before .before .before .loop .inv in accrue-more gf257 _ _ _ _ _ _ _ (c .before .before .before .before .before .before .before .before .before .before .args .len) _ _ (k .3) (k .4) (omega arith) (omega arith) (c .before .before .lazy-product .ensures .0) (c .lazy-sum .ensures), search step-more))
+    (λ c. (
+      omega arith,
+      simp length-set (omega arith),
+      simp length-set (omega arith),
+      let c1 = c .before .before in
+          let c2 = c1 .before .before .before .before in
+          let c3 = c2 .before .before .before .before in
+          let k = c2 .loop .inv in accrue-more gf257 _ _ _ _ _ _ _ (c3 .args .len) _ _ (k .3) (k .4) (omega arith) (omega arith) (c1 .lazy-product .ensures .0) (c .lazy-sum .ensures),
+      search step-more,
+    ))
     (λ c. omega arith)
     (λ c. omega arith)
     (λ c. (search standing-end, search standing-end)))

@@ -11,7 +11,9 @@ use Rattle.pieces.proofs.mend_blocks.Statement.{statement}
 use Rattle.pieces.proofs.mend_blocks.Tie as tie
 
 abbrev Inv-loop : tie.InvT-loop
-Inv-loop l lost helpers shares host first count spare₀ sums₀ sides₀ found₀ points₀ coefs₀ row₀ cur₀ table rows k₀ spare sums sides found points coefs row cur k = (k ≤ count) × (length sums ≡ length sums₀) × (length sides ≡ length sides₀) × (length found ≡ length found₀) × (length points ≡ length points₀) × (length coefs ≡ length coefs₀) × (length row ≡ length row₀) × (length cur ≡ length cur₀) × Piece gf256 l lost helpers shares host first k spare₀ spare
+Inv-loop l lost helpers shares host first count spare₀ sums₀ sides₀ found₀ points₀ coefs₀ row₀ cur₀ table rows k₀ spare sums sides found points coefs row cur k =
+    (k ≤ count) × (length sums ≡ length sums₀) × (length sides ≡ length sides₀) × (length found ≡ length found₀) × (length points ≡ length points₀)
+    × (length coefs ≡ length coefs₀) × (length row ≡ length row₀) × (length cur ≡ length cur₀) × Piece gf256 l lost helpers shares host first k spare₀ spare
 
 abbrev μ-loop : tie.MeasureT-loop
 μ-loop l lost helpers shares host first count spare₀ sums₀ sides₀ found₀ points₀ coefs₀ row₀ cur₀ table rows k₀ spare sums sides found points coefs row cur k = count - k
@@ -32,21 +34,37 @@ sub-block-at : tie.Need-sub-block-at Inv-loop μ-loop
 sub-block-at c = search needs
 
 block-at-requires : tie.Need-block-at-requires Inv-loop μ-loop
-block-at-requires c κs = let p = c .before .before .before .before .before .before .before .before .before .before .before .before .before .before .before .before .pre .0 in (p .adm .admissible .cabinet, omega arith, omega (arith, p .within, groups-under (c .before .before .before .before .before .before .before .before .before .before .before .before .before .before .before .before .args .l)), c .before .before .row-count .ensures .few)
+block-at-requires c κs = let p =
+    c .before .before .before .before .before .before .before .before .before .before .before .before .before .before .before .before .pre .0 in (
+      p .adm .admissible .cabinet,
+      omega arith,
+      omega (
+        arith,
+        p .within,
+        groups-under (c .before .before .before .before .before .before .before .before .before .before .before .before .before .before .before .before .args .l),
+      ),
+      c .before .before .row-count .ensures .few,
+    )
 
 add-mend-block : tie.Need-add-mend-block Inv-loop μ-loop
 add-mend-block c = search needs
 
 mend-block-requires : tie.Need-mend-block-requires Inv-loop μ-loop
 mend-block-requires c κs =
-    let s = c .before .before .before .before .before .before .before .before .before .before .before .before .before .before .before .before .before .before .before .before .before .before .before .before .before in
+    let s =
+    c .before .before .before .before .before .before .before .before .before .before .before .before .before .before .before .before .before .before .before .before
+    .before .before .before .before .before in
     let a = s .args in
     let o = c .before .before .before .before .before .before .before .before .before .before .loop in
     let w = c .before .before .before .before .before .before .before .before .block-at in (
-      piecing-next (gf256 .order) (a .l) (a .lost .now) (a .helpers .now) (a .shares .now) (a .host .now) (a .first) (a .count) (o .k) (w .result) (a .spare .now) _ (s .pre .0) (omega (arith, w .ensures .1 .within)) (o .inv .8 .long),
+      piecing-next (gf256 .order) (a .l) (a .lost .now) (a .helpers .now) (a .shares .now) (a .host .now) (a .first) (a .count) (o .k) (w .result) (a .spare .now) _
+          (s .pre .0) (omega (arith, w .ensures .1 .within)) (o .inv .8 .long),
       groups-of (a .l) (a .first + o .k) (a .count - o .k) _ (w .result) (omega (arith, s .pre .0 .within)) (w .ensures .0) (w .ensures .1),
-      fitting-in (a .l) (length (a .lost .now)) _ _ _ _ (a .count) _ _ (c .before .before .before .before .before .before .before .before .before .before .before .row-count .ensures) (w .ensures .1) (omega (arith, w .ensures .1 .within)) (s .pre .1) (o .inv .1),
-      rooms-next (a .sums .now) (a .sides .now) (a .found .now) (a .points .now) (a .coefs .now) (a .row .now) (a .cur .now) _ _ _ _ _ _ _ (s .pre .2) (o .inv .1) (o .inv .2) (o .inv .3) (o .inv .4) (o .inv .5) (o .inv .6) (o .inv .7),
+      fitting-in (a .l) (length (a .lost .now)) _ _ _ _ (a .count) _ _
+          (c .before .before .before .before .before .before .before .before .before .before .before .row-count .ensures) (w .ensures .1)
+          (omega (arith, w .ensures .1 .within)) (s .pre .1) (o .inv .1),
+      rooms-next (a .sums .now) (a .sides .now) (a .found .now) (a .points .now) (a .coefs .now) (a .row .now) (a .cur .now) _ _ _ _ _ _ _ (s .pre .2) (o .inv .1)
+          (o .inv .2) (o .inv .3) (o .inv .4) (o .inv .5) (o .inv .6) (o .inv .7),
       s .pre .3,
     )
 
@@ -58,11 +76,29 @@ loop-less c = omega arith
 
 loop-again : tie.Need-loop-again Inv-loop μ-loop
 loop-again c =
-    let a = c .before .before .before .before .before .before .before .before .before .before .before .before .before .before .before .before .before .before .before .before .before .before .before .before .before .before .before .before .before .before .before .before .before .before .before .before .before .before .before .before .before .before .args in
-    let o = c .before .before .before .before .before .before .before .before .before .before .before .before .before .before .before .before .before .before .before .before .before .before .before .before .before .before .before .loop in
+    let a =
+    c .before .before .before .before .before .before .before .before .before .before .before .before .before .before .before .before .before .before .before .before
+    .before .before .before .before .before .before .before .before .before .before .before .before .before .before .before .before .before .before .before .before
+    .before .before .args in
+    let o =
+    c .before .before .before .before .before .before .before .before .before .before .before .before .before .before .before .before .before .before .before .before
+    .before .before .before .before .before .before .before .loop in
     let m = c .before .before .before .before .before .before .before .before .before .before .before .before .before .before .before .before .mend-block in
-    let w = c .before .before .before .before .before .before .before .before .before .before .before .before .before .before .before .before .before .before .before .before .before .before .before .before .before .block-at .ensures .1 .within in
-    (omega arith, m .kept .1 .1 .1 .1 .1 .1 .1 .1 .0 ∙ o .inv .1, m .kept .1 .1 .1 .1 .1 .1 .1 .1 .1 .0 ∙ o .inv .2, m .kept .1 .1 .1 .1 .1 .1 .1 .1 .1 .1 .0 ∙ o .inv .3, m .kept .1 .1 .1 .1 .1 .1 .1 .1 .1 .1 .1 .0 ∙ o .inv .4, m .kept .1 .1 .1 .1 .1 .1 .1 .1 .1 .1 .1 .1 .0 ∙ o .inv .5, m .kept .1 .1 .1 .1 .1 .1 .1 .1 .1 .1 .1 .1 .1 .0 ∙ o .inv .6, m .kept .1 .1 .1 .1 .1 .1 .1 .1 .1 .1 .1 .1 .1 .1 .0 ∙ o .inv .7, piece-more gf256 (a .l) (a .lost .now) (a .helpers .now) (a .shares .now) (a .host .now) (a .first) (o .k) _ (a .spare .now) (o .spare) _ (o .inv .8) (m .ensures))
+    let w =
+    c .before .before .before .before .before .before .before .before .before .before .before .before .before .before .before .before .before .before .before .before
+    .before .before .before .before .before .block-at .ensures .1 .within in (
+      omega arith,
+      m .kept .1 .1 .1 .1 .1 .1 .1 .1 .0 ∙ o .inv .1,
+      m .kept .1 .1 .1 .1 .1 .1 .1 .1 .1 .0 ∙ o .inv .2,
+      m .kept .1 .1 .1 .1 .1 .1 .1 .1 .1 .1 .0
+          ∙ o .inv .3,
+      m .kept .1 .1 .1 .1 .1 .1 .1 .1 .1 .1 .1 .0 ∙ o .inv .4,
+      m .kept .1 .1 .1 .1 .1 .1 .1 .1 .1 .1 .1 .1 .0 ∙ o .inv .5,
+      m .kept .1 .1 .1 .1 .1 .1 .1 .1 .1 .1 .1 .1 .1 .0 ∙ o .inv .6,
+      m .kept .1 .1 .1 .1 .1 .1 .1 .1 .1 .1 .1 .1 .1 .1 .0 ∙ o .inv .7,
+      piece-more gf256 (a .l) (a .lost .now) (a .helpers .now) (a .shares .now) (a .host .now) (a .first) (o .k) _ (a .spare .now) (o .spare) _ (o .inv .8)
+          (m .ensures),
+    )
 
 same-length : tie.Need-same-length Inv-loop μ-loop
 same-length c = search needs

@@ -12,7 +12,8 @@ use Rattle.rack_checks.proofs.raise_rack.Statement.{statement}
 use Rattle.rack_checks.proofs.raise_rack.Tie as tie
 
 abbrev Inv-loop : tie.InvT-loop
-Inv-loop sums₀ l w first total r c es i cur₀ row u n m₀ sums cur m = (m ≤ n) × (length sums ≡ length sums₀) × (length cur ≡ length cur₀) × Weights gf256 l w first r c es i sums₀ sums m × LastSums gf256 l w first c es i m cur
+Inv-loop sums₀ l w first total r c es i cur₀ row u n m₀ sums cur m = (m ≤ n) × (length sums ≡ length sums₀) × (length cur ≡ length cur₀)
+    × Weights gf256 l w first r c es i sums₀ sums m × LastSums gf256 l w first c es i m cur
 
 abbrev μ-loop : tie.MeasureT-loop
 μ-loop sums₀ l w first total r c es i cur₀ row u n m₀ sums cur m = n - m
@@ -33,12 +34,13 @@ raise-rack-spec =
       omega arith,
       search needs,
       search needs,
-      let c1 = c .before .before .before .before .before .before .before .before .before .before .before in
-          let a = c1 .before .before .before .before .before .before .before .before .before .before .before .args in
-          let s = c .before .before .before .before .before .before .before .before .rack-sum in
-          weights-more working (a .l) (a .w) (a .first) (a .r) (a .c .now) (a .es .now) (a .i) (a .sums .now) (c1 .loop .sums) (c .before .before .raise-weight .last .0) (s .last .0) (c1 .loop .m)
-          (c1 .loop .inv .3) (s .ensures) (c .before .before .raise-weight .ensures),
-      last-next working _ _ _ _ _ _ _ _ (c .before .before .before .before .before .before .before .before .rack-sum .ensures),
+      let c1 = c .before .before .before .before .before .before .before .before .before .before .before in let a =
+          c1 .before .before .before .before .before .before .before .before .before .before .before .args in let s =
+          c .before .before .before .before .before .before .before .before .rack-sum in weights-more working (a .l) (a .w) (a .first) (a .r) (a .c .now) (a .es .now)
+          (a .i) (a .sums .now) (c1 .loop .sums) (c .before .before .raise-weight .last .0) (s .last .0) (c1 .loop .m) (c1 .loop .inv .3) (s .ensures)
+          (c .before .before .raise-weight .ensures),
+      last-next working _ _ _ _ _ _ _ _
+          (c .before .before .before .before .before .before .before .before .rack-sum .ensures),
     ))
     (λ c. search needs)
     (λ c. search needs)

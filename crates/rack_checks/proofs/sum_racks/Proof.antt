@@ -13,7 +13,8 @@ use Rattle.rack_checks.proofs.sum_racks.Statement.{statement}
 use Rattle.rack_checks.proofs.sum_racks.Tie as tie
 
 abbrev Inv-loop : tie.InvT-loop
-Inv-loop sums₀ l w first r c es h cur₀ row₀ total i₀ sums cur row i = (i ≤ l .racks) × (length sums ≡ length sums₀) × (length cur ≡ length cur₀) × (length row ≡ length row₀) × Above gf256 l w first r c es i sums
+Inv-loop sums₀ l w first r c es h cur₀ row₀ total i₀ sums cur row i = (i ≤ l .racks) × (length sums ≡ length sums₀) × (length cur ≡ length cur₀)
+    × (length row ≡ length row₀) × Above gf256 l w first r c es i sums
 
 abbrev μ-loop : tie.MeasureT-loop
 μ-loop sums₀ l w first r c es h cur₀ row₀ total i₀ sums cur row i = i

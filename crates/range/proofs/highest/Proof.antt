@@ -21,5 +21,8 @@ highest-spec =
     (λ c κs. search needs)
     (λ c. omega arith)
     (λ c. omega arith)
-    (λ c. let t = c .higher .ensures in (omega arith, highest-more _ _ (c .before .before .before .loop .k) (c .before .before .before .loop .top) _ _ (c .before .before .before .loop .inv .1) (c .before .at .ensures) (t .0) (t .1) (t .2)))
+    (λ c.
+    let c1 = c .before in
+    let c2 = c1 .before .before in
+    let t = c .higher .ensures in (omega arith, highest-more _ _ (c2 .loop .k) (c2 .loop .top) _ _ (c2 .loop .inv .1) (c1 .at .ensures) (t .0) (t .1) (t .2)))
     (λ c. highest-end _ _ (c .before .loop .k) _ (c .before .loop .top) (c .before .loop .inv .1) (omega arith) (omega arith)))

@@ -18,7 +18,8 @@ abbrev μ-loop : tie.MeasureT-loop
 μ-loop xs rows width first count r₀ r = rows - r
 
 inside : (c : tie.In-loop Inv-loop μ-loop) → let a = c .before .before .before .args in c .before .loop .r * a .width + a .first + a .count ≤ length (a .xs .now)
-inside c = let a = c .before .before .before .args in let p = c .before .before .before .pre in row-in (a .xs .now) (a .rows) (a .width) (a .first) (a .count) (c .before .loop .r) (p .1) (p .0) (c .loop-test .taken)
+inside c = let a = c .before .before .before .args in let p = c .before .before .before .pre in row-in (a .xs .now) (a .rows) (a .width) (a .first) (a .count)
+    (c .before .loop .r) (p .1) (p .0) (c .loop-test .taken)
 
 pub rows-are-symbols-spec : {M : Type 1} → statement M
 rows-are-symbols-spec =

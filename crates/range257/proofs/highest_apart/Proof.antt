@@ -21,5 +21,10 @@ highest-apart-spec =
     (λ c κs. search needs)
     (λ c κs. search needs)
     (λ c.
-    apart-of _ _ _ _ _ _ _ _ _ _ (c .before .before .before .before .before .before .at .ensures) (c .before .before .before .before .before .at2 .ensures) (c .before .before .before .at3 .ensures) (c .before .before .at4 .ensures)
-    (c .before .before .before .before .higher .ensures) (c .before .higher2 .ensures) (c .higher3 .ensures)))
+    let c1 = c .before in
+    let c2 = c1 .before in
+    let c3 = c2 .before in
+    let c4 = c3 .before in
+    let c5 = c4 .before in
+    let c6 = c5 .before in
+    apart-of _ _ _ _ _ _ _ _ _ _ (c6 .at .ensures) (c5 .at2 .ensures) (c3 .at3 .ensures) (c2 .at4 .ensures) (c4 .higher .ensures) (c1 .higher2 .ensures) (c .higher3 .ensures)))

@@ -21,5 +21,9 @@ highest-of-four-spec =
     (λ c κs. search needs)
     (λ c. omega arith)
     (λ c. omega arith)
-    (λ c. let t = c .higher .ensures in (omega arith, four-more _ _ _ (c .before .before .before .loop .k) (c .before .before .before .loop .top) _ _ (c .before .before .before .loop .inv .1) (c .before .before .loop-test .taken) (c .before .highest-apart .ensures) (t .0) (t .1) (t .2)))
+    (λ c.
+    let c1 = c .before in
+    let c2 = c1 .before in
+    let c3 = c2 .before in
+    let t = c .higher .ensures in (omega arith, four-more _ _ _ (c3 .loop .k) (c3 .loop .top) _ _ (c3 .loop .inv .1) (c2 .loop-test .taken) (c1 .highest-apart .ensures) (t .0) (t .1) (t .2)))
     (λ c. four-end _ _ _ (c .before .loop .k) (c .before .loop .top) (c .before .loop .inv .1) (omega arith)))

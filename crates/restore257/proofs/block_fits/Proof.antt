@@ -10,7 +10,8 @@ use borrow.Author.Needs.{needs}
 use Rattle.restore257.proofs.block_fits.Statement.{statement}
 use Rattle.restore257.proofs.block_fits.Tie as tie
 
-kept-long : (c : tie.After-sum-kept) → length (c .sum-kept .last .0) ≡ length (c .before .before .before .before .before .before .before .before .before .before .before .before .before .before .args .sums .now)
+kept-long : (c : tie.After-sum-kept) → length (c .sum-kept .last .0)
+    ≡ length (c .before .before .before .before .before .before .before .before .before .before .before .before .before .before .args .sums .now)
 kept-long c = search needs
 
 pub block-fits-spec : {M : Type 1} → statement M
@@ -27,13 +28,76 @@ block-fits-spec =
       c2 .pre .3 .long,
       c2 .pre .3 .listed,
     ))
-    (λ c κs. let a = c .before .before .before .before .before .before .before .before .before .before .before .before .before .before .before .before .before .before .before .before .before .before .before .before .before .args in let p = c .before .before .before .before .before .before .before .before .before .before .before .before .before .before .before .before .before .before .before .before .before .before .before .before .before .pre in (p .0, p .1, p .2, p .3 .listed, space-next (a .l) (a .w) (a .sums .now) (a .found .now) (a .points .now) (a .coefs .now) (a .row .now) (c .before .before .before .before .before .before .before .before .before .before .before .sum-kept .last .0) (a .found .now) (a .points .now) (a .coefs .now) (c .before .before .before .before .before .before .before .before .before .before .before .sum-kept .last .1 .1 .1 .1 .1 .1 .1 .1 .0) (p .4) (search needs) refl refl refl (search needs), p .6))
-    (λ c κs. let a = c .before .before .before .before .before .before .before .before .before .before .before .before .before .before .before .before .before .before .before .before .before .before .before .before .before .before .before .before .before .before .before .before .before .before .before .before .before .before .args in let p = c .before .before .before .before .before .before .before .before .before .before .before .before .before .before .before .before .before .before .before .before .before .before .before .before .before .before .before .before .before .before .before .before .before .before .before .before .before .before .pre in (p .0, p .3 .listed, room-next (a .w) (c .before .before .before .before .before .before .before .before .before .before .before .before .before .before .before .before .before .before .before .before .before .before .before .before .before .before .before .before .check-count .result) (a .sums .now) (a .cur .now) (a .row .now) (c .before .before .before .before .before .before .before .before .before .before .before .before .before .before .before .before .before .before .before .before .before .before .before .before .sum-kept .last .0) (c .before .before .before .before .before .before .before .before .before .before .before .before .before .before .before .before .before .before .before .before .before .before .before .before .sum-kept .last .1 .1 .1 .1 .1 .1 .1 .0) (c .before .before .before .before .before .before .before .before .before .before .before .before .solve-block .last .1 .1 .1 .1 .1 .1 .1 .1 .1 .0) (room-all (a .l) (a .w) (c .before .before .before .before .before .before .before .before .before .before .before .before .before .before .before .before .before .before .before .before .before .before .before .before .before .before .before .before .check-count .result) (a .sums .now) (a .found .now) (a .points .now) (a .coefs .now) (a .row .now) (a .cur .now) (c .before .before .before .before .before .before .before .before .before .before .before .before .before .before .before .before .before .before .before .before .before .before .before .before .before .before .before .before .check-count .ensures) (p .4) (p .5)) (search needs) (search needs) (search needs), found-few (a .l) (a .w) (a .es .now) (a .sums .now) (a .found .now) (c .before .before .before .before .before .before .before .before .before .before .before .before .solve-block .last .0) (a .points .now) (a .coefs .now) (a .row .now) (p .3 .listed) (p .4) (search needs)))
+    (λ c κs.
+    let a =
+    c .before .before .before .before .before .before .before .before .before .before .before .before .before .before .before .before .before .before .before .before
+    .before .before .before .before .before .args in
+    let p =
+    c .before .before .before .before .before .before .before .before .before .before .before .before .before .before .before .before .before .before .before .before
+    .before .before .before .before .before .pre in (
+      p .0,
+      p .1,
+      p .2,
+      p .3 .listed,
+      space-next (a .l) (a .w) (a .sums .now) (a .found .now) (a .points .now) (a .coefs .now) (a .row .now)
+          (c .before .before .before .before .before .before .before .before .before .before .before .sum-kept .last .0) (a .found .now) (a .points .now) (a .coefs .now)
+          (c .before .before .before .before .before .before .before .before .before .before .before .sum-kept .last .1 .1 .1 .1 .1 .1 .1 .1 .0) (p .4)
+          (search needs) refl refl refl (search needs),
+      p .6,
+    ))
+    (λ c κs.
+    let a =
+    c .before .before .before .before .before .before .before .before .before .before .before .before .before .before .before .before .before .before .before .before
+    .before .before .before .before .before .before .before .before .before .before .before .before .before .before .before .before .before .before .args in
+    let p =
+    c .before .before .before .before .before .before .before .before .before .before .before .before .before .before .before .before .before .before .before .before
+    .before .before .before .before .before .before .before .before .before .before .before .before .before .before .before .before .before .before .pre in (
+      p .0,
+      p .3 .listed,
+      room-next (a .w)
+          (c .before .before .before .before .before .before .before .before .before .before .before .before .before .before .before .before .before .before .before
+          .before .before .before .before .before .before .before .before .before .check-count .result) (a .sums .now) (a .cur .now) (a .row .now)
+          (c .before .before .before .before .before .before .before .before .before .before .before .before .before .before .before .before .before .before .before
+          .before .before .before .before .before .sum-kept .last .0)
+          (c .before .before .before .before .before .before .before .before .before .before .before .before .before .before .before .before .before .before .before
+          .before .before .before .before .before .sum-kept .last .1 .1 .1 .1 .1 .1 .1 .0)
+          (c .before .before .before .before .before .before .before .before .before .before .before .before .solve-block .last .1 .1 .1 .1 .1 .1 .1 .1 .1 .0)
+          (room-all (a .l) (a .w)
+          (c .before .before .before .before .before .before .before .before .before .before .before .before .before .before .before .before .before .before .before
+          .before .before .before .before .before .before .before .before .before .check-count .result) (a .sums .now) (a .found .now) (a .points .now) (a .coefs .now)
+          (a .row .now) (a .cur .now)
+          (c .before .before .before .before .before .before .before .before .before .before .before .before .before .before .before .before .before .before .before
+          .before .before .before .before .before .before .before .before .before .check-count .ensures) (p .4) (p .5)) (search needs) (search needs) (search needs),
+      found-few (a .l) (a .w) (a .es .now) (a .sums .now) (a .found .now)
+          (c .before .before .before .before .before .before .before .before .before .before .before .before .solve-block .last .0) (a .points .now) (a .coefs .now)
+          (a .row .now) (p .3 .listed) (p .4) (search needs),
+    ))
     (λ c.
-    let c1 = c .before .before .before .before .before .before .before .before .before .before .before .before .before .before .before .before .before .before .before .before .before .before .before .before .before .before .before .before .before .before .before .before .before .before .before .before in
+    let c1 =
+    c .before .before .before .before .before .before .before .before .before .before .before .before .before .before .before .before .before .before .before .before
+    .before .before .before .before .before .before .before .before .before .before .before .before .before .before .before .before in
     let c2 = c1 .before .before .before .before .before .before .before .before .before .before in
     all-fits (c2 .args .l) (c2 .args .w) (c2 .args .first) (c1 .check-count .result) (c2 .pre .0) (c1 .check-count .ensures))
-    (λ c κs. let a = c .before .before .before .before .before .before .before .before .before .before .before .before .before .before .before .before .before .before .before .before .before .before .before .before .before .before .before .before .before .before .before .before .before .before .before .before .before .before .before .before .before .before .before .before .before .before .args in let e : length (c .before .before .before .before .before .before .before .found-terms .last .0) ≡ length (c .before .before .before .before .before .before .before .before .before .before .before .before .before .before .before .before .before .before .before .before .before .before .before .before .before .before .before .before .before .before .before .before .sum-kept .last .0) = search needs in all-in (a .l) (a .w) (c .before .before .before .before .before .before .before .before .before .before .before .before .before .before .before .before .before .before .before .before .before .before .before .before .before .before .before .before .before .before .before .before .before .before .before .before .check-count .result) (a .sums .now) (c .before .before .before .before .before .before .before .found-terms .last .0) (a .found .now) (a .points .now) (a .coefs .now) (a .row .now) (c .before .before .before .before .before .before .before .before .before .before .before .before .before .before .before .before .before .before .before .before .before .before .before .before .before .before .before .before .before .before .before .before .before .before .before .before .check-count .ensures) (c .before .before .before .before .before .before .before .before .before .before .before .before .before .before .before .before .before .before .before .before .before .before .before .before .before .before .before .before .before .before .before .before .before .before .before .before .before .before .before .before .before .before .before .before .before .before .pre .4) (e ∙ kept-long (c .before .before .before .before .before .before .before .before .before .before .before .before .before .before .before .before .before .before .before .before .before .before .before .before .before .before .before .before .before .before .before .before)))
+    (λ c κs. let a =
+    c .before .before .before .before .before .before .before .before .before .before .before .before .before .before .before .before .before .before .before .before
+    .before .before .before .before .before .before .before .before .before .before .before .before .before .before .before .before .before .before .before .before
+    .before .before .before .before .before .before .args in let e : length (c .before .before .before .before .before .before .before .found-terms .last .0)
+    ≡ length
+    (c .before .before .before .before .before .before .before .before .before .before .before .before .before .before .before .before .before .before .before
+    .before .before .before .before .before .before .before .before .before .before .before .before .before .sum-kept .last .0) = search needs in all-in (a .l)
+    (a .w)
+    (c .before .before .before .before .before .before .before .before .before .before .before .before .before .before .before .before .before .before .before
+    .before .before .before .before .before .before .before .before .before .before .before .before .before .before .before .before .before .check-count .result)
+    (a .sums .now) (c .before .before .before .before .before .before .before .found-terms .last .0) (a .found .now) (a .points .now) (a .coefs .now) (a .row .now)
+    (c .before .before .before .before .before .before .before .before .before .before .before .before .before .before .before .before .before .before .before
+    .before .before .before .before .before .before .before .before .before .before .before .before .before .before .before .before .before .check-count .ensures)
+    (c .before .before .before .before .before .before .before .before .before .before .before .before .before .before .before .before .before .before .before
+    .before .before .before .before .before .before .before .before .before .before .before .before .before .before .before .before .before .before .before .before
+    .before .before .before .before .before .before .before .pre .4)
+    (e
+    ∙ kept-long
+    (c .before .before .before .before .before .before .before .before .before .before .before .before .before .before .before .before .before .before .before
+    .before .before .before .before .before .before .before .before .before .before .before .before .before)))
     (λ c. search needs)
     (λ c. search needs)
     (λ c. search needs)

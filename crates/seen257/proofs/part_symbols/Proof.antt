@@ -39,7 +39,10 @@ part-symbols-spec =
     (λ c. omega (arith, inside (c .before .before) (c .before .loop .a) (c .loop-test .taken)))
     (λ c. omega (arith, inside (c .before .before) (c .before .loop .a) (c .loop-test .taken)))
     (λ c κs. inside (c .before .before) (c .before .loop .a) (c .loop-test .taken))
-    (λ c. let p = c .before .before .before .before .before .before .pre in part-false _ _ _ _ _ _ _ (p .0 .unit-pos) (p .1) (c .before .before .before .loop .a) _ (c .before .before .loop-test .taken) (c .before .are-symbols .ensures) (c .if2 .taken))
+    (λ c.
+    let p = c .before .before .before .before .before .before .pre in
+    part-false _ _ _ _ _ _ _ (p .0 .unit-pos) (p .1) (c .before .before .before .loop .a) _ (c .before .before .loop-test .taken)
+    (c .before .are-symbols .ensures) (c .if2 .taken))
     (λ c. omega arith)
     (λ c. omega arith)
     (λ c. (omega arith, below-more _ _ (c .before .before .before .loop .inv .1) (told-true (c .before .are-symbols .ensures) (c .if2 .left))))

@@ -16,7 +16,8 @@ abbrev μ-loop : tie.MeasureT-loop
 
 -- the tray of the turn
 inside : (c : tie.In-loop Inv-loop μ-loop) → let a = c .before .before .before .before .args in a .at + c .before .loop .g * a .far + a .far ≤ length (a .symbols .now)
-inside c = let a = c .before .before .before .before .args in tray-in (a .s) (a .run) (a .count) (a .symbols .now) (a .at) (a .far) (a .m) (a .sums .now) (c .before .before .before .before .pre) (c .before .loop .g) (c .loop-test .taken)
+inside c = let a = c .before .before .before .before .args in tray-in (a .s) (a .run) (a .count) (a .symbols .now) (a .at) (a .far) (a .m) (a .sums .now)
+    (c .before .before .before .before .pre) (c .before .loop .g) (c .loop-test .taken)
 
 pub add-each-spec : {M : Type 1} → statement M
 add-each-spec =

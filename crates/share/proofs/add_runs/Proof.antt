@@ -21,7 +21,8 @@ record Lies (s run q at : ℕ) (symbols sums : List ℕ) : Type 0 where
   in-tray : at + q * s * run + run ≤ length symbols
   number : q * s ≤ length symbols
 
-lies : (c : tie.After-add-grid-arg Inv-loop μ-loop) → let a = c .before .before .before .before .before .args in Lies (a .s) (a .run) (c .before .before .loop .q) (a .at) (a .symbols .now) (a .sums .now)
+lies : (c : tie.After-add-grid-arg Inv-loop μ-loop) → let a = c .before .before .before .before .before .args in Lies (a .s) (a .run) (c .before .before .loop .q)
+    (a .at) (a .symbols .now) (a .sums .now)
 lies c =
     let a = c .before .before .before .before .before .args in
     let p = c .before .before .before .before .before .pre in

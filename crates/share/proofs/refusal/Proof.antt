@@ -23,7 +23,8 @@ facts c = admissible-facts (gf256 .order) _ (adm c) .cabinet
 rack-long : (c : tie.Else2) → c .before .before .before .before .args .given ≡ c .before .before .before .before .args .lent * layers (c .before .before .before .before .args .l)
 rack-long c = c .if2 .left ∙ ap (λ n. c .before .before .before .before .args .lent * n) (c .before .layer-count .ensures)
 
-room-long : (c : tie.Else3) → c .before .before .before .before .before .before .args .room ≡ c .before .before .before .before .before .before .args .count * groups (c .before .before .before .before .before .before .args .l)
+room-long : (c : tie.Else3) → c .before .before .before .before .before .before .args .room ≡ c .before .before .before .before .before .before .args .count * groups
+    (c .before .before .before .before .before .before .args .l)
 room-long c = c .if3 .left ∙ ap (λ n. c .before .before .before .before .before .before .args .count * n) (c .before .group-count .ensures)
 
 pub refusal-spec : {M : Type 1} → statement M
@@ -48,7 +49,11 @@ refusal-spec =
     (λ c. ground-2 _ _ _ _ _ _ _ _ _ (adm (c .before .before .before .before)) (λ g r. c .if3 .taken (r ∙ ap (λ n. c .before .before .before .before .before .before .args .count * n)
     (sym (c .before .group-count .ensures)))))
     (λ c. ground-3 _ _ _ _ _ _ _ _ _ (adm (c .before .before .before .before .before)) (rack-long (c .before .before .before)) (room-long (c .before)) (λ p q. omega arith))
-    (λ c. ground-3 _ _ _ _ _ _ _ _ _ (adm (c .before .before .before .before .before .before)) (rack-long (c .before .before .before .before)) (room-long (c .before .before)) (λ p q. omega arith))
+    (λ c.
+    let c1 = c .before .before in
+    let c2 = c1 .before .before in
+    let c3 = c2 .before .before in
+    ground-3 _ _ _ _ _ _ _ _ _ (adm c3) (rack-long c2) (room-long c1) (λ p q. omega arith))
     (λ c κs. search needs)
     (λ c. ground-3-symbols _ _ _ _ _ _ _ _ _ (adm (c .before .before .before .before .before .before .before .before)) (rack-long (c .before .before .before .before .before .before))
     (room-long (c .before .before .before .before)) (omega arith) (omega arith) (told-false (c .before .looked .ensures) (c .if6 .taken)))

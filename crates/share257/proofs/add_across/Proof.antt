@@ -20,9 +20,15 @@ add-across-spec =
     (λ c. (omega arith, digits-none working _ _ _ _ _ _))
     (λ c κs.
     let a = c .before .before .before .before .before .args in
-    in-tray (a .s) (a .run) (a .count) (c .before .before .loop .a) (a .symbols .now) (a .at) (a .sums .now) (c .before .before .loop .sums) (c .before .before .before .before .before .pre) (c .before .before .loop .inv .1 .same) (c .before .loop-test .taken))
+    in-tray (a .s) (a .run) (a .count) (c .before .before .loop .a) (a .symbols .now) (a .at) (a .sums .now) (c .before .before .loop .sums) (c .before .before .before .before .before .pre)
+    (c .before .before .loop .inv .1 .same) (c .before .loop-test .taken))
     (λ c. omega arith)
     (λ c. omega arith)
-    (λ c. let a = c .before .before .before .before .before .before .before .before .args in (omega arith, digits-more working (a .s) (a .run) (a .count) (a .symbols .now) (a .at) (a .sums .now) (c .before .before .before .before .before .loop .a) (c .before .before .before .before .before .loop .sums) _ (c .before .before .before .before .before .loop .inv .1) (c .before .before .add-digit .ensures)))
+    (λ c. let a = c .before .before .before .before .before .before .before .before .args in (
+      omega arith,
+      digits-more working (a .s) (a .run) (a .count) (a .symbols .now) (a .at)
+          (a .sums .now) (c .before .before .before .before .before .loop .a) (c .before .before .before .before .before .loop .sums) _
+          (c .before .before .before .before .before .loop .inv .1) (c .before .before .add-digit .ensures),
+    ))
     (λ c. c .before .loop .inv .1 .same)
     (λ c. search (digits-end working)))

@@ -17,7 +17,8 @@ abbrev μ-loop : tie.MeasureT-loop
 
 -- the tray of the turn
 inside : (c : tie.In-loop Inv-loop μ-loop) → let a = c .before .before .before .before .args in a .at + c .before .loop .g * a .far + a .far ≤ length (a .symbols .now)
-inside c = let a = c .before .before .before .before .args in tray-in (a .s) (a .run) (a .count) (a .symbols .now) (a .at) (a .far) (a .m) (a .sums .now) (c .before .before .before .before .pre) (c .before .loop .g) (c .loop-test .taken)
+inside c = let a = c .before .before .before .before .args in tray-in (a .s) (a .run) (a .count) (a .symbols .now) (a .at) (a .far) (a .m) (a .sums .now)
+    (c .before .before .before .before .pre) (c .before .loop .g) (c .loop-test .taken)
 
 pub add-each-spec : {M : Type 1} → statement M
 add-each-spec =
@@ -25,11 +26,16 @@ add-each-spec =
     (λ c. (omega arith, trays-none working _ _ _ _ _ _ _))
     (λ c. omega (arith, inside c))
     (λ c. omega (arith, inside c))
-    (λ c κs. let a = c .before .before .before .before .before .args in tray-of (a .s) (a .run) (a .count) (a .symbols .now) (a .at) (a .far) (a .m) (a .sums .now) (c .before .before .before .before .before .pre) (c .before .before .loop .g) _ (c .before .loop-test .taken) (c .before .before .loop .inv .1 .same))
+    (λ c κs. let a = c .before .before .before .before .before .args in tray-of (a .s) (a .run) (a .count) (a .symbols .now) (a .at) (a .far) (a .m) (a .sums .now)
+    (c .before .before .before .before .before .pre) (c .before .before .loop .g) _ (c .before .loop-test .taken) (c .before .before .loop .inv .1 .same))
     (λ c. omega arith)
     (λ c. omega arith)
     (λ c.
-    let a = c .before .before .before .before .before .before .before .before .args in
-    (omega arith, trays-more working (a .s) (a .run) (a .count) (a .symbols .now) (a .at) (a .far) (a .sums .now) (c .before .before .before .before .before .loop .g) (c .before .before .before .before .before .loop .sums) _ (c .before .before .before .before .before .before .before .before .pre .some-digits) (c .before .before .before .before .before .loop .inv .1) (c .before .before .add-across .ensures)))
+    let a = c .before .before .before .before .before .before .before .before .args in (
+      omega arith,
+      trays-more working (a .s) (a .run) (a .count) (a .symbols .now) (a .at) (a .far) (a .sums .now) (c .before .before .before .before .before .loop .g)
+          (c .before .before .before .before .before .loop .sums) _ (c .before .before .before .before .before .before .before .before .pre .some-digits)
+          (c .before .before .before .before .before .loop .inv .1) (c .before .before .add-across .ensures),
+    ))
     (λ c. c .before .loop .inv .1 .same)
     (λ c. search (trays-end working)))

@@ -28,7 +28,12 @@ place c =
     ap (λ n. a .at + n) (c .cell .ensures ∙ ap (λ n. c .before .before .loop .k * n + 0) (c .before .before .before .layer-count .ensures) ∙ add-zero _)
 
 inside : (c : tie.After-cell Inv-loop μ-loop) → let a = c .before .before .before .before .before .before .args in a .at + c .cell .result ≤ length (a .symbols .now)
-inside c = let a = c .before .before .before .before .before .before .args in omega (arith, place c, c .before .before .before .before .before .before .pre .0 .long, row-before (c .before .before .loop .k) (a .m) (layers (a .l)) (c .before .loop-test .taken))
+inside c = let a = c .before .before .before .before .before .before .args in omega (
+  arith,
+  place c,
+  c .before .before .before .before .before .before .pre .0 .long,
+  row-before (c .before .before .loop .k) (a .m) (layers (a .l)) (c .before .loop-test .taken),
+)
 
 pub add-rest-spec : {M : Type 1} → statement M
 add-rest-spec =
@@ -42,15 +47,26 @@ add-rest-spec =
     let e = c .before .before .layer-count .ensures in
     (omega (arith, a .layers-high), omega (arith, p .at-once), omega (arith, b .layers-low)))
     (λ c. omega (arith, inside c))
-    (λ c. let b = bounds _ (c .before .before .before .before .before .before .pre .0 .adm .cabinet) in omega (arith, c .before .before .before .before .before .before .pre .2, c .before .loop-test .taken, c .before .before .before .before .before .before .pre .0 .adm .cabinet .trays-high))
+    (λ c.
+    let c1 = c .before in
+    let c2 = c1 .before .before .before .before .before in
+    let b = bounds _ (c2 .pre .0 .adm .cabinet) in omega (arith, c2 .pre .2, c1 .loop-test .taken, c2 .pre .0 .adm .cabinet .trays-high))
     (λ c κs.
     let a = c .before .before .before .before .before .before .before .args in
-    let d = c .before .before .before .loop .inv .1 in
-    (feeding-one gf257 (a .l) (a .count) (a .h) (a .symbols .now) (a .at) (a .m) (a .shares .now) (c .before .before .before .before .before .before .before .pre .0) (c .before .before .before .loop .k) _ _ (c .before .before .loop-test .taken) (place (c .before)) (d .same) (d .range), c .before .before .before .before .before .before .before .pre .1))
+    let d = c .before .before .before .loop .inv .1 in (
+      feeding-one gf257 (a .l) (a .count) (a .h) (a .symbols .now) (a .at) (a .m) (a .shares .now) (c .before .before .before .before .before .before .before .pre .0)
+          (c .before .before .before .loop .k) _ _ (c .before .before .loop-test .taken) (place (c .before)) (d .same)
+          (d .range),
+      c .before .before .before .before .before .before .before .pre .1,
+    ))
     (λ c. omega arith)
     (λ c. omega arith)
     (λ c.
-    let a = c .before .before .before .before .before .before .before .before .before .before .args in
-    (omega arith, rested-more working (a .l) (a .count) (a .h) (a .x) (a .symbols .now) (a .at) (a .shares .now) (c .before .before .before .before .before .before .loop .k) _ _ (c .before .before .before .before .before .before .loop .shares) _ (c .before .before .before .before .before .before .before .before .before .before .pre .0 .room) (place (c .before .before .before .before)) refl (c .before .before .before .before .before .before .loop .inv .1) (c .before .before .add-later .ensures)))
+    let a = c .before .before .before .before .before .before .before .before .before .before .args in (
+      omega arith,
+      rested-more working (a .l) (a .count) (a .h) (a .x) (a .symbols .now) (a .at) (a .shares .now) (c .before .before .before .before .before .before .loop .k) _ _
+          (c .before .before .before .before .before .before .loop .shares) _ (c .before .before .before .before .before .before .before .before .before .before .pre .0 .room)
+          (place (c .before .before .before .before)) refl (c .before .before .before .before .before .before .loop .inv .1) (c .before .before .add-later .ensures),
+    ))
     (λ c. c .before .loop .inv .1 .same)
     (λ c. search (rested-end working)))

@@ -22,7 +22,8 @@ record Lies (s run q at : ℕ) (symbols sums : List ℕ) : Type 0 where
   in-tray : at + q * s * run + run ≤ length symbols
   number : q * s ≤ length symbols
 
-lies : (c : tie.After-add-grid-arg Inv-loop μ-loop) → let a = c .before .before .before .before .before .args in Lies (a .s) (a .run) (c .before .before .loop .q) (a .at) (a .symbols .now) (a .sums .now)
+lies : (c : tie.After-add-grid-arg Inv-loop μ-loop) → let a = c .before .before .before .before .before .args in Lies (a .s) (a .run) (c .before .before .loop .q)
+    (a .at) (a .symbols .now) (a .sums .now)
 lies c =
     let a = c .before .before .before .before .before .args in
     let p = c .before .before .before .before .before .pre in
@@ -45,7 +46,8 @@ add-runs-spec =
     (λ c κs.
     let a = c .before .before .before .before .before .args in
     let d = c .before .before .loop .inv .1 in
-    gridding (a .s) (a .run) (a .count) (a .symbols .now) (a .at) (a .far) (a .m) (a .sums .now) (c .before .before .before .before .before .pre) (c .before .before .loop .q) _ (c .before .loop-test .taken) (d .same) (d .rest))
+    gridding (a .s) (a .run) (a .count) (a .symbols .now) (a .at) (a .far) (a .m) (a .sums .now) (c .before .before .before .before .before .pre) (c .before .before .loop .q) _
+    (c .before .loop-test .taken) (d .same) (d .rest))
     (λ c. omega arith)
     (λ c. omega arith)
     (λ c. (omega arith, search (runs-more working)))

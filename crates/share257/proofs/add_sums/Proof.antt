@@ -29,7 +29,8 @@ add-sums-spec =
     (λ c.
     let a = c .before .before .before .before .before .before .before .args in
     let p = c .before .before .before .before .before .before .before .pre in
-    summed (a .l) (a .h) (a .r .digits) (a .r .length) (a .r .count) (p .0 .adm .cabinet) (p .0 .host-in) (p .1) working (p .0 .adm) _ (a .symbols .now) (a .at) (a .m) (a .sums .now) _ refl (p .0 .some-trays) (c .before .before .add-each .ensures))
+    summed (a .l) (a .h) (a .r .digits) (a .r .length) (a .r .count) (p .0 .adm .cabinet) (p .0 .host-in) (p .1) working (p .0 .adm) _ (a .symbols .now) (a .at) (a .m)
+    (a .sums .now) _ refl (p .0 .some-trays) (c .before .before .add-each .ensures))
     (λ c κs.
     let a = c .before .before .before .before .args in
     let p = c .before .before .before .before .pre in
@@ -38,4 +39,5 @@ add-sums-spec =
     (λ c.
     let a = c .before .before .before .before .before .before .before .args in
     let p = c .before .before .before .before .before .before .before .pre in
-    summed (a .l) (a .h) (a .r .digits) (a .r .length) (a .r .count) (p .0 .adm .cabinet) (p .0 .host-in) (p .1) working (p .0 .adm) _ (a .symbols .now) (a .at) (a .m) (a .sums .now) _ refl (p .0 .some-trays) (c .before .before .add-long .ensures)))
+    summed (a .l) (a .h) (a .r .digits) (a .r .length) (a .r .count) (p .0 .adm .cabinet) (p .0 .host-in) (p .1) working (p .0 .adm) _ (a .symbols .now) (a .at) (a .m)
+    (a .sums .now) _ refl (p .0 .some-trays) (c .before .before .add-long .ensures)))

@@ -44,7 +44,9 @@ add-weighted-spec =
     (λ c κs.
     let a = c .before .before .before .before .before .before .before .before .args in
     let p = c .before .before .before .before .before .before .before .before .pre in (
-      weight-in (a .l) (a .count) (c .before .before .before .before .loop .m) _ _ (a .sums .now) (a .shares .now) (c .before .before .before .before .loop .shares) p (c .before .before .before .before .before .group-count .ensures) (c .before .cell .ensures) (c .before .before .before .loop-test .taken) (c .before .before .before .before .loop .inv .2),
+      weight-in (a .l) (a .count) (c .before .before .before .before .loop .m) _ _ (a .sums .now) (a .shares .now)
+          (c .before .before .before .before .loop .shares) p (c .before .before .before .before .before .group-count .ensures) (c .before .cell .ensures)
+          (c .before .before .before .loop-test .taken) (c .before .before .before .before .loop .inv .2),
       omega (arith, p .long, c .before .before .before .before .before .group-count .ensures),
     ))
     (λ c. omega arith)
@@ -54,9 +56,14 @@ add-weighted-spec =
       omega arith,
       omega arith,
       c .before .before .add-multiple .ensures .long ∙ c .before .before .before .before .before .before .before .loop .inv .2,
-      λ h symbols e. added-more working (a .l) h (a .x) (c .before .before .before .before .before .before .before .loop .m) _ _ _ symbols (a .shares .now) (a .sums .now) (c .before .before .before .before .before .before .before .loop .shares) _ (c .before .before .before .before .before .before .before .loop .inv .0) (c .before .before .before .before .before .before .before .before .group-count .ensures) (c .before .before .before .before .cell .ensures) (c .before .before .before .before .before .place-power .ensures) e (c .before .before .add-multiple .ensures) (c .before .before .before .before .before .before .before .loop .inv .3 h symbols e),
+      λ h symbols e. added-more working (a .l) h (a .x) (c .before .before .before .before .before .before .before .loop .m) _ _ _ symbols (a .shares .now) (a .sums .now)
+          (c .before .before .before .before .before .before .before .loop .shares) _ (c .before .before .before .before .before .before .before .loop .inv .0)
+          (c .before .before .before .before .before .before .before .before .group-count .ensures) (c .before .before .before .before .cell .ensures)
+          (c .before .before .before .before .before .place-power .ensures) e (c .before .before .add-multiple .ensures)
+          (c .before .before .before .before .before .before .before .loop .inv .3 h symbols e),
     ))
     (λ c. c .before .loop .inv .2)
     (λ c h symbols e.
     let a = c .before .before .before .before .before .args in
-    added-end working (a .l) h (a .x) (c .before .loop .m) (a .count) symbols (a .shares .now) (c .before .loop .shares) (c .before .loop .inv .3 h symbols e) (c .before .loop .inv .1) (omega arith)))
+    added-end working (a .l) h (a .x) (c .before .loop .m) (a .count) symbols (a .shares .now) (c .before .loop .shares) (c .before .loop .inv .3 h symbols e) (c .before .loop .inv .1)
+    (omega arith)))

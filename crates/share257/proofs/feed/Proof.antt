@@ -27,4 +27,5 @@ feed-spec =
     (λ c.
     let a = c .before .before .before .before .before .before .before .before .before .before .before .args in
     let p = c .before .before .before .before .before .before .before .before .before .before .before .pre in
-    fed-more working (a .l) (a .count) (a .h) (a .x) (a .symbols .now) (a .at) (a .shares .now) (a .m) (p .0 .room) _ (c .before .before .before .before .before .before .before .add-sums .ensures) _ (c .before .before .add-rest .ensures)))
+    fed-more working (a .l) (a .count) (a .h) (a .x) (a .symbols .now) (a .at) (a .shares .now) (a .m) (p .0 .room) _
+    (c .before .before .before .before .before .before .before .add-sums .ensures) _ (c .before .before .add-rest .ensures)))

@@ -51,8 +51,10 @@ gather-spec =
     omega (arith, cell-in _ _ _ _ (p .helper-in) (c .before .loop-test .taken)))
     (λ c. search needs)
     (λ c.
-    let a = c .before .before .before .before .before .before .before .before .before .before .args in
-    omega (arith, start c, c .before .before .before .before .before .before .before .before .before .before .pre .long, row-before (c .before .before .loop .g) (a .l .size) (layers (a .l)) (c .before .loop-test .taken)))
+    let c1 = c .before in
+    let c2 = c1 .before in
+    let c3 = c2 .before .before .before .before .before .before .before .before in
+    let a = c3 .args in omega (arith, start c, c3 .pre .long, row-before (c2 .loop .g) (a .l .size) (layers (a .l)) (c1 .loop-test .taken)))
     (λ c κs.
     let a = c .before .before .before .before .before .before .before .before .before .before .before .args in
     let p = c .before .before .before .before .before .before .before .before .before .before .before .pre in
@@ -69,11 +71,15 @@ gather-spec =
     omega (arith, m .1, c .before .before .before .before .before .loop-test .taken, b .size-high))
     (λ c. let m = c .before .before .before .before .at-once .ensures in omega (arith, m .0, m .1, c .before .before .before .before .before .loop-test .taken))
     (λ c.
-    let a = c .before .before .before .before .before .before .before .before .before .before .before .before .before .before .args in
-    let m = c .before .before .before .before .at-once .ensures in (
-      omega (arith, m .1, c .before .before .before .before .before .loop-test .taken),
-      gather-turn working (a .l) (a .count) (a .h) (a .helper) (a .rack .now) (c .before .before .before .before .before .before .loop .g) _ _ _
-          (c .before .before .before .before .before .before .loop .out) _ (start (c .before .before .before .before)) refl (c .before .before .before .before .before .before .loop .inv .1) (c .before .before .feed .ensures),
+    let c1 = c .before .before in
+    let c2 = c1 .before .before in
+    let c3 = c2 .before in
+    let c4 = c3 .before in
+    let c5 = c4 .before .before .before .before .before .before .before .before in
+    let a = c5 .args in let m = c2 .at-once .ensures in (
+      omega (arith, m .1, c3 .loop-test .taken),
+      gather-turn working (a .l) (a .count) (a .h) (a .helper)
+          (a .rack .now) (c4 .loop .g) _ _ _ (c4 .loop .out) _ (start c2) refl (c4 .loop .inv .1) (c1 .feed .ensures),
     ))
     (λ c. ap length (c .before .loop .inv .1) ∙ partly-long gf257 (working .field) _ _ _ _ _ _ ∙ sym (c .before .before .before .before .before .before .before .before .before .pre .room))
     (λ c. c .before .loop .inv .1 ∙ partly-all gf257 (working .field) _ _ _ _ _ _ (omega arith)))

@@ -24,7 +24,8 @@ facts c = admissible-facts (gf257 .order) _ (adm c) .cabinet
 rack-long : (c : tie.Else2) → c .before .before .before .before .args .given ≡ c .before .before .before .before .args .lent * layers (c .before .before .before .before .args .l)
 rack-long c = c .if2 .left ∙ ap (λ n. c .before .before .before .before .args .lent * n) (c .before .layer-count .ensures)
 
-room-long : (c : tie.Else3) → c .before .before .before .before .before .before .args .room ≡ c .before .before .before .before .before .before .args .count * groups (c .before .before .before .before .before .before .args .l)
+room-long : (c : tie.Else3) → c .before .before .before .before .before .before .args .room ≡ c .before .before .before .before .before .before .args .count * groups
+    (c .before .before .before .before .before .before .args .l)
 room-long c = c .if3 .left ∙ ap (λ n. c .before .before .before .before .before .before .args .count * n) (c .before .group-count .ensures)
 
 pub refusal-spec : {M : Type 1} → statement M
@@ -46,14 +47,28 @@ refusal-spec =
     let b = bounds _ (facts (c .before .before .before)) in
     let e = c .group-count .ensures in
     record { fits = mul-below 4294967295 layerLimit (omega arith) (omega (arith, b .groups-high)) tt })
-    (λ c. ground-2 _ _ _ _ _ _ _ _ _ (adm (c .before .before .before .before)) (λ g r. c .if3 .taken (r ∙ ap (λ n. c .before .before .before .before .before .before .args .count * n) (sym (c .before .group-count .ensures)))))
+    (λ c. ground-2 _ _ _ _ _ _ _ _ _ (adm (c .before .before .before .before)) (λ g r. c .if3 .taken (r ∙ ap (λ n. c .before .before .before .before .before .before .args .count * n)
+    (sym (c .before .group-count .ensures)))))
     (λ c. ground-3 _ _ _ _ _ _ _ _ _ (adm (c .before .before .before .before .before)) (rack-long (c .before .before .before)) (room-long (c .before)) (λ p q. omega arith))
-    (λ c. ground-3 _ _ _ _ _ _ _ _ _ (adm (c .before .before .before .before .before .before)) (rack-long (c .before .before .before .before)) (room-long (c .before .before)) (λ p q. omega arith))
+    (λ c.
+    let c1 = c .before .before in
+    let c2 = c1 .before .before in
+    let c3 = c2 .before .before in
+    ground-3 _ _ _ _ _ _ _ _ _ (adm c3) (rack-long c2) (room-long c1) (λ p q. omega arith))
     (λ c κs. search needs)
-    (λ c. ground-3-symbols _ _ _ _ _ _ _ _ _ (adm (c .before .before .before .before .before .before .before .before)) (rack-long (c .before .before .before .before .before .before)) (room-long (c .before .before .before .before)) (omega arith) (omega arith) (told-false (c .before .looked .ensures) (c .if6 .taken)))
+    (λ c. ground-3-symbols _ _ _ _ _ _ _ _ _ (adm (c .before .before .before .before .before .before .before .before)) (rack-long (c .before .before .before .before .before .before))
+    (room-long (c .before .before .before .before)) (omega arith) (omega arith) (told-false (c .before .looked .ensures) (c .if6 .taken)))
     (λ c κs. facts (c .before .before .before .before .before .before .before .before))
-    (λ c. ground-12 _ _ _ _ _ _ _ _ _ (adm (c .before .before .before .before .before .before .before .before .before .before)) (rack-long (c .before .before .before .before .before .before .before .before)) (room-long (c .before .before .before .before .before .before)) (omega arith) (omega arith) (told-true (c .before .before .before .looked .ensures) (c .before .before .if6 .left)) (told-false (c .before .lost-count-fits .ensures) (c .if7 .taken)))
+    (λ c. ground-12 _ _ _ _ _ _ _ _ _ (adm (c .before .before .before .before .before .before .before .before .before .before))
+    (rack-long (c .before .before .before .before .before .before .before .before)) (room-long (c .before .before .before .before .before .before)) (omega arith) (omega arith)
+    (told-true (c .before .before .before .looked .ensures) (c .before .before .if6 .left)) (told-false (c .before .lost-count-fits .ensures) (c .if7 .taken)))
     (λ c.
-    ground-6 _ _ _ _ _ _ _ _ _ (adm (c .before .before .before .before .before .before .before .before .before .before .before)) (rack-long (c .before .before .before .before .before .before .before .before .before)) (room-long (c .before .before .before .before .before .before .before)) (omega arith) (omega arith) (told-true (c .before .before .before .before .looked .ensures) (c .before .before .before .if6 .left)) (told-true (c .before .before .lost-count-fits .ensures) (c .before .if7 .left)) (c .if8 .taken))
+    ground-6 _ _ _ _ _ _ _ _ _ (adm (c .before .before .before .before .before .before .before .before .before .before .before))
+    (rack-long (c .before .before .before .before .before .before .before .before .before)) (room-long (c .before .before .before .before .before .before .before)) (omega arith)
+    (omega arith) (told-true (c .before .before .before .before .looked .ensures) (c .before .before .before .if6 .left)) (told-true (c .before .before .lost-count-fits .ensures)
+    (c .before .if7 .left)) (c .if8 .taken))
     (λ c.
-    ground-0 _ _ _ _ _ _ _ _ _ (adm (c .before .before .before .before .before .before .before .before .before .before .before)) (rack-long (c .before .before .before .before .before .before .before .before .before)) (room-long (c .before .before .before .before .before .before .before)) (omega arith) (omega arith) (told-true (c .before .before .before .before .looked .ensures) (c .before .before .before .if6 .left)) (told-true (c .before .before .lost-count-fits .ensures) (c .before .if7 .left)) (c .if8 .left)))
+    ground-0 _ _ _ _ _ _ _ _ _ (adm (c .before .before .before .before .before .before .before .before .before .before .before))
+    (rack-long (c .before .before .before .before .before .before .before .before .before)) (room-long (c .before .before .before .before .before .before .before)) (omega arith)
+    (omega arith) (told-true (c .before .before .before .before .looked .ensures) (c .before .before .before .if6 .left)) (told-true (c .before .before .lost-count-fits .ensures)
+    (c .before .if7 .left)) (c .if8 .left)))

@@ -24,8 +24,10 @@ abbrev μ-layers : tie.MeasureT-layers
 μ-layers sums w r j₀ t₀ j t = w - j
 
 -- the place read in a turn
-inside : (c : tie.In-loop Inv-loop μ-loop Inv-layers μ-layers) → let a = c .before .before .before .before .before .args in c .before .loop .t * a .w + c .before .before .before .layers .j < length (a .sums .now)
-inside c = let a = c .before .before .before .before .before .args in sum-in (a .sums .now) (a .w) (a .r) (c .before .loop .t) (c .before .before .before .layers .j) (c .before .before .before .before .before .pre) (c .loop-test .taken) (c .before .before .layers-test .taken)
+inside : (c : tie.In-loop Inv-loop μ-loop Inv-layers μ-layers) → let a = c .before .before .before .before .before .args in c .before .loop .t * a .w +
+    c .before .before .before .layers .j < length (a .sums .now)
+inside c = let a = c .before .before .before .before .before .args in sum-in (a .sums .now) (a .w) (a .r) (c .before .loop .t) (c .before .before .before .layers .j)
+    (c .before .before .before .before .before .pre) (c .loop-test .taken) (c .before .before .layers-test .taken)
 
 pub first-in-spec : {M : Type 1} → statement M
 first-in-spec =

@@ -13,5 +13,8 @@ scan-spec =
     (λ c. search needs)
     (λ c. search needs)
     (λ c. search needs)
-    (λ c κs. let s = c .before .before .before .before .before .before in let d = c .before .before .before .before .block-digits in (d .ensures .0, s .pre, refl, room (s .args .l) (d .result) (d .ensures .1) (d .ensures .2)))
+    (λ c κs.
+    let c1 = c .before .before .before .before in
+    let c2 = c1 .before .before in
+    let s = c2 in let d = c1 .block-digits in (d .ensures .0, s .pre, refl, room (s .args .l) (d .result) (d .ensures .1) (d .ensures .2)))
     (λ c. search needs))

@@ -10,7 +10,8 @@ use Rattle.testing.proofs.scan_blocks.Statement.{statement}
 use Rattle.testing.proofs.scan_blocks.Tie as tie
 
 abbrev Inv-loop : tie.InvT-loop
-Inv-loop l total e c none sums₀ cur₀ row₀ r w count q₀ sums cur row q = (q ≤ count) × (length sums ≡ length sums₀) × (length cur ≡ length cur₀) × (length row ≡ length row₀) × SoundTo working l c (q * w)
+Inv-loop l total e c none sums₀ cur₀ row₀ r w count q₀ sums cur row q = (q ≤ count) × (length sums ≡ length sums₀) × (length cur ≡ length cur₀)
+    × (length row ≡ length row₀) × SoundTo working l c (q * w)
 
 abbrev μ-loop : tie.MeasureT-loop
 μ-loop l total e c none sums₀ cur₀ row₀ r w count q₀ sums cur row q = count - q

@@ -42,5 +42,9 @@ test-spec =
     (λ c. (refused-3 _ _ _ (adm (c .before .before .before .before .before)) (long (c .before .before)) (whole-false _ _ _ (c .before .are-symbols .ensures) (c .if3 .taken)), lit< tt))
     (λ c κs. record { adm = facts (c .before .before .before .before .before); total-is = c .before .before .before .before .layer-count .ensures; long = long (c .before .before) })
     (λ c.
-    let t = whole-true gf256 _ _ (c .before .before .are-symbols .ensures) (c .before .if3 .left) in
-    tested gf256 _ _ (c .scan .result) (not-refused _ _ _ (adm (c .before .before .before .before .before .before)) (long (c .before .before .before)) t) (long (c .before .before .before)) (whole-range gf256 _ t) (c .scan .ensures)))
+    let c1 = c .before in
+    let c2 = c1 .before in
+    let c3 = c2 .before in
+    let c4 = c3 .before .before .before in
+    let t = whole-true gf256 _ _ (c2 .are-symbols .ensures) (c1 .if3 .left) in tested gf256 _ _ (c .scan .result) (not-refused _ _ _ (adm c4) (long c3) t) (long c3)
+    (whole-range gf256 _ t) (c .scan .ensures)))

@@ -20,4 +20,5 @@ gesarumbo257-scrub-reset-in-place-spec 𝓤 H 𝓜 𝓖 𝓡 =
     entered 𝓤 H (tripleOf 𝓤 H (𝓖 .A) f.signature (f.spec 𝓤 H (𝓖 .A) (𝓜 .mem) (𝓡 .run)))
     (tables 𝓤 H 𝓜 𝓡 code.env .C) (tables 𝓤 H 𝓜 𝓡 code.env .Λ) key.name code.function (code.unfolded 𝓤 H 𝓜 𝓡)
     (reset-in-place by-value.name (begun (gf257 .order)) 𝓤 H (𝓖 .A) (givenOf 𝓤 H 𝓜 𝓖) (tablesOf 𝓤 H 𝓜 (tables 𝓤 H 𝓜 𝓡 code.env))
-    (cited 𝓤 H (Handed by-value.name (begun (gf257 .order)) 𝓤 H (𝓖 .A)) 𝓜 𝓡 code.env by-value.name by-value.routine code.calls-gesarumbo·field257·gesarumbo257-scrub-reset (by-value-met.met 𝓤 H 𝓜 𝓖 𝓡)))
+    (cited 𝓤 H (Handed by-value.name (begun (gf257 .order)) 𝓤 H (𝓖 .A))
+    𝓜 𝓡 code.env by-value.name by-value.routine code.calls-gesarumbo·field257·gesarumbo257-scrub-reset (by-value-met.met 𝓤 H 𝓜 𝓖 𝓡)))

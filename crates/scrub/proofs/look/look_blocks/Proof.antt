@@ -27,16 +27,17 @@ look-blocks-spec =
     (λ c κs. let a = c .before .before .before .before .before .before .before .before .pre .0 .scannable .adm in (a, omega arith, c .before .loop .inv .0 .room, omega arith))
     (λ c. search needs)
     (λ c κs.
-    let s = c .before .before .before .before .before .before .before .before .before .before .before .before in
-    let o = c .before .before .before .before .before .loop in
-    let b = c .before .before .before .block-at in (
+    let c1 = c .before .before .before in
+    let c2 = c1 .before .before in
+    let c3 = c2 .before in
+    let c4 = c3 .before .before .before .before .before .before in
+    let s = c4 in let o = c2 .loop in let b = c1 .block-at in (
       b .ensures .0,
       o .inv .0 .bad-in,
       s .pre .0 .scannable .long,
       s .pre .1,
-      room-here (s .args .l) (o .seen .next) (o .left) (c .before .before .before .before .before .before .check-count .result)
-          (b .result) (s .args .sums .now) (s .args .cur .now) (s .args .row .now) (o .sums) (o .cur) (o .row) (c .before .before .before .before .before .before .check-count .ensures) (b .ensures .1)
-          (s .pre .2) (s .pre .3) (s .pre .4) (o .inv .2) (o .inv .3) (o .inv .4),
+      room-here (s .args .l) (o .seen .next) (o .left) (c3 .check-count .result) (b .result) (s .args .sums .now) (s .args .cur .now) (s .args .row .now) (o .sums)
+          (o .cur) (o .row) (c3 .check-count .ensures) (b .ensures .1) (s .pre .2) (s .pre .3) (s .pre .4) (o .inv .2) (o .inv .3) (o .inv .4),
     ))
     (λ c. c .before .before .before .before .before .before .before .before .before .before .block-at .ensures .1 .within)
     (λ c. let b = c .before .before .before .before .before .before .before .before .before .before .block-at .ensures in omega (arith, b .1 .within, b .2))
@@ -46,7 +47,8 @@ look-blocks-spec =
     let b = c .before .before .before .before .before .before .before .before .before .before .block-at in
     let k = c .before .before .before .before .before .before .look-block in
     let m = more gf256 (s .args .l) (s .args .total) (s .args .c .now) (s .args .walk) (s .args .count) (o .seen) (k .result) (o .seen .next) (o .left)
-    (c .before .before .before .before .before .before .before .before .before .before .before .before .before .check-count .result) (b .result) (b .ensures .1) (k .ensures) (o .inv .0) (o .inv .1) in
+    (c .before .before .before .before .before .before .before .before .before .before .before .before .before .check-count .result) (b .result) (b .ensures .1)
+    (k .ensures) (o .inv .0) (o .inv .1) in
     (m .0, m .1, search needs, search needs, search needs))
     (λ c. search needs)
     (λ c. search needs)
