@@ -29,7 +29,7 @@ use Rattle.card.proofs.Right.{agrees-right, right-agrees, ruled-carded}
 use Rattle.card.proofs.Grounds.{Passed, passed-all}
 use Rattle.multipliers.specs.Inner.{Grouped, Multipliers}
 use Rattle.cards.specs.Cards.{printGround, testGround, repairGround, PrintAnswer, Judged, TestAnswer, CardDone, CardRefused}
-use Rattle.cards.specs.Inner.{Verdict, Mendable}
+use Rattle.cards.specs.Inner.{Verdict, CardRepairing}
 use Rattle.cards.proofs.Compare.{agreeing-of, range-of}
 use Rattle.cards.proofs.Grounds.{grouped-of, Repairable, repairable-so, judged-earlier, judged-wrong, judged-right}
 
@@ -143,8 +143,8 @@ module _ {A : Type 0} {f : Field A} (W : Working f) (l : Layout) where
           right : Right f l n helpers group card
           right = right-of (made .adm) n helpers card group (made .help) (made .inside) r v h
 
-          pub mendable-of : Mendable f l n helpers card shares host group old
-          mendable-of = record {
+          pub card-repairing-of : CardRepairing f l n helpers card shares host group old
+          card-repairing-of = record {
             adm = made .adm;
             carding = record { adm = made .adm .admissible .cabinet; card-long = made .card-long; shares-long = made .shares-long; inside = made .inside };
             help = made .help;

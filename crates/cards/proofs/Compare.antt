@@ -17,7 +17,7 @@ use Rattle.algebra.specs.Coding.{Coding, InRange}
 use Rattle.algebra.specs.Shape.{Field}
 use Rattle.algebra.specs.Plain.{Working}
 use Rattle.algebra.proofs.Coding.{elem-same}
-use Rattle.kernel.specs.Runs.{Run, copied, cell}
+use Rattle.kernel.specs.Inner.{Run, copied, cell}
 use Rattle.layout.specs.declared.Layout.{Layout}
 use Rattle.layout.specs.Layout.{digits, parityRacks}
 use Rattle.layout.proofs.Numbers.{whole-low}

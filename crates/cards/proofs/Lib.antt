@@ -1,6 +1,6 @@
 pub mod Compare
 pub mod Grounds
-pub mod Mend
+pub mod Repair
 pub mod Answers
 pub mod Claims
 pub mod Mixed

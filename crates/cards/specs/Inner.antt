@@ -57,7 +57,7 @@ module _ {A : Type 0} (f : Field A) where
     pub at : (b : ℕ) → b < n → elem (getD sums b 0) ≡ ops .neg (cardSum f l card (sharedSymbol f l shares p) b)
 
   -- what a repair by card past its grounds is given
-  pub record Mendable (l : Layout) (x : ℕ) (helpers card shares host : List ℕ) (p : ℕ) (spare : List ℕ) : Type 0 where
+  pub record CardRepairing (l : Layout) (x : ℕ) (helpers card shares host : List ℕ) (p : ℕ) (spare : List ℕ) : Type 0 where
     pub adm : AdmissibleWith (f .order) 0 l
     pub carding : Carding l card shares p
     pub help : Helpers l x helpers

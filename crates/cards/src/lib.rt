@@ -23,7 +23,7 @@ ghost use Rattle.seen.specs.Seen.{pieceSymbols};
 ghost use Rattle.card.specs.Card.{cardSum};
 ghost use Rattle.multipliers.specs.Inner.{Grouped, Multipliers};
 ghost use Rattle.cards.specs.Cards.{printGround, testGround, repairGround, PrintAnswer, TestAnswer, CardAnswer};
-ghost use Rattle.cards.specs.Inner.{sameNumbers, Looking, Carding, Verdict, SumsBelow, Mendable};
+ghost use Rattle.cards.specs.Inner.{sameNumbers, Looking, Carding, Verdict, SumsBelow, CardRepairing};
 
 // Whether the first len numbers of two buffers are the same.
 fn alike(a: &[u8], b: &[u8], len: usize) -> bool
@@ -212,7 +212,7 @@ fn card_sums(sums: &mut [u8], l: Layout, card: &[u8], shares: &[u8], p: u32)
 }
 
 // Repairs a group by the card.
-fn mend_by_card(
+fn repair_by_card(
     l: Layout,
     x: u32,
     helpers: &[u32],
@@ -222,7 +222,7 @@ fn mend_by_card(
     p: u32,
     spare: &mut [u8],
 )
-    requires { ⌜ Mendable gf256 l x (now helpers) (now card) (now shares) (now host) p (now spare) ⌝ }
+    requires { ⌜ CardRepairing gf256 l x (now helpers) (now card) (now shares) (now host) p (now spare) ⌝ }
     ensures { λ _. ⌜ Piece gf256 l (x ∷ []) (now (helpers .entry)) (now (shares .entry)) (now (host .entry)) p 1 (now (spare .entry)) (now (spare .exit)) ⌝ }
 {
     let u = l.size;
@@ -237,7 +237,7 @@ fn mend_by_card(
     let mut table = [0u8; SIZE];
     kernel::inverses(&mut table);
     card_sums(&mut sums, l, card, shares, p);
-    group::mend_block(
+    group::repair_block(
         l,
         x / u,
         &lost,
@@ -279,7 +279,7 @@ pub fn card_repair(
     if !right_card(l, x / u, group as u32, helpers, card) {
         return Repaired::Refused(15);
     }
-    mend_by_card(l, x, helpers, card, shares, host, group as u32, spare);
+    repair_by_card(l, x, helpers, card, shares, host, group as u32, spare);
     Repaired::Done {
         groups: 1,
         crossed: d,

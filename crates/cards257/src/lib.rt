@@ -24,7 +24,7 @@ ghost use Rattle.seen.specs.Seen.{pieceSymbols};
 ghost use Rattle.card.specs.Card.{cardSum};
 ghost use Rattle.multipliers.specs.Inner.{Grouped, Multipliers};
 ghost use Rattle.cards.specs.Cards.{printGround, testGround, repairGround, PrintAnswer, TestAnswer, CardAnswer};
-ghost use Rattle.cards.specs.Inner.{sameNumbers, Looking, Carding, Verdict, SumsBelow, Mendable};
+ghost use Rattle.cards.specs.Inner.{sameNumbers, Looking, Carding, Verdict, SumsBelow, CardRepairing};
 
 // Whether the first len numbers of two buffers are the same.
 fn alike(a: &[u16], b: &[u16], len: usize) -> bool
@@ -216,7 +216,7 @@ fn card_sums(sums: &mut [u16], l: Layout, card: &[u16], shares: &[u16], p: u32)
 }
 
 // Repairs a group by the card.
-fn mend_by_card(
+fn repair_by_card(
     l: Layout,
     x: u32,
     helpers: &[u32],
@@ -226,7 +226,7 @@ fn mend_by_card(
     p: u32,
     spare: &mut [u16],
 )
-    requires { ⌜ Mendable gf257 l x (now helpers) (now card) (now shares) (now host) p (now spare) ⌝ }
+    requires { ⌜ CardRepairing gf257 l x (now helpers) (now card) (now shares) (now host) p (now spare) ⌝ }
     ensures { λ _. ⌜ Piece gf257 l (x ∷ []) (now (helpers .entry)) (now (shares .entry)) (now (host .entry)) p 1 (now (spare .entry)) (now (spare .exit)) ⌝ }
 {
     let u = l.size;
@@ -241,7 +241,7 @@ fn mend_by_card(
     let mut table = [0u16; SIZE];
     kernel257::inverses(&mut table);
     card_sums(&mut sums, l, card, shares, p);
-    group257::mend_block(
+    group257::repair_block(
         l,
         x / u,
         &lost,
@@ -283,7 +283,7 @@ pub fn card_repair(
     if !right_card(l, x / u, group as u32, helpers, card) {
         return Repaired::Refused(15);
     }
-    mend_by_card(l, x, helpers, card, shares, host, group as u32, spare);
+    repair_by_card(l, x, helpers, card, shares, host, group as u32, spare);
     Repaired::Done {
         groups: 1,
         crossed: d,

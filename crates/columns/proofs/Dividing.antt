@@ -17,10 +17,10 @@ use Rattle.algebra.specs.Coding.{Coding}
 use Rattle.algebra.specs.Shape.{Field, FieldLaws}
 use Rattle.algebra.specs.Plain.{plus, minus, times, reduced, Working}
 use Rattle.algebra.proofs.Plain.{elem-one, elem-plus, elem-minus, elem-times, elem-reduced, reduced-below}
-use Rattle.kernel.specs.Runs.{cell, Run, Inverses, filled, parted, lookedUp}
+use Rattle.kernel.specs.Inner.{cell, Run, Inverses, filled, parted, lookedUp}
 use Rattle.kernel.proofs.Runs.{run-more}
 use Rattle.kernel.proofs.Rows.{row-before, row-in, cell-other}
-use Rattle.columns.specs.Columns.{column, differences, grown, locator, turned, Columns, Locator, Turned, Divisors, Quotient, divided, scaled, scaledBy, negated}
+use Rattle.columns.specs.Inner.{column, differences, grown, locator, turned, Columns, Locator, Turned, Divisors, Quotient, divided, scaled, scaledBy, negated}
 use Rattle.columns.proofs.Quotients.{quotient-step, quotient-top, turned-all, turned-first, turned-after, turned-round}
 
 -- ---- some rows written

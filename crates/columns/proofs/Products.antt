@@ -19,7 +19,7 @@ use Rattle.algebra.proofs.Lagrange.{basis-zero, basis-same, basis-other}
 use Rattle.algebra.proofs.Equal.{eqb-same, eqb-other}
 use Rattle.algebra.specs.Shape.{Field, FieldLaws}
 use Rattle.algebra.specs.Plain.{Working}
-use Rattle.columns.specs.Columns.{differences, grown}
+use Rattle.columns.specs.Inner.{differences, grown}
 
 module _ {A : Type 0} {f : Field A} (W : Working f) where
   open Field f using (ops)

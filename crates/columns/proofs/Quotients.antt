@@ -16,7 +16,7 @@ use Rattle.algebra.proofs.Ring.{ring, mul-one, mul-comm, mul-assoc}
 use Rattle.algebra.proofs.Poly.{coeff-head, coeff-linear-zero, coeff-linear-suc, coeff-scale, length-linear}
 use Rattle.algebra.specs.Shape.{Field, FieldLaws}
 use Rattle.algebra.specs.Plain.{Working}
-use Rattle.columns.specs.Columns.{differences, grown, locator, turned}
+use Rattle.columns.specs.Inner.{differences, grown, locator, turned}
 use Rattle.columns.proofs.Products.{coeff-past, differences-none, differences-same, differences-other, grown-none, grown-same, grown-other, grown-length, grown-neg, scale-grown}
 
 module _ {A : Type 0} {f : Field A} (W : Working f) where

@@ -23,12 +23,12 @@ use Rattle.algebra.proofs.Ring.{mul-neg, neg-mul, mul-assoc, mul-comm, zero-add
 use Rattle.algebra.proofs.Poly.{coeff-head}
 use Rattle.algebra.proofs.Lagrange.{basis-zero, basis-same}
 use Rattle.algebra.proofs.Plain.{elem-zero, elem-plus, elem-minus, elem-times, plus-below, minus-below, times-below, zero-below}
-use Rattle.kernel.specs.Runs.{cell, Run, filled, copied, repeated, addedProduct, addedMultiple}
+use Rattle.kernel.specs.Inner.{cell, Run, filled, copied, repeated, addedProduct, addedMultiple}
 use Rattle.kernel.proofs.Runs.{run-none, run-append}
 use Rattle.kernel.proofs.Rows.{row-end, row-before, row-in, row-other}
 use Rattle.planes.specs.Planes.{Summed, Rows as PlaneRows}
-use Rattle.columns.specs.Columns.{column, Columns, Divisors, Quotient, scaled, scaledBy, negated, weighted, stretched, widened, room, Places, Systems, Wholes}
-use Rattle.columns.specs.Columns.{Combined, Divided, RowSolved, Solved}
+use Rattle.columns.specs.Inner.{column, Columns, Divisors, Quotient, scaled, scaledBy, negated, weighted, stretched, widened, room, Places, Systems, Wholes}
+use Rattle.columns.specs.Inner.{Combined, Divided, RowSolved, Solved}
 use Rattle.columns.proofs.Quotients.{quotient-basis}
 use Rattle.columns.proofs.Dividing.{first-done}
 

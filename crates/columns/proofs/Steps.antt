@@ -18,9 +18,9 @@ use Rattle.algebra.specs.Coding.{Coding}
 use Rattle.algebra.specs.Shape.{Field, FieldLaws}
 use Rattle.algebra.specs.Plain.{minus, times, Working}
 use Rattle.algebra.proofs.Plain.{elem-zero, elem-one, elem-minus, elem-times}
-use Rattle.kernel.specs.Runs.{cell, Run, filled, copied, shifted}
+use Rattle.kernel.specs.Inner.{cell, Run, filled, copied, shifted}
 use Rattle.kernel.proofs.Rows.{row-end, row-before, row-in, zero-cell, cell-is, cell-other}
-use Rattle.columns.specs.Columns.{column, locator, Columns, Locator, Timed, carried, Timing}
+use Rattle.columns.specs.Inner.{column, locator, Columns, Locator, Timed, carried, Timing}
 use Rattle.columns.proofs.Products.{coeff-past}
 use Rattle.columns.proofs.Quotients.{locator-none, locator-suc, locator-length}
 

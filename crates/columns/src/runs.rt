@@ -5,8 +5,8 @@ use symbol::plain::sum;
 ghost use Prim.Native.Nat.{_+_, _≤_};
 ghost use lib.ListN.{length};
 ghost use Rattle.symbol.specs.Elem.{gf256};
-ghost use Rattle.kernel.specs.Runs.{Run};
-ghost use Rattle.columns.specs.Columns.{divided, scaled, scaledBy, negated};
+ghost use Rattle.kernel.specs.Inner.{Run};
+ghost use Rattle.columns.specs.Inner.{divided, scaled, scaledBy, negated};
 
 // A buffer's run, plus the run after the one written times another buffer's.
 pub fn divide(

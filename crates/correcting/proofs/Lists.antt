@@ -12,7 +12,7 @@ use lib.ListN.{length, getD, set}
 use lib.Seq.{getD-set-same, getD-set-other}
 use Rattle.algebra.specs.Erasure.{choose}
 use Rattle.algebra.proofs.Equal.{ltb-yes, ltb-no}
-use Rattle.kernel.specs.Runs.{Run, copied}
+use Rattle.kernel.specs.Inner.{Run, copied}
 use Rattle.kernel.proofs.Rows.{row-before}
 use Rattle.layout.specs.Layout.{layerLimit}
 use Rattle.correcting.specs.Inner.{pastOne, SharesLeft}

@@ -46,7 +46,7 @@ fn rebuild(l: Layout, n: u32, x: u32, helpers: &[u32], shares: &[u8], host: &[u8
     let plain = plain_layout(l, n);
     let total = layout::group_count(plain);
     let list = [x];
-    pieces::mend_groups(plain, &list, helpers, shares, host, 0, total, spare);
+    pieces::repair_groups(plain, &list, helpers, shares, host, 0, total, spare);
 }
 
 // The tray from the shares of the helpers but k.

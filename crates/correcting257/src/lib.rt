@@ -50,7 +50,7 @@ fn rebuild(
     let plain = plain_layout(l, n);
     let total = layout::group_count(plain);
     let list = [x];
-    pieces257::mend_groups(plain, &list, helpers, shares, host, 0, total, spare);
+    pieces257::repair_groups(plain, &list, helpers, shares, host, 0, total, spare);
 }
 
 // The tray from the shares of the helpers but k.

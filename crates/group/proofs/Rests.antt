@@ -25,13 +25,13 @@ use Rattle.algebra.specs.Field.{Ops, Laws}
 use Rattle.algebra.specs.Coding.{Coding}
 use Rattle.algebra.specs.Shape.{Field, FieldLaws}
 use Rattle.algebra.specs.Plain.{Working}
-use Rattle.kernel.specs.Runs.{cell, Run, filled, copied}
+use Rattle.kernel.specs.Inner.{cell, Run, filled, copied}
 use Rattle.kernel.proofs.Rows.{row-before, row-in, cell-other}
 use Rattle.layout.specs.declared.Layout.{Layout}
 use Rattle.layout.specs.Layout.{digits, layers, trayLimit}
 use Rattle.layout.proofs.Facts.{bounds}
 use Rattle.codeword.specs.Codeword.{shapeOf, symbolAt}
-use Rattle.syndrome.specs.Syndrome.{Terms}
+use Rattle.syndrome.specs.Inner.{Terms}
 use Rattle.rule.specs.Rule.{rackSymbol}
 use Rattle.rule.specs.Lost.{lostPlace}
 use Rattle.group.specs.Inner.{spot, gathered, InTray, Losing, LostPlaces, PlacesTo, soundSymbol, PlaceTerms, Begun, Growing, Rests}

@@ -11,7 +11,7 @@ use mir.Syntax.{w64}
 use lib.Arith.{digits-div, digits-mod}
 use lib.ListN.{length, getD}
 use Rattle.lists.proofs.Numbers.{cell-same}
-use Rattle.kernel.specs.Runs.{Run, copied}
+use Rattle.kernel.specs.Inner.{Run, copied}
 use Rattle.kernel.proofs.Runs.{run-none, run-append}
 use Rattle.kernel.proofs.Rows.{row-end, row-before}
 use Rattle.layout.specs.declared.Layout.{Layout}

@@ -11,7 +11,7 @@ use Rattle.algebra.specs.Layers.{layerOf}
 use Rattle.algebra.specs.Field.{Ops}
 use Rattle.algebra.specs.Coding.{Coding}
 use Rattle.algebra.specs.Shape.{Field}
-use Rattle.kernel.specs.Runs.{cell, Inverses}
+use Rattle.kernel.specs.Inner.{cell, Inverses}
 use Rattle.layout.specs.declared.Layout.{Layout}
 use Rattle.layout.specs.Layout.{digits, layers, Cabinet}
 use Rattle.codeword.specs.Codeword.{shapeOf}
@@ -120,14 +120,14 @@ module _ {A : Type 0} (f : Field A) where
       (λ g. rackSymbol f l host g (layerOf (digits l) h (first + j) a)) i
 
   -- the layers of the block with the digit a are written, all others are as they were
-  pub record DigitMended (l : Layout) (h : ℕ) (lost host : List ℕ) (w first : ℕ) (sums : List ℕ) (a : ℕ) (old new : List ℕ) : Type 0 where
+  pub record DigitRepaired (l : Layout) (h : ℕ) (lost host : List ℕ) (w first : ℕ) (sums : List ℕ) (a : ℕ) (old new : List ℕ) : Type 0 where
     pub long : length new ≡ length old
     pub done : (i j : ℕ) → i < length lost → j < w → elem (getD new (i * layers l + layerOf (digits l) h (first + j) a) 0) ≡ foundAt l lost host h w first sums a j i
     pub small : (i j : ℕ) → i < length lost → j < w → getD new (i * layers l + layerOf (digits l) h (first + j) a) 0 < size
     pub kept : (i y : ℕ) → y < layers l → ((j : ℕ) → j < w → ¬ (y ≡ layerOf (digits l) h (first + j) a)) → getD new (i * layers l + y) 0 ≡ getD old (i * layers l + y) 0
 
   -- the layers of the block with a digit below a are written, all others are as they were
-  pub record BlockMended (l : Layout) (h : ℕ) (lost host : List ℕ) (w first : ℕ) (sums : List ℕ) (a : ℕ) (old new : List ℕ) : Type 0 where
+  pub record BlockRepaired (l : Layout) (h : ℕ) (lost host : List ℕ) (w first : ℕ) (sums : List ℕ) (a : ℕ) (old new : List ℕ) : Type 0 where
     pub long : length new ≡ length old
     pub done : (i b j : ℕ) → i < length lost → b < a → j < w →
         elem (getD new (i * layers l + layerOf (digits l) h (first + j) b) 0) ≡ foundAt l lost host h w first sums b j i
@@ -136,7 +136,7 @@ module _ {A : Type 0} (f : Field A) where
         getD new (i * layers l + y) 0 ≡ getD old (i * layers l + y) 0
 
   -- what is told of a block: the lost trays, its groups, the host's sums and the inverses of all symbols
-  pub record Mending (l : Layout) (h : ℕ) (lost host : List ℕ) (w first : ℕ) (sums table : List ℕ) : Type 0 where
+  pub record Repairing (l : Layout) (h : ℕ) (lost host : List ℕ) (w first : ℕ) (sums table : List ℕ) : Type 0 where
     pub losing : Losing l h lost host
     pub block : Groups l w first
     pub sums-long : length lost * digits l * w ≤ length sums

@@ -20,7 +20,7 @@ use Rattle.symbol.proofs.Laws.{⊗-lt}
 use Rattle.symbol.proofs.Elem.{laws, val-elem, elem-⊗}
 use Rattle.symbol.proofs.Working.{working, zpow-is}
 use Rattle.symbol.proofs.Halves.{twice-times}
-use Rattle.kernel.specs.Runs.{Run}
+use Rattle.kernel.specs.Inner.{Run}
 use Rattle.horner.specs.Horner.{scaled, steppedRun, Left}
 use Rattle.horner.proofs.Loops.{elem-scaled, steps-next}
 

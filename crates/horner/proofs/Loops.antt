@@ -15,7 +15,7 @@ use Rattle.algebra.specs.Shape.{Field, FieldLaws}
 use Rattle.algebra.specs.Plain.{plus, rootPower, Working}
 use Rattle.algebra.proofs.Ring.{one-mul, mul-assoc}
 use Rattle.algebra.proofs.Pow.{pow-zero, pow-add}
-use Rattle.kernel.specs.Runs.{Run}
+use Rattle.kernel.specs.Inner.{Run}
 use Rattle.kernel.proofs.Runs.{run-more}
 use Rattle.horner.specs.Horner.{scaled, scaledRun, Scaled, stepped, steppedRun, through, throughRun, Left}
 

@@ -1,15 +1,15 @@
 // Horner's rule down the digits of a rack, over runs of symbols: for each digit from the highest down a power of the root times what there is, plus a symbol
 // where its digit is that one. A power of the root is so many doublings. The compiler does many symbols at a time only where the number of doublings is known to
 // it: one to four are written out, and more are done by fours.
-use symbol::ladder::twice;
 use symbol::plain::sum;
+use symbol::shift_add::twice;
 ghost use mathlib.Core.Path.{_≡_};
 ghost use mathlib.Core.Bool.{cond};
 ghost use Prim.Native.Nat.{_+_, _-_, _<_, _≤_};
 ghost use lib.Dec.{eqb};
 ghost use lib.ListN.{length};
 ghost use Rattle.symbol.specs.Elem.{gf256};
-ghost use Rattle.kernel.specs.Runs.{Run};
+ghost use Rattle.kernel.specs.Inner.{Run};
 ghost use Rattle.horner.specs.Horner.{scaled, scaledRun, Scaled, steppedRun, throughRun};
 
 // A symbol times the root, t times over.

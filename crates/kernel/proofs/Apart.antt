@@ -14,7 +14,7 @@ use Rattle.algebra.specs.Plain.{reduced, Working}
 use Rattle.algebra.proofs.Ring.{add-zero, add-assoc}
 use Rattle.algebra.proofs.Sum.{sum-zero, sum-add-one}
 use Rattle.algebra.proofs.Plain.{laws}
-use Rattle.kernel.specs.Runs.{Run, apart, Grid, grid, Gridding, addedGrid}
+use Rattle.kernel.specs.Inner.{Run, apart, Grid, grid, Gridding, addedGrid}
 use Rattle.kernel.proofs.Runs.{run-more}
 use Rattle.kernel.proofs.Rows.{row-before}
 

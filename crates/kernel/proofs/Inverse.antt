@@ -16,7 +16,7 @@ use Rattle.algebra.specs.Plain.{reduced, rootPower, Working}
 use Rattle.algebra.proofs.Ring.{mul-zero, mul-one, mul-comm, mul-cancel}
 use Rattle.algebra.proofs.Pow.{pow-add}
 use Rattle.algebra.proofs.Plain.{elem-zero, elem-rootPower, rootPower-below, rootPower-mod, zero-below, reduced-own}
-use Rattle.kernel.specs.Runs.{Inverses, Inverted}
+use Rattle.kernel.specs.Inner.{Inverses, Inverted}
 
 module _ {A : Type 0} {f : Field A} (W : Working f) where
   open Field f using (ops, root, order)

@@ -8,7 +8,7 @@ use native.Mathlib.Omega.{arith}
 use mir.Val.{Fits}
 use mir.Syntax.{w64}
 use lib.ListN.{length, getD}
-use Rattle.kernel.specs.Runs.{Run, copied, repeated}
+use Rattle.kernel.specs.Inner.{Run, copied, repeated}
 use Rattle.kernel.proofs.Runs.{run-append}
 use Rattle.kernel.proofs.Rows.{row-before}
 

@@ -9,7 +9,7 @@ use native.Mathlib.Omega.{arith}
 use lib.ListN.{length, getD}
 use Rattle.algebra.specs.Coding.{Coding}
 use Rattle.algebra.specs.Shape.{Field}
-use Rattle.kernel.specs.Runs.{Run, cell}
+use Rattle.kernel.specs.Inner.{Run, cell}
 
 -- a row ends where the next one begins
 pub row-end : (x w : ℕ) → (x + 1) * w ≡ x * w + w

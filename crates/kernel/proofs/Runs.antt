@@ -17,7 +17,7 @@ use Rattle.algebra.specs.Field.{Ops}
 use Rattle.algebra.specs.Coding.{Coding}
 use Rattle.algebra.specs.Plain.{plus, minus, times, reduced, Working}
 use Rattle.algebra.proofs.Plain.{elem-reduced, reduced-below, elem-zero, elem-nil}
-use Rattle.kernel.specs.Runs.{Run, filled, copied, sampled, added, addedProduct, addedMultiple, shifted, parted, lookedUp, allZero}
+use Rattle.kernel.specs.Inner.{Run, filled, copied, sampled, added, addedProduct, addedMultiple, shifted, parted, lookedUp, allZero}
 
 pub run-none : (f : ℕ → ℕ) (was : List ℕ) (to : ℕ) → Run f was was to 0
 run-none f was to = record { long = refl; done = λ j h. absurd (not-suc-le-zero h); low = λ i h. refl; high = λ i h. refl }

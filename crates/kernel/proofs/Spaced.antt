@@ -10,7 +10,7 @@ use lib.ListN.{length, getD, set, length-set}
 use lib.Seq.{getD-set-same, getD-set-other}
 use Rattle.algebra.specs.Shape.{Field}
 use Rattle.algebra.specs.Plain.{plus}
-use Rattle.kernel.specs.Runs.{Spaced, addedSpaced}
+use Rattle.kernel.specs.Inner.{Spaced, addedSpaced}
 use Rattle.kernel.proofs.Rows.{row-before}
 
 -- the place of turn j is in the buffer

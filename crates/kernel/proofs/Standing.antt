@@ -11,7 +11,7 @@ use lib.Seq.{getD-set-same, getD-set-other}
 use Rattle.algebra.specs.Field.{Ops}
 use Rattle.algebra.specs.Coding.{Coding}
 use Rattle.algebra.specs.Shape.{Field}
-use Rattle.kernel.specs.Runs.{Run, copied, Standing, stepped, accrued}
+use Rattle.kernel.specs.Inner.{Run, copied, Standing, stepped, accrued}
 
 module _ {A : Type 0} (f : Field A) where
   open Field f using (ops)

@@ -18,8 +18,8 @@ ghost use lib.ListN.{length, getD};
 ghost use Rattle.algebra.specs.Field.{Ops};
 ghost use Rattle.algebra.specs.Coding.{InRange};
 ghost use Rattle.symbol.specs.Elem.{gf256};
-ghost use Rattle.kernel.specs.Runs.{Run, Standing, filled, copied, repeated, added, addedProduct, addedMultiple, stepped, accrued, shifted, parted, lookedUp, sampled};
-ghost use Rattle.kernel.specs.Runs.{Spaced, addedSpaced, apart, Grid, grid, Gridding, addedGrid, allZero, Inverses};
+ghost use Rattle.kernel.specs.Inner.{Run, Standing, filled, copied, repeated, added, addedProduct, addedMultiple, stepped, accrued, shifted, parted, lookedUp, sampled};
+ghost use Rattle.kernel.specs.Inner.{Spaced, addedSpaced, apart, Grid, grid, Gridding, addedGrid, allZero, Inverses};
 
 // The symbol at a place.
 pub fn at(xs: &[u8], i: usize) -> u8

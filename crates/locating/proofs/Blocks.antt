@@ -13,7 +13,7 @@ use Rattle.algebra.specs.Field.{Ops}
 use Rattle.algebra.specs.Coding.{Coding}
 use Rattle.algebra.specs.Shape.{Field}
 use Rattle.algebra.specs.Plain.{Working}
-use Rattle.kernel.specs.Runs.{Run, copied}
+use Rattle.kernel.specs.Inner.{Run, copied}
 use Rattle.kernel.proofs.Rows.{cell-is, row-end}
 use Rattle.layout.specs.declared.Layout.{Layout}
 use Rattle.layout.specs.Layout.{layers, groups, parityRacks, trayLimit, layerLimit, Cabinet}

@@ -15,7 +15,7 @@ use Rattle.algebra.specs.Coding.{Coding}
 use Rattle.algebra.specs.Shape.{Field}
 use Rattle.algebra.specs.Plain.{Working}
 use Rattle.algebra.specs.Locate.{Clean, Located}
-use Rattle.kernel.specs.Runs.{allZero}
+use Rattle.kernel.specs.Inner.{allZero}
 use Rattle.kernel.proofs.Runs.{zero-all, zero-from}
 use Rattle.layout.specs.declared.Layout.{Layout}
 use Rattle.layout.specs.Layout.{groups, parityRacks}

@@ -23,14 +23,14 @@ use Rattle.algebra.proofs.Ring.{zero-add as nothing-add, mul-comm}
 use Rattle.algebra.proofs.Sum.{sum-zero, sum-add-one}
 use Rattle.algebra.proofs.Skip.{skip-unskip, join-add}
 use Rattle.algebra.proofs.Plain.{laws, elem-zero, elem-plus, elem-times}
-use Rattle.kernel.specs.Runs.{cell, Run, filled, copied, addedProduct}
+use Rattle.kernel.specs.Inner.{cell, Run, filled, copied, addedProduct}
 use Rattle.kernel.proofs.Rows.{row-before, cell-is, cell-other}
 use Rattle.layout.specs.declared.Layout.{Layout}
 use Rattle.layout.specs.Layout.{digits, groups, parityRacks, trayLimit, layerLimit, Cabinet}
 use Rattle.layout.proofs.Facts.{bounds}
 use Rattle.codeword.specs.Codeword.{shapeOf}
 use Rattle.blocks.specs.Blocks.{Block}
-use Rattle.syndrome.specs.Syndrome.{Terms}
+use Rattle.syndrome.specs.Inner.{Terms}
 use Rattle.rule.specs.Rule.{sharedSymbol}
 use Rattle.sums.specs.Inner.{helperAt, placePoint, unknownPoint as placed, Chosen, Pointed, PointsTo, RackPowers}
 use Rattle.sums.proofs.Steps.{rack-point}

@@ -17,7 +17,7 @@ use Rattle.algebra.specs.Locate.{gaps}
 use Rattle.algebra.specs.Plain.{minus, times, Working}
 use Rattle.algebra.proofs.Ring.{eq-of-sub, add-neg}
 use Rattle.algebra.proofs.Plain.{laws, elem-zero, elem-one, elem-nil, elem-minus, elem-times, minus-below}
-use Rattle.kernel.specs.Runs.{cell, Run, filled, parted}
+use Rattle.kernel.specs.Inner.{cell, Run, filled, parted}
 use Rattle.kernel.proofs.Rows.{row-before, cell-is}
 use Rattle.locating.specs.Inner.{GapsTo, RowAgrees}
 

@@ -12,7 +12,7 @@ use Rattle.algebra.specs.Coding.{Coding}
 use Rattle.algebra.specs.Sum.{sum, pow}
 use Rattle.algebra.specs.Shape.{Field}
 use Rattle.algebra.specs.Locate.{gaps, helperPoint, gap, residueAt, Clean, Located}
-use Rattle.kernel.specs.Runs.{cell}
+use Rattle.kernel.specs.Inner.{cell}
 use Rattle.layout.specs.declared.Layout.{Layout}
 use Rattle.layout.specs.Layout.{groups, traffic, parityRacks, layerLimit, Cabinet}
 use Rattle.codeword.specs.Codeword.{shapeOf}

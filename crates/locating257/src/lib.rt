@@ -12,7 +12,7 @@ ghost use mathlib.Core.Bool.{_&&_};
 ghost use Prim.Native.Nat.{_+_, _<_, _≤_};
 ghost use lib.ListN.{length};
 ghost use Rattle.symbol257.specs.Elem.{gf257};
-ghost use Rattle.kernel.specs.Runs.{allZero};
+ghost use Rattle.kernel.specs.Inner.{allZero};
 ghost use Rattle.layout.specs.Layout.{groups};
 ghost use Rattle.blocks.specs.Blocks.{blockLimit};
 ghost use Rattle.restore.specs.Restored.{Says};

@@ -24,8 +24,8 @@ use Rattle.algebra.specs.Plain.{Working}
 use Rattle.algebra.proofs.Ring.{mul-one as times-one, zero-add as zero-plus}
 use Rattle.algebra.proofs.Lagrange.{solve-congr}
 use Rattle.algebra.proofs.Skip.{skip-unskip}
-use Rattle.kernel.specs.Runs.{Run, filled, cell}
-use Rattle.columns.specs.Columns.{column, Systems, Solved}
+use Rattle.kernel.specs.Inner.{Run, filled, cell}
+use Rattle.columns.specs.Inner.{column, Systems, Solved}
 use Rattle.layout.specs.declared.Layout.{Layout}
 use Rattle.layout.specs.Layout.{trays, digits, layers, parityRacks, trayLimit, Cabinet}
 use Rattle.layout.specs.Inner.{InGroup}
@@ -34,7 +34,7 @@ use Rattle.layout.proofs.Numbers.{total-plain, digits-small, whole-low}
 use Rattle.codeword.specs.Codeword.{pointAt}
 use Rattle.blocks.specs.Blocks.{blockLimit, roomLimit}
 use Rattle.blocks.proofs.Room.{roomOf, rowOf, room-long, row-long}
-use Rattle.syndrome.specs.Syndrome.{Room, Terms}
+use Rattle.syndrome.specs.Inner.{Room, Terms}
 use Rattle.sums.specs.Inner.{helperAt, placePoint, unknownPoint, Groups, Pointed, PointsTo}
 use Rattle.sums.proofs.Steps.{digits-under, unknowns-high}
 use Rattle.sums.proofs.Points.{point-other}

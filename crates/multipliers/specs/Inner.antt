@@ -9,7 +9,7 @@ use Rattle.algebra.specs.Sum.{pow}
 use Rattle.algebra.specs.Repair.{helperPlace}
 use Rattle.algebra.specs.Coding.{Coding}
 use Rattle.algebra.specs.Shape.{Field}
-use Rattle.kernel.specs.Runs.{cell}
+use Rattle.kernel.specs.Inner.{cell}
 use Rattle.layout.specs.declared.Layout.{Layout}
 use Rattle.layout.specs.Layout.{digits, groups, parityRacks}
 use Rattle.blocks.specs.Blocks.{blockLimit, roomLimit}

@@ -5,7 +5,7 @@ use symbol::plain::SIZE;
 ghost use Prim.Native.Nat.{_≤_};
 ghost use lib.ListN.{length};
 ghost use Rattle.symbol.specs.Elem.{gf256};
-ghost use Rattle.kernel.specs.Runs.{Inverses};
+ghost use Rattle.kernel.specs.Inner.{Inverses};
 ghost use Rattle.blocks.specs.Blocks.{roomLimit};
 ghost use Rattle.multipliers.specs.Inner.{Grouped, Space, Rooms, HelperPoints, PowerSides, Multipliers};
 

@@ -9,7 +9,7 @@ use mir.Val.{Fits}
 use mir.Syntax.{w32}
 use lib.ListN.{length}
 use Rattle.algebra.specs.Shape.{Field}
-use Rattle.kernel.specs.Runs.{Inverses}
+use Rattle.kernel.specs.Inner.{Inverses}
 use Rattle.layout.specs.declared.Layout.{Layout}
 use Rattle.layout.specs.Layout.{digits, layers, groups, parityRacks, trayLimit, Cabinet}
 use Rattle.layout.proofs.Facts.{bounds, rack-in}
@@ -18,7 +18,7 @@ use Rattle.blocks.proofs.Room.{roomOf, rowOf, room-long, row-long}
 use Rattle.rule.specs.Lost.{firstLost, Losses}
 use Rattle.sums.specs.Inner.{Received, Groups, Summing}
 use Rattle.sums.proofs.Steps.{unknowns-high, sums-high}
-use Rattle.group.specs.Inner.{Losing, Mending, Workspace}
+use Rattle.group.specs.Inner.{Losing, Repairing, Workspace}
 use Rattle.pieces.specs.Inner.{Rows, Fitting, Spacious, Few, Piecing, Rooms}
 
 -- ---- the rows of a block
@@ -98,9 +98,9 @@ module _ {n : ℕ} (N : ℕ) (l : Layout) (lost helpers shares host : List ℕ) 
         cur-long = le-trans (fit .small) (r .cur-long);
       }
 
-  pub mending-of : {A : Type 0} (f : Field A) (sums′ table : List ℕ) → length sums′ ≡ length sums → Inverses f table → Mending f l (firstLost l lost / l .size) lost host w first sums′ table
+  pub repairing-of : {A : Type 0} (f : Field A) (sums′ table : List ℕ) → length sums′ ≡ length sums → Inverses f table → Repairing f l (firstLost l lost / l .size) lost host w first sums′ table
   unfolding h
-  mending-of f sums′ table e t = record {
+  repairing-of f sums′ table e t = record {
     losing = record {
       adm = p .adm .admissible .cabinet;
       host-in = host-in;

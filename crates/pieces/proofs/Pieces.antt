@@ -14,7 +14,7 @@ use Rattle.layout.specs.declared.Layout.{Layout}
 use Rattle.layout.specs.Layout.{layers}
 use Rattle.codeword.specs.Codeword.{shapeOf}
 use Rattle.rule.specs.Rule.{groupAt}
-use Rattle.rule.specs.Lost.{firstLost, lostPlace, mended, Ruled, Piece}
+use Rattle.rule.specs.Lost.{firstLost, lostPlace, withSpare, Ruled, Piece}
 use Rattle.pieces.specs.Inner.{Piecing}
 
 module _ {A : Type 0} (f : Field A) (l : Layout) (lost helpers shares host : List ℕ) where
@@ -22,7 +22,7 @@ module _ {A : Type 0} (f : Field A) (l : Layout) (lost helpers shares host : Lis
   pub ruled-kept : (p : ℕ) (old new : List ℕ) → ((i : ℕ) → i < length lost → (j : ℕ) → j < layers l → groupAt l (firstLost l lost) j ≡ p →
       getD new (i * layers l + j) 0 ≡ getD old (i * layers l + j) 0) →
       Ruled f l lost helpers shares host p old → Ruled f l lost helpers shares host p new
-  unfolding mended
+  unfolding withSpare
   ruled-kept p old new same r = record {
     sums = r .sums;
     solution = r .solution;

@@ -6,7 +6,7 @@ use symbol::plain::SIZE;
 ghost use Prim.Native.Nat.{_+_, _%_, _≤_};
 ghost use lib.ListN.{length};
 ghost use Rattle.symbol.specs.Elem.{gf256};
-ghost use Rattle.kernel.specs.Runs.{Inverses};
+ghost use Rattle.kernel.specs.Inner.{Inverses};
 ghost use Rattle.layout.specs.Layout.{Cabinet};
 ghost use Rattle.rule.specs.Lost.{Piece};
 ghost use Rattle.sums.specs.Inner.{Groups};
@@ -26,7 +26,7 @@ fn row_count(l: Layout, e: u32) -> u32
 }
 
 // Repairs a block of groups.
-fn mend_block(
+fn repair_block(
     l: Layout,
     lost: &[u32],
     helpers: &[u32],
@@ -68,7 +68,7 @@ fn mend_block(
         cur,
         table,
     );
-    group::mend_block(
+    group::repair_block(
         l,
         h,
         lost,
@@ -88,7 +88,7 @@ fn mend_block(
 }
 
 // Block after block.
-fn mend_blocks(
+fn repair_blocks(
     l: Layout,
     lost: &[u32],
     helpers: &[u32],
@@ -115,7 +115,7 @@ fn mend_blocks(
     let mut k = 0u32;
     while k < count {
         let w = blocks::block_at(l, first + k, count - k, rows);
-        mend_block(
+        repair_block(
             l,
             lost,
             helpers,
@@ -138,7 +138,7 @@ fn mend_blocks(
 }
 
 // Repairs `count` groups from `first` on, in small rooms: clearing larger ones would take longer than the work.
-fn mend_few(
+fn repair_small(
     l: Layout,
     lost: &[u32],
     helpers: &[u32],
@@ -160,7 +160,7 @@ fn mend_few(
     let mut cur = [0u8; blocks::BLOCK];
     let mut table = [0u8; SIZE];
     kernel::inverses(&mut table);
-    mend_blocks(
+    repair_blocks(
         l,
         lost,
         helpers,
@@ -181,7 +181,7 @@ fn mend_few(
 }
 
 // The same in rooms for whole blocks.
-fn mend_many(
+fn repair_large(
     l: Layout,
     lost: &[u32],
     helpers: &[u32],
@@ -203,7 +203,7 @@ fn mend_many(
     let mut cur = [0u8; blocks::BLOCK];
     let mut table = [0u8; SIZE];
     kernel::inverses(&mut table);
-    mend_blocks(
+    repair_blocks(
         l,
         lost,
         helpers,
@@ -224,7 +224,7 @@ fn mend_many(
 }
 
 // Repairs `count` groups from `first` on.
-pub fn mend_groups(
+pub fn repair_groups(
     l: Layout,
     lost: &[u32],
     helpers: &[u32],
@@ -239,8 +239,8 @@ pub fn mend_groups(
 {
     let rows = row_count(l, lost.len() as u32);
     if rows as usize * count as usize <= blocks::BLOCK {
-        mend_few(l, lost, helpers, shares, host, first, count, spare);
+        repair_small(l, lost, helpers, shares, host, first, count, spare);
         return;
     }
-    mend_many(l, lost, helpers, shares, host, first, count, spare);
+    repair_large(l, lost, helpers, shares, host, first, count, spare);
 }

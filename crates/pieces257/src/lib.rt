@@ -7,7 +7,7 @@ use symbol257::plain::SIZE;
 ghost use Prim.Native.Nat.{_+_, _%_, _≤_};
 ghost use lib.ListN.{length};
 ghost use Rattle.symbol257.specs.Elem.{gf257};
-ghost use Rattle.kernel.specs.Runs.{Inverses};
+ghost use Rattle.kernel.specs.Inner.{Inverses};
 ghost use Rattle.layout.specs.Layout.{Cabinet};
 ghost use Rattle.rule.specs.Lost.{Piece};
 ghost use Rattle.sums.specs.Inner.{Groups};
@@ -27,7 +27,7 @@ fn row_count(l: Layout, e: u32) -> u32
 }
 
 // Repairs a block of groups.
-fn mend_block(
+fn repair_block(
     l: Layout,
     lost: &[u32],
     helpers: &[u32],
@@ -69,7 +69,7 @@ fn mend_block(
         cur,
         table,
     );
-    group257::mend_block(
+    group257::repair_block(
         l,
         h,
         lost,
@@ -89,7 +89,7 @@ fn mend_block(
 }
 
 // Block after block.
-fn mend_blocks(
+fn repair_blocks(
     l: Layout,
     lost: &[u32],
     helpers: &[u32],
@@ -116,7 +116,7 @@ fn mend_blocks(
     let mut k = 0u32;
     while k < count {
         let w = blocks::block_at(l, first + k, count - k, rows);
-        mend_block(
+        repair_block(
             l,
             lost,
             helpers,
@@ -139,7 +139,7 @@ fn mend_blocks(
 }
 
 // Repairs `count` groups from `first` on, in small rooms: clearing larger ones would take longer than the work.
-fn mend_few(
+fn repair_small(
     l: Layout,
     lost: &[u32],
     helpers: &[u32],
@@ -161,7 +161,7 @@ fn mend_few(
     let mut cur = [0u16; blocks::BLOCK];
     let mut table = [0u16; SIZE];
     kernel257::inverses(&mut table);
-    mend_blocks(
+    repair_blocks(
         l,
         lost,
         helpers,
@@ -182,7 +182,7 @@ fn mend_few(
 }
 
 // The same in rooms for whole blocks.
-fn mend_many(
+fn repair_large(
     l: Layout,
     lost: &[u32],
     helpers: &[u32],
@@ -204,7 +204,7 @@ fn mend_many(
     let mut cur = [0u16; blocks::BLOCK];
     let mut table = [0u16; SIZE];
     kernel257::inverses(&mut table);
-    mend_blocks(
+    repair_blocks(
         l,
         lost,
         helpers,
@@ -225,7 +225,7 @@ fn mend_many(
 }
 
 // Repairs `count` groups from `first` on.
-pub fn mend_groups(
+pub fn repair_groups(
     l: Layout,
     lost: &[u32],
     helpers: &[u32],
@@ -240,8 +240,8 @@ pub fn mend_groups(
 {
     let rows = row_count(l, lost.len() as u32);
     if rows as usize * count as usize <= blocks::BLOCK {
-        mend_few(l, lost, helpers, shares, host, first, count, spare);
+        repair_small(l, lost, helpers, shares, host, first, count, spare);
         return;
     }
-    mend_many(l, lost, helpers, shares, host, first, count, spare);
+    repair_large(l, lost, helpers, shares, host, first, count, spare);
 }

@@ -21,7 +21,7 @@ use Rattle.symbol.proofs.Elem.{laws, elem-zero, elem-one, elem-⊗}
 use Rattle.symbol.proofs.Laws.{⊗-lt}
 use Rattle.symbol.proofs.Halves.{twice-times, elem-half}
 use Rattle.symbol.proofs.Working.{working}
-use Rattle.kernel.specs.Runs.{cell, Run, filled, added}
+use Rattle.kernel.specs.Inner.{cell, Run, filled, added}
 use Rattle.kernel.proofs.Runs.{run-more}
 use Rattle.kernel.proofs.Rows.{row-in, row-other}
 use Rattle.planes.specs.Planes.{Rows, Summed, doubled, BitAdded, Plane, Upper}

@@ -10,7 +10,7 @@ use Rattle.algebra.specs.Coding.{Coding}
 use Rattle.algebra.specs.Shape.{Field}
 use Rattle.symbol.specs.Arithmetic.{_⊗_}
 use Rattle.symbol.specs.Elem.{elem, ops, gf256}
-use Rattle.kernel.specs.Runs.{cell}
+use Rattle.kernel.specs.Inner.{cell}
 
 -- rows of w places and a symbol for each
 pub record Rows (w m i : ℕ) (found sums coefs : List ℕ) (at : ℕ) : Type 0 where

@@ -1,11 +1,11 @@
 // A sum of rows, each times one symbol, by the bits of these from the highest down: the sum is doubled once for all rows together, where a product doubles each row.
 // The first field's alone: its numbers add by bits.
-use symbol::ladder::twice;
+use symbol::shift_add::twice;
 ghost use mathlib.Core.Path.{_≡_};
 ghost use Prim.Native.Nat.{_+_, _*_, _<_, _≤_};
 ghost use lib.ListN.{length};
 ghost use Rattle.symbol.specs.Elem.{gf256};
-ghost use Rattle.kernel.specs.Runs.{Run};
+ghost use Rattle.kernel.specs.Inner.{Run};
 ghost use Rattle.planes.specs.Planes.{Rows, Summed, doubled, BitAdded, Plane, Upper};
 
 // Twice a run.

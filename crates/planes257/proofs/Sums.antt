@@ -14,7 +14,7 @@ use Rattle.algebra.specs.Shape.{Field}
 use Rattle.algebra.specs.Plain.{times, Working}
 use Rattle.algebra.proofs.Sum.{sum-zero, sum-add-one}
 use Rattle.algebra.proofs.Plain.{elem-zero, elem-plus, elem-times, plus-below, zero-below}
-use Rattle.kernel.specs.Runs.{cell, Run, filled, addedMultiple}
+use Rattle.kernel.specs.Inner.{cell, Run, filled, addedMultiple}
 use Rattle.kernel.proofs.Rows.{row-in, row-other}
 use Rattle.planes.specs.Planes.{Rows, Summed}
 

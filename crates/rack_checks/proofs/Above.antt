@@ -21,7 +21,7 @@ use Rattle.algebra.proofs.Sum.{sum-congr, sum-front, sum-mul-left, sum-is-zero}
 use Rattle.algebra.proofs.Points.{rack-check}
 use Rattle.algebra.proofs.Weighted.{pow-split}
 use Rattle.algebra.proofs.Plain.{elem-zero}
-use Rattle.kernel.specs.Runs.{cell, Run, filled}
+use Rattle.kernel.specs.Inner.{cell, Run, filled}
 use Rattle.kernel.proofs.Rows.{row-before, cell-is}
 use Rattle.layout.specs.declared.Layout.{Layout}
 use Rattle.layout.specs.Layout.{Cabinet, trays, digits}
@@ -29,7 +29,7 @@ use Rattle.layout.proofs.Facts.{bounds}
 use Rattle.layout.proofs.Numbers.{room}
 use Rattle.codeword.specs.Codeword.{shapeOf, pointAt}
 use Rattle.blocks.specs.Blocks.{Block}
-use Rattle.syndrome.specs.Syndrome.{Listed, survivorAt, Sums}
+use Rattle.syndrome.specs.Inner.{Listed, survivorAt, Sums}
 use Rattle.syndrome.proofs.Sums.{survivor-listed}
 use Rattle.rack_checks.specs.Racks.{ListedFrom, keptSum, raisedBy, RackRaised, rackTerm, Above}
 use Rattle.rack_checks.proofs.Numbers.{place-in}

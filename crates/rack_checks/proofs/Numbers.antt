@@ -19,7 +19,7 @@ use Rattle.layout.specs.Layout.{Cabinet, trays, checks, digits, layers, trayLim
 use Rattle.layout.proofs.Facts.{bounds}
 use Rattle.layout.proofs.Numbers.{digits-small}
 use Rattle.blocks.specs.Blocks.{Block}
-use Rattle.syndrome.specs.Syndrome.{Listed}
+use Rattle.syndrome.specs.Inner.{Listed}
 use Rattle.syndrome.proofs.Sums.{tray-in}
 use Rattle.rack_checks.specs.Racks.{ListedFrom, Kept, Readable}
 

@@ -18,12 +18,12 @@ use Rattle.algebra.specs.Plain.{times, Working}
 use Rattle.algebra.proofs.Ring.{add-zero, mul-zero, one-mul, mul-comm}
 use Rattle.algebra.proofs.Sum.{sum-zero, sum-add-one, sum-congr}
 use Rattle.algebra.proofs.Plain.{elem-zero, elem-one, elem-plus, elem-times}
-use Rattle.kernel.specs.Runs.{Run, filled, added, addedMultiple}
+use Rattle.kernel.specs.Inner.{Run, filled, added, addedMultiple}
 use Rattle.weigh.specs.Weigh.{weight, weightedTerm, Weighed}
 use Rattle.layout.specs.declared.Layout.{Layout}
 use Rattle.layout.specs.Layout.{trays, layers}
 use Rattle.codeword.specs.Codeword.{shapeOf, symbolAt}
-use Rattle.syndrome.specs.Syndrome.{Listed, survivorAt}
+use Rattle.syndrome.specs.Inner.{Listed, survivorAt}
 use Rattle.syndrome.proofs.Sums.{survivor-listed, survivor-kept}
 use Rattle.rack_checks.specs.Racks.{Kept, Readable, placeTerm, PlaceAdded, PlaceSums, LastSums, keptSum}
 

@@ -12,11 +12,11 @@ use Rattle.algebra.specs.Sum.{sum, pow}
 use Rattle.algebra.specs.Layers.{digit}
 use Rattle.algebra.specs.Points.{place, rackSum}
 use Rattle.algebra.specs.Shape.{Field}
-use Rattle.kernel.specs.Runs.{cell}
+use Rattle.kernel.specs.Inner.{cell}
 use Rattle.layout.specs.declared.Layout.{Layout}
 use Rattle.layout.specs.Layout.{trays, digits, layers, trayLimit}
 use Rattle.codeword.specs.Codeword.{shapeOf}
-use Rattle.syndrome.specs.Syndrome.{survivorAt}
+use Rattle.syndrome.specs.Inner.{survivorAt}
 
 -- every tray from x on is listed
 pub record ListedFrom (es : List ℕ) (x n : ℕ) : Type 0 where

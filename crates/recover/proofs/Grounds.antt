@@ -18,7 +18,7 @@ use Rattle.layout.proofs.Facts.{admissible-facts}
 use Rattle.kernel.proofs.Rows.{row-before}
 use Rattle.range.specs.Range.{symbolsFrom}
 use Rattle.recover.specs.Recover.{keptTray, keptSymbols, recoverRefusal}
-use Rattle.syndrome.specs.Syndrome.{Listed}
+use Rattle.syndrome.specs.Inner.{Listed}
 use Rattle.recover.proofs.Restored.{list-listed}
 
 -- ---- the symbols of the trays that are not listed

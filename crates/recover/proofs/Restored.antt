@@ -24,7 +24,7 @@ use Rattle.layout.proofs.Lists.{list-places}
 use Rattle.codeword.specs.Codeword.{shapeOf, symbolAt, pointAt, Codeword, Usable}
 use Rattle.codeword.proofs.Buffers.{to-word, from-word, buffers-same}
 use Rattle.recover.specs.Recover.{Kept, Survivors, Restores}
-use Rattle.syndrome.specs.Syndrome.{entryOf, Listed}
+use Rattle.syndrome.specs.Inner.{entryOf, Listed}
 use Rattle.restore.specs.Restored.{restoredAt, LayerFits, RestoredTo}
 
 module _ {A : Type 0} (f : Field A) (l : Layout) (ok : Usable f l) (es c : List ℕ) (listed : Listed l es) where

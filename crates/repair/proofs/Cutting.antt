@@ -20,7 +20,7 @@ use Rattle.layout.proofs.Facts.{size-pos}
 use Rattle.codeword.proofs.Usable.{solvable}
 use Rattle.codeword.proofs.Buffers.{layers-pos}
 use Rattle.rule.specs.Rule.{groupAt}
-use Rattle.rule.specs.Lost.{firstLost, lostPlace, Losses, sentSymbol, mended, SoundAlike, Ruled}
+use Rattle.rule.specs.Lost.{firstLost, lostPlace, Losses, sentSymbol, withSpare, SoundAlike, Ruled}
 use Rattle.rule.proofs.Rule.{group-below}
 use Rattle.rule.proofs.Lost.{lost-high, lost-places, rule-one, ruled-same}
 use Rattle.rule.proofs.Exact.{rule-whole}
@@ -40,7 +40,7 @@ module _ {A : Type 0} {f : Field A} (W : Working f) (l : Layout) (adm : Admissib
   -- what the rule fixes for a host rack it fixes for one that is alike in the sound trays
   ruled-host : (host′ : List ℕ) (p : ℕ) (spare : List ℕ) → ((j : ℕ) → j < layers l → SoundAlike f l lost j host host′) → Ruled f l lost helpers shares host′ p spare →
       Ruled f l lost helpers shares host p spare
-  unfolding mended
+  unfolding withSpare
   ruled-host host′ p spare alike r = record {
     sums = r .sums;
     solution = r .solution;

@@ -118,7 +118,7 @@ pub fn repair_many(
     }
     let left = layout::group_count(l) as u64 - first;
     let count = lists::smaller(budget, left);
-    pieces::mend_groups(
+    pieces::repair_groups(
         l,
         lost,
         helpers,

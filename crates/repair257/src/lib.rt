@@ -110,7 +110,7 @@ pub fn repair_many(
     }
     let left = layout::group_count(l) as u64 - first;
     let count = lists::smaller(budget, left);
-    pieces257::mend_groups(
+    pieces257::repair_groups(
         l,
         lost,
         helpers,

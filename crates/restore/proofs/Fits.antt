@@ -22,14 +22,14 @@ use Rattle.algebra.proofs.Restore.{restored-codeword}
 use Rattle.algebra.specs.Coding.{Coding}
 use Rattle.algebra.specs.Shape.{Field, FieldLaws}
 use Rattle.algebra.specs.Plain.{Working}
-use Rattle.kernel.specs.Runs.{cell, Run, copied, allZero}
+use Rattle.kernel.specs.Inner.{cell, Run, copied, allZero}
 use Rattle.kernel.proofs.Runs.{zero-all, zero-from}
 use Rattle.kernel.proofs.Rows.{row-end, row-before, row-in, cell-is}
 use Rattle.layout.specs.declared.Layout.{Layout}
 use Rattle.layout.specs.Layout.{trays, checks, layers, Admissible}
 use Rattle.codeword.specs.Codeword.{shapeOf, symbolAt, pointAt}
 use Rattle.codeword.proofs.Usable.{usable}
-use Rattle.syndrome.specs.Syndrome.{entryOf, Listed, survivorAt, Room, TrayPoints, Terms, Sums}
+use Rattle.syndrome.specs.Inner.{entryOf, Listed, survivorAt, Room, TrayPoints, Terms, Sums}
 use Rattle.restore.specs.Restored.{restoredAt, LayerFits, Says, Erasing}
 use Rattle.restore.specs.Inner.{erasedAt, FoundBlock, FoundTerms, BlockFits}
 use Rattle.restore.proofs.Solve.{sums-check, found-erased}

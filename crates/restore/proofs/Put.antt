@@ -16,13 +16,13 @@ use Rattle.algebra.proofs.Erasure.{fill-at, fill-outside, fill-values, fill-con
 use Rattle.algebra.specs.Coding.{Coding}
 use Rattle.algebra.specs.Shape.{Field}
 use Rattle.algebra.specs.Plain.{Working}
-use Rattle.kernel.specs.Runs.{Run, copied}
+use Rattle.kernel.specs.Inner.{Run, copied}
 use Rattle.kernel.proofs.Rows.{row-end, row-before, row-in, cell-is}
 use Rattle.layout.specs.declared.Layout.{Layout}
 use Rattle.layout.specs.Layout.{trays, checks, layers}
 use Rattle.blocks.specs.Blocks.{Block}
 use Rattle.codeword.specs.Codeword.{symbolAt, pointAt}
-use Rattle.syndrome.specs.Syndrome.{entryOf, Listed, Sums}
+use Rattle.syndrome.specs.Inner.{entryOf, Listed, Sums}
 use Rattle.restore.specs.Restored.{restoredAt, Erasing, RestoredTo}
 use Rattle.restore.specs.Inner.{erasedAt, FoundBlock, Cells, PutBlock, BlockRestored, Workspace}
 use Rattle.restore.proofs.Solve.{found-erased}

@@ -12,7 +12,7 @@ use Rattle.lists.proofs.Numbers.{mul-below}
 use Rattle.layout.specs.declared.Layout.{Layout}
 use Rattle.layout.specs.Layout.{checks, digits, trayLimit, layerLimit}
 use Rattle.blocks.specs.Blocks.{blockLimit, roomLimit, Block}
-use Rattle.syndrome.specs.Syndrome.{Listed, Room}
+use Rattle.syndrome.specs.Inner.{Listed, Room}
 use Rattle.blocks.proofs.Room.{roomOf, rowOf, room-long, row-long}
 use Rattle.restore.specs.Restored.{Erasing}
 use Rattle.restore.specs.Inner.{Workspace}

@@ -15,7 +15,7 @@ use Rattle.algebra.specs.Field.{Ops}
 use Rattle.algebra.specs.Coding.{Coding}
 use Rattle.algebra.specs.Shape.{Field, FieldLaws}
 use Rattle.algebra.specs.Plain.{Working}
-use Rattle.kernel.specs.Runs.{cell, Run, sampled}
+use Rattle.kernel.specs.Inner.{cell, Run, sampled}
 use Rattle.kernel.proofs.Rows.{row-before, row-in, cell-is, cell-other}
 use Rattle.layout.specs.declared.Layout.{Layout}
 use Rattle.layout.specs.Layout.{trays, digits}
@@ -24,7 +24,7 @@ use Rattle.blocks.specs.Blocks.{Block}
 use Rattle.blocks.specs.Cycles.{Steady}
 use Rattle.blocks.proofs.Digits.{same-block}
 use Rattle.blocks.proofs.Cycles.{run-low, columns-low, turns-low, period-is, whole, width-is, period-in, columns-in}
-use Rattle.syndrome.specs.Syndrome.{Listed, TrayPoints}
+use Rattle.syndrome.specs.Inner.{Listed, TrayPoints}
 use Rattle.syndrome.proofs.Digits.{point-run, point-cycle}
 use Rattle.restore.specs.Inner.{Columns, ListedPoints, Workspace}
 

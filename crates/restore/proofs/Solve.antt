@@ -16,15 +16,15 @@ use Rattle.algebra.proofs.Sum.{sum-congr}
 use Rattle.algebra.proofs.Lagrange.{basis-zero, basis-suc}
 use Rattle.algebra.specs.Shape.{Field, FieldLaws}
 use Rattle.algebra.specs.Plain.{Working}
-use Rattle.kernel.specs.Runs.{cell}
-use Rattle.columns.specs.Columns.{column, Systems, Solved}
+use Rattle.kernel.specs.Inner.{cell}
+use Rattle.columns.specs.Inner.{column, Systems, Solved}
 use Rattle.layout.specs.declared.Layout.{Layout}
 use Rattle.layout.specs.Layout.{trays, digits, Cabinet}
 use Rattle.codeword.specs.Codeword.{symbolAt, pointAt}
 use Rattle.blocks.specs.Blocks.{roomLimit, Block}
 use Rattle.blocks.specs.Cycles.{Steady}
 use Rattle.blocks.proofs.Cycles.{run-low, columns-low, turns-low, width-is, columns-in}
-use Rattle.syndrome.specs.Syndrome.{entryOf, Listed, survivorAt, Sums}
+use Rattle.syndrome.specs.Inner.{entryOf, Listed, survivorAt, Sums}
 use Rattle.restore.specs.Inner.{erasedAt, ListedPoints, Workspace, FoundBlock}
 use Rattle.restore.proofs.Runs.{cycle-points}
 

@@ -9,12 +9,12 @@ use Rattle.algebra.specs.Lagrange.{check, solve}
 use Rattle.algebra.specs.Erasure.{Places, zeros, erased}
 use Rattle.algebra.specs.Coding.{Coding}
 use Rattle.algebra.specs.Shape.{Field}
-use Rattle.kernel.specs.Runs.{cell}
+use Rattle.kernel.specs.Inner.{cell}
 use Rattle.layout.specs.declared.Layout.{Layout}
 use Rattle.layout.specs.Layout.{trays, checks, layers}
 use Rattle.codeword.specs.Codeword.{symbolAt, pointAt}
 use Rattle.blocks.specs.Blocks.{roomLimit, Block}
-use Rattle.syndrome.specs.Syndrome.{entryOf, Listed}
+use Rattle.syndrome.specs.Inner.{entryOf, Listed}
 use Rattle.restore.specs.Restored.{restoredAt, LayerFits}
 
 -- room for the points of the trays listed, v of each

@@ -12,7 +12,7 @@ use Rattle.algebra.specs.Repair.{restored}
 use Rattle.layout.specs.declared.Layout.{Layout}
 use Rattle.layout.specs.Layout.{trays, checks, layers, Cabinet}
 use Rattle.codeword.specs.Codeword.{shapeOf, symbolAt, pointAt}
-use Rattle.syndrome.specs.Syndrome.{entryOf, Listed}
+use Rattle.syndrome.specs.Inner.{entryOf, Listed}
 
 -- the symbols of c with those of the trays listed as the checks determine them
 abbrev pub restoredAt : {A : Type 0} → Field A → Layout → List ℕ → List ℕ → ℕ → ℕ → A

@@ -1,6 +1,6 @@
 // Made by tools/twin.py from crates/restore/src/lib.rt.
 // Erased trays worked out from the others, whole blocks of layers at a time, by the products of differences: the symbols that the checks determine, and
-// whether these meet the checks that were not needed to solve. Never looks at the old bytes of the trays listed. What is promised here is what recovering
+// whether these meet the checks that were not needed to solve. Never looks at the old symbols of the trays listed. What is promised here is what recovering
 // and storing rest on (specs/Restored.antt).
 use layout::Layout;
 use symbol257::plain::SIZE;
@@ -9,10 +9,10 @@ ghost use mathlib.Core.Bool.{true, false};
 ghost use Prim.Native.Nat.{ℕ, _*_, _^_, _<_, _≤_};
 ghost use lib.ListN.{length};
 ghost use Rattle.symbol257.specs.Elem.{gf257};
-ghost use Rattle.kernel.specs.Runs.{Inverses};
+ghost use Rattle.kernel.specs.Inner.{Inverses};
 ghost use Rattle.layout.specs.Layout.{digits, layers, Admissible};
 ghost use Rattle.blocks.specs.Blocks.{Block};
-ghost use Rattle.syndrome.specs.Syndrome.{Listed, Room};
+ghost use Rattle.syndrome.specs.Inner.{Listed, Room};
 ghost use Rattle.restore.specs.Restored.{LayerFits, Says, Erasing, RestoredTo};
 ghost use Rattle.restore.specs.Inner.{Columns, ListedPoints, Workspace, FoundBlock, Cells, PutBlock, BlockRestored, FoundTerms, BlockFits};
 

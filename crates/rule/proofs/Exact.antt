@@ -19,7 +19,7 @@ use Rattle.layout.specs.Layout.{trays, checks, layers, groups, parityRacks}
 use Rattle.codeword.specs.Codeword.{shapeOf, symbolAt, Solvable}
 use Rattle.codeword.proofs.Buffers.{to-word, layers-pos}
 use Rattle.rule.specs.Rule.{groupAt}
-use Rattle.rule.specs.Lost.{firstLost, lostPlace, lostPart, Losses, mended, Ruled, Of}
+use Rattle.rule.specs.Lost.{firstLost, lostPlace, lostPart, Losses, withSpare, Ruled, Of}
 use Rattle.rule.proofs.Racks.{rack-at, share-word}
 use Rattle.rule.proofs.Rule.{host-in, group-below}
 use Rattle.rule.proofs.Lost.{tray-is, lost-high, lost-places, rule-one}
@@ -41,9 +41,9 @@ module _ {A : Type 0} (f : Field A) (l : Layout) (ok : Solvable f l) (lost helpe
   h = firstLost l lost / l .size
 
   -- the host rack with the codeword's lost trays is the codeword's rack
-  mended-is : (j : ℕ) → j < layers l → (g : ℕ) → g < l .size → mended f l lost (lostPart l lost c) host j g ≡ symbolAt f l c (h * l .size + g) j
-  unfolding mended symbolAt
-  mended-is j hj g hg = sym (fill-same (lostPlace l lost) _ _ (length lost) (λ y. symbolAt f l c (h * l .size + y) j) g
+  with-spare-is : (j : ℕ) → j < layers l → (g : ℕ) → g < l .size → withSpare f l lost (lostPart l lost c) host j g ≡ symbolAt f l c (h * l .size + g) j
+  unfolding withSpare symbolAt
+  with-spare-is j hj g hg = sym (fill-same (lostPlace l lost) _ _ (length lost) (λ y. symbolAt f l c (h * l .size + y) j) g
       (λ i k e. ap (f .coding .elem) (ap (λ y. getD c (y * layers l + j) 0) (ap (λ y. h * l .size + y) e ∙ tray-is f l ok lost helpers given i k) ∙ sym (lost-at l lost c i j k hj)))
       (λ out. sym (of .sound j hj g hg out ∙ rack-at f l c h g j hg hj)))
 
@@ -56,7 +56,7 @@ module _ {A : Type 0} (f : Field A) (l : Layout) (ok : Solvable f l) (lost helpe
         (l .helpers) (parityRacks l) (checks l) (λ w hw. ok .enough w m hw (omega (arith, given .few))) (symbolAt f l c) (to-word f l c (of .codeword)) in
         record { given = λ k hk. sol .given k hk ∙ sym (of .share m k p hm hk inside ∙ share-word f l m h c (getD helpers k 0) p); checks = sol .checks };
     holds = λ j hj e m hm.
-        check-congr (f .ops) (ok .usable .field .laws) (place (shapeOf f l)) (l .size) (lostPlace l lost) _ _ m (mended-is j hj)
+        check-congr (f .ops) (ok .usable .field .laws) (place (shapeOf f l)) (l .size) (lostPlace l lost) _ _ m (with-spare-is j hj)
         ∙ sym (sums-check (shapeOf f l) (ok .usable .fits) (lostPlace l lost) (length lost) (lost-places f l ok lost helpers given) (λ y. symbolAt f l c y j) m h);
     symbols = λ i k j hj e. subst (λ n. n < f .coding .size) (sym (lost-at l lost c i j k hj))
         (of .codeword .symbols .at _ (rw (of .codeword .long) (cell-in (trays l) (layers l) (getD lost i 0) j (lost-high f l ok lost helpers given i k) hj)));

@@ -26,7 +26,7 @@ use Rattle.layout.specs.declared.Layout.{Layout}
 use Rattle.layout.specs.Layout.{trays, digits, layers, groups, parityRacks}
 use Rattle.codeword.specs.Codeword.{shapeOf, Solvable}
 use Rattle.rule.specs.Rule.{groupAt, rackSymbol}
-use Rattle.rule.specs.Lost.{firstLost, lostPlace, Losses, sentSymbol, mended, Ruled, One, SoundAlike}
+use Rattle.rule.specs.Lost.{firstLost, lostPlace, Losses, sentSymbol, withSpare, Ruled, One, SoundAlike}
 use Rattle.rule.specs.Inner.{layerSum, lostSymbol}
 use Rattle.rule.proofs.Rule.{host-in, helping, solution-sums, witness-sums, witness-solves}
 
@@ -83,12 +83,12 @@ module _ {A : Type 0} (f : Field A) (l : Layout) (ok : Solvable f l) (lost helpe
       -- what the rule fixes is what the formula gives
       pub ruled-is : (spare : List ℕ) → Ruled f l lost helpers shares host p spare → (i : ℕ) → i < length lost → (j : ℕ) → j < layers l → groupAt l (firstLost l lost) j ≡ p →
           getD spare (i * layers l + j) 0 ≡ lostSymbol f l lost helpers shares host i j
-      unfolding mended whole
+      unfolding withSpare whole
       ruled-is spare r i k j hj e =
           sym (ok .usable .field .coded .val-elem _ (r .symbols i k j hj e))
           ∙ ap (f .coding .val) (sym (fill-at (lostPlace l lost) _ _ (length lost) (l .size) lost-places i k)
           ∙ lost-only (shapeOf f l) (ok .usable .fits) (lostPlace l lost) (length lost) lost-places (layerSum f l lost helpers shares j)
-          (λ g. rackSymbol f l host g j) (mended f l lost spare host j)
+          (λ g. rackSymbol f l host g j) (withSpare f l lost spare host j)
           (record { at = λ g hg out. sym (fill-outside (lostPlace l lost) _ _ (length lost) g out) })
           (record { at = λ m hm. r .holds j hj e m hm ∙ sums-are m j e (r .sums m) (r .solution m hm) })
           (lostPlace l lost i) (lost-places .inside i k))
@@ -98,7 +98,7 @@ module _ {A : Type 0} (f : Field A) (l : Layout) (ok : Solvable f l) (lost helpe
       pub is-ruled : (spare : List ℕ) →
           ((i : ℕ) → i < length lost → (j : ℕ) → j < layers l → groupAt l (firstLost l lost) j ≡ p → getD spare (i * layers l + j) 0 ≡ lostSymbol f l lost helpers shares host i j) →
           Ruled f l lost helpers shares host p spare
-      unfolding mended recover lostSymbol
+      unfolding withSpare recover lostSymbol
       is-ruled spare at = record {
         sums = λ m. witness-sums f l ok (firstLost l lost) helpers (given .help) p inside m (sentSymbol f l (length lost) shares m p);
         solution = λ m hm. witness-solves f l ok (firstLost l lost) helpers (given .help) p inside m (sentSymbol f l (length lost) shares m p);

@@ -24,7 +24,7 @@ use Rattle.layout.specs.Layout.{trays, layers, groups, parityRacks}
 use Rattle.codeword.specs.Codeword.{shapeOf, Usable, Solvable}
 use Rattle.codeword.proofs.Buffers.{layers-pos}
 use Rattle.rule.specs.Rule.{trayPart, Helpers, groupAt, sharedSymbol, soundSum, RuledOne}
-use Rattle.rule.specs.Lost.{lostPlace, lostPart, Losses, sentSymbol, mended, Ruled, Of}
+use Rattle.rule.specs.Lost.{lostPlace, lostPart, Losses, sentSymbol, withSpare, Ruled, Of}
 use Rattle.rule.proofs.Racks.{tray-at, tray-long, no-weight, sum-out}
 use Rattle.rule.proofs.Lost.{rule-one}
 use Rattle.rule.proofs.Exact.{lost-at, lost-long, rule-exact}
@@ -56,10 +56,10 @@ module _ {A : Type 0} (f : Field A) (l : Layout) (ok : Usable f l) (x : ℕ) whe
   unfolding sentSymbol sharedSymbol
   sent-is shares p k = ap (λ n. f .coding .elem (getD shares (n * groups l + p) 0)) (omega arith)
 
-  mended-sum : (spare host : List ℕ) (j : ℕ) → check (f .ops) (place (shapeOf f l)) (l .size) (mended f l (x ∷ []) spare host j) 0 ≡
+  with-spare-sum : (spare host : List ℕ) (j : ℕ) → check (f .ops) (place (shapeOf f l)) (l .size) (withSpare f l (x ∷ []) spare host j) 0 ≡
       f .ops .add (f .coding .elem (getD spare j 0)) (soundSum f l x host j)
-  unfolding check mended fill lostPlace soundSum
-  mended-sum spare host j =
+  unfolding check withSpare fill lostPlace soundSum
+  with-spare-sum spare host j =
       sum-congr (f .ops) (l .size) _ _ (λ g h. no-weight (f .ops) (ok .field .laws) _ _)
       ∙ sum-out (f .ops) (ok .field .laws) (l .size) (x % l .size) _ (mod-lt x (ok .fits .some-places))
       ∙ ap₂ (f .ops .add) (choose-same (x % l .size) (x % l .size) _ _ refl ∙ ap (λ n. f .coding .elem (getD spare n 0)) (front (layers l) j))
@@ -72,7 +72,7 @@ module _ {A : Type 0} (f : Field A) (l : Layout) (ok : Usable f l) (x : ℕ) whe
     solution = record { given = λ k h. r .solution 0 (omega arith) .given k h ∙ sent-is shares p k; checks = r .solution 0 (omega arith) .checks };
     holds = λ j h e.
         sym (ok .field .coded .val-elem _ (subst (λ n. getD spare n 0 < f .coding .size) (front (layers l) j) (r .symbols 0 (omega arith) j h e)))
-        ∙ ap (f .coding .val) (less (f .ops) (ok .field .laws) _ _ _ (sym (mended-sum spare host j) ∙ r .holds j h e 0 (omega arith)));
+        ∙ ap (f .coding .val) (less (f .ops) (ok .field .laws) _ _ _ (sym (with-spare-sum spare host j) ∙ r .holds j h e 0 (omega arith)));
   }
 
   pub lost-one : (helpers shares host : List ℕ) (p : ℕ) (spare : List ℕ) → RuledOne f l x helpers shares host p spare → Ruled f l (x ∷ []) helpers shares host p spare
@@ -80,8 +80,8 @@ module _ {A : Type 0} (f : Field A) (l : Layout) (ok : Usable f l) (x : ℕ) whe
     sums = λ m. r .sums;
     solution = λ m k. subst (λ n. Solution (shapeOf f l) n (x / l .size) p (λ k. getD helpers k 0) (l .helpers) (parityRacks l) (sentSymbol f l 1 shares n p) (r .sums)) (zero-is m k)
         (record { given = λ k h. r .solution .given k h ∙ sym (sent-is shares p k); checks = r .solution .checks });
-    holds = λ j h e m k. subst (λ n. check (f .ops) (place (shapeOf f l)) (l .size) (mended f l (x ∷ []) spare host j) n ≡ r .sums (x / l .size) j) (zero-is m k)
-        (mended-sum spare host j ∙ ap (λ y. f .ops .add y (soundSum f l x host j)) (ap (f .coding .elem) (r .holds j h e) ∙ ok .field .coded .elem-val _)
+    holds = λ j h e m k. subst (λ n. check (f .ops) (place (shapeOf f l)) (l .size) (withSpare f l (x ∷ []) spare host j) n ≡ r .sums (x / l .size) j) (zero-is m k)
+        (with-spare-sum spare host j ∙ ap (λ y. f .ops .add y (soundSum f l x host j)) (ap (f .coding .elem) (r .holds j h e) ∙ ok .field .coded .elem-val _)
         ∙ back (f .ops) (ok .field .laws) _ _);
     symbols = λ i k j h e. subst (λ n. getD spare (n * layers l + j) 0 < f .coding .size) (zero-is i k)
         (subst (λ n. getD spare n 0 < f .coding .size) (sym (front (layers l) j)) (subst (λ n. n < f .coding .size) (sym (r .holds j h e)) (ok .field .coded .val-below _)));

@@ -44,8 +44,8 @@ sentSymbol f l e shares m p k = f .coding .elem (getD shares ((k * e + m) * grou
 
 module _ {A : Type 0} (f : Field A) (l : Layout) (lost : List ℕ) where
   -- the host rack's symbols in layer j, by place, with the spare's at the lost places
-  unfoldable pub mended : List ℕ → List ℕ → ℕ → ℕ → A
-  mended spare host j = fill (lostPlace l lost) (λ i. f .coding .elem (getD spare (i * layers l + j) 0)) (length lost) (λ g. rackSymbol f l host g j)
+  unfoldable pub withSpare : List ℕ → List ℕ → ℕ → ℕ → A
+  withSpare spare host j = fill (lostPlace l lost) (λ i. f .coding .elem (getD spare (i * layers l + j) 0)) (length lost) (λ g. rackSymbol f l host g j)
 
   -- the layers of group p in the spare hold what the rule fixes: for each m below e there are rack sums, by rack and layer, that solve the R checks
   -- t = u·w + m summed over the group and agree with the shares of weight m, and in each layer the host rack's symbols, each times the m-th power of its
@@ -55,7 +55,7 @@ module _ {A : Type 0} (f : Field A) (l : Layout) (lost : List ℕ) where
     pub solution : (m : ℕ) → m < length lost →
         Solution (shapeOf f l) m (firstLost l lost / l .size) p (λ k. getD helpers k 0) (l .helpers) (parityRacks l) (sentSymbol f l (length lost) shares m p) (sums m)
     pub holds : (j : ℕ) → j < layers l → groupAt l (firstLost l lost) j ≡ p → (m : ℕ) → m < length lost →
-        check (f .ops) (place (shapeOf f l)) (l .size) (mended spare host j) m ≡ sums m (firstLost l lost / l .size) j
+        check (f .ops) (place (shapeOf f l)) (l .size) (withSpare spare host j) m ≡ sums m (firstLost l lost / l .size) j
     pub symbols : (i : ℕ) → i < length lost → (j : ℕ) → j < layers l → groupAt l (firstLost l lost) j ≡ p → getD spare (i * layers l + j) 0 < f .coding .size
 
   -- for every group there is an outcome, and only one

@@ -9,7 +9,7 @@ use Rattle.algebra.specs.Shape.{Field}
 use Rattle.layout.specs.declared.Layout.{Layout}
 use Rattle.layout.specs.Layout.{checks}
 use Rattle.blocks.specs.Blocks.{blockLimit, roomLimit, Allowed}
-use Rattle.syndrome.specs.Syndrome.{Room}
+use Rattle.syndrome.specs.Inner.{Room}
 use Rattle.scrub.specs.declared.Walk.{Walk}
 use Rattle.scrub.specs.Scrub.{badLayer, after}
 use Rattle.scrub.specs.Inner.{Ahead}

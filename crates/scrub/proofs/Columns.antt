@@ -19,7 +19,7 @@ use Rattle.kernel.proofs.Rows.{cell-is}
 use Rattle.layout.specs.declared.Layout.{Layout}
 use Rattle.layout.specs.Layout.{trays, checks}
 use Rattle.codeword.specs.Codeword.{checkAt}
-use Rattle.syndrome.specs.Syndrome.{Sums}
+use Rattle.syndrome.specs.Inner.{Sums}
 use Rattle.syndrome.proofs.Whole.{sums-are}
 use Rattle.scrub.specs.declared.Walk.{Walk}
 use Rattle.scrub.specs.Scrub.{badLayer, after}

@@ -10,7 +10,7 @@ ghost use lib.ListN.{length};
 ghost use Rattle.symbol257.specs.Elem.{gf257};
 ghost use Rattle.layout.specs.Layout.{trays, checks, layers, layerLimit};
 ghost use Rattle.blocks.specs.Blocks.{blockLimit, roomLimit, Block};
-ghost use Rattle.syndrome.specs.Syndrome.{Room};
+ghost use Rattle.syndrome.specs.Inner.{Room};
 ghost use Rattle.scrub.specs.Scrub.{badLayer, after};
 ghost use Rattle.scrub.specs.Inner.{columnBad, look, Ahead};
 

@@ -26,7 +26,7 @@ use Rattle.algebra.proofs.Sum.{sum-congr, sum-swap, sum-split, sum-zeros, sum-a
 use Rattle.algebra.specs.Coding.{Coding, InRange}
 use Rattle.algebra.specs.Plain.{Working}
 use Rattle.algebra.proofs.Plain.{laws, elem-zero, zero-below, elem-plus, elem-times, plus-below}
-use Rattle.kernel.specs.Runs.{Run, filled, addedMultiple}
+use Rattle.kernel.specs.Inner.{Run, filled, addedMultiple}
 use Rattle.kernel.proofs.Rows.{row-before, row-end}
 use Rattle.layout.specs.declared.Layout.{Layout}
 use Rattle.layout.specs.Layout.{digits, layers, groups}

@@ -16,7 +16,7 @@ use Rattle.algebra.specs.Coding.{Coding, Coded}
 use Rattle.algebra.specs.Shape.{Field, FieldLaws}
 use Rattle.algebra.specs.Plain.{plus, Working}
 use Rattle.algebra.proofs.Plain.{laws, elem-plus, plus-below}
-use Rattle.kernel.specs.Runs.{Run, apart, grid, Gridding, addedGrid, Spaced, addedSpaced}
+use Rattle.kernel.specs.Inner.{Run, apart, grid, Gridding, addedGrid, Spaced, addedSpaced}
 use Rattle.kernel.proofs.Rows.{row-before, row-end}
 use Rattle.share.specs.Inner.{InTray, InTrays, DigitAdded, AcrossAdded, layered, DigitsAdded, TraysAdded}
 

@@ -14,7 +14,7 @@ use Rattle.lists.proofs.Tables.{table-length, table-at}
 use Rattle.algebra.specs.Coding.{Coding, InRange}
 use Rattle.algebra.specs.Shape.{Field}
 use Rattle.algebra.specs.Plain.{Working}
-use Rattle.kernel.specs.Runs.{Run, copied}
+use Rattle.kernel.specs.Inner.{Run, copied}
 use Rattle.layout.specs.declared.Layout.{Layout}
 use Rattle.layout.specs.Layout.{trays, checks, layers, trayLimit, Admissible}
 use Rattle.layout.proofs.Facts.{dimension-in}
@@ -22,7 +22,7 @@ use Rattle.codeword.specs.Codeword.{Codeword, Usable}
 use Rattle.codeword.proofs.Usable.{usable}
 use Rattle.codeword.proofs.Buffers.{layers-pos}
 use Rattle.recover.specs.Recover.{Kept, Survivors, Restores}
-use Rattle.syndrome.specs.Syndrome.{Listed}
+use Rattle.syndrome.specs.Inner.{Listed}
 use Rattle.restore.specs.Restored.{LayerFits, Erasing, RestoredTo}
 use Rattle.recover.proofs.Restored.{low-checks, restores, restores-exists, restored-range}
 use Rattle.store.specs.Store.{Begins, Stores}

@@ -1,6 +1,6 @@
 // Made by tools/twin.py from crates/store/src/lib.rt.
 // Storing. Promises that the buffer becomes the only codeword whose first k trays are the data, whatever it held before; a layout or length that does not
-// fit is refused and no byte changes.
+// fit is refused and no symbol changes.
 use layout::Layout;
 use symbol257::plain::ORDER;
 ghost use mathlib.Core.Path.{_≡_};
@@ -9,7 +9,7 @@ ghost use lib.ListN.{length};
 ghost use Rattle.lists.specs.Lists.{table};
 ghost use Rattle.symbol257.specs.Elem.{gf257};
 ghost use Rattle.layout.specs.Layout.{checks, layers, trayLimit};
-ghost use Rattle.kernel.specs.Runs.{Run, copied};
+ghost use Rattle.kernel.specs.Inner.{Run, copied};
 ghost use Rattle.restore.specs.Restored.{RestoredTo};
 ghost use Rattle.store.specs.Store.{storeRefusal, StoreAnswer};
 ghost use Rattle.store.specs.Inner.{parityTrays, Writable};

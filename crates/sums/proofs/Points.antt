@@ -20,7 +20,7 @@ use Rattle.algebra.proofs.Free.{free-below, free-low}
 use Rattle.algebra.specs.Coding.{Coding}
 use Rattle.algebra.specs.Shape.{Field, FieldLaws}
 use Rattle.algebra.specs.Plain.{Working}
-use Rattle.kernel.specs.Runs.{cell, Run, filled, sampled}
+use Rattle.kernel.specs.Inner.{cell, Run, filled, sampled}
 use Rattle.kernel.proofs.Rows.{row-before, cell-is, cell-other}
 use Rattle.layout.specs.declared.Layout.{Layout}
 use Rattle.layout.specs.Layout.{digits, parityRacks, trayLimit, Cabinet}

@@ -20,9 +20,9 @@ use Rattle.algebra.specs.Coding.{Coding}
 use Rattle.algebra.specs.Shape.{Field, FieldLaws}
 use Rattle.algebra.specs.Plain.{plus, minus, times, Working}
 use Rattle.algebra.proofs.Plain.{elem-zero, elem-plus, elem-minus, elem-times}
-use Rattle.kernel.specs.Runs.{cell, Run, filled, addedMultiple}
+use Rattle.kernel.specs.Inner.{cell, Run, filled, addedMultiple}
 use Rattle.kernel.proofs.Rows.{row-before, cell-is, cell-other}
-use Rattle.columns.specs.Columns.{column, Systems, Solved}
+use Rattle.columns.specs.Inner.{column, Systems, Solved}
 use Rattle.layout.specs.declared.Layout.{Layout}
 use Rattle.layout.specs.Layout.{digits, parityRacks, trayLimit, Cabinet}
 use Rattle.layout.proofs.Facts.{bounds}

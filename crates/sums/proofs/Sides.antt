@@ -19,7 +19,7 @@ use Rattle.algebra.specs.Coding.{Coding}
 use Rattle.algebra.specs.Shape.{Field, FieldLaws}
 use Rattle.algebra.specs.Plain.{plus, times, Working}
 use Rattle.algebra.proofs.Plain.{elem-zero, elem-plus, elem-times}
-use Rattle.kernel.specs.Runs.{cell, Run, filled, copied, addedProduct}
+use Rattle.kernel.specs.Inner.{cell, Run, filled, copied, addedProduct}
 use Rattle.kernel.proofs.Rows.{row-before, cell-is}
 use Rattle.layout.specs.declared.Layout.{Layout}
 use Rattle.layout.specs.Layout.{digits, groups, parityRacks, trayLimit, layerLimit, Cabinet}
@@ -27,7 +27,7 @@ use Rattle.layout.proofs.Facts.{bounds}
 use Rattle.codeword.specs.Codeword.{pointAt}
 use Rattle.blocks.specs.Blocks.{Block}
 use Rattle.blocks.proofs.Digits.{run-pos}
-use Rattle.syndrome.specs.Syndrome.{Room, Terms}
+use Rattle.syndrome.specs.Inner.{Room, Terms}
 use Rattle.rule.specs.Lost.{sentSymbol}
 use Rattle.sums.specs.Inner.{sideTerm, Groups, RackPowers, Sharing, ShareTerms, SidesTo, ShareAdded}
 use Rattle.sums.proofs.Steps.{row-in, share-in}

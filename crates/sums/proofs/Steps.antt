@@ -34,7 +34,7 @@ use Rattle.layout.proofs.Numbers.{total, digits-small}
 use Rattle.codeword.specs.Codeword.{shapeOf, pointAt}
 use Rattle.blocks.specs.Blocks.{Block}
 use Rattle.blocks.proofs.Digits.{digit-low}
-use Rattle.syndrome.specs.Syndrome.{DigitPowers}
+use Rattle.syndrome.specs.Inner.{DigitPowers}
 use Rattle.sums.specs.Inner.{RackPowers}
 
 -- the unknowns' places, one helper after another

@@ -14,7 +14,7 @@ use Rattle.algebra.specs.Repair.{helperPlace, hostSum}
 use Rattle.algebra.specs.Field.{Ops}
 use Rattle.algebra.specs.Coding.{Coding}
 use Rattle.algebra.specs.Shape.{Field}
-use Rattle.kernel.specs.Runs.{cell}
+use Rattle.kernel.specs.Inner.{cell}
 use Rattle.layout.specs.declared.Layout.{Layout}
 use Rattle.layout.specs.Layout.{digits, groups, parityRacks, trayLimit, Cabinet}
 use Rattle.codeword.specs.Codeword.{shapeOf, pointAt}

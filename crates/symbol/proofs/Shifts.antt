@@ -39,18 +39,18 @@ masked-is a b k r h l e =
     ap (bitAnd a) (wrap (b / 2 ^ k % 2) r (mod-lt (b / 2 ^ k) (zero-lt-suc 1)) l (rw (sym (and-mask (b / 2 ^ k) 1)) e)) ∙ keep (b / 2 ^ k % 2) a (mod-lt (b / 2 ^ k) (zero-lt-suc 1)) h
 
 -- the sum of the masked doubles
-pub ladder-sum : (a b : ℕ) → a < 256 →
+pub shift-add-sum : (a b : ℕ) → a < 256 →
     b / 1 % 2 * a ⊕ (b / 2 % 2 * mulz a ⊕ (b / 4 % 2 * mulz (mulz a) ⊕ b / 8 % 2 * mulz (mulz (mulz a)))) ⊕ (b / 16 % 2 * mulz (mulz (mulz (mulz a)))
     ⊕ (b / 32 % 2 * mulz (mulz (mulz (mulz (mulz a)))) ⊕ (b / 64 % 2 * mulz (mulz (mulz (mulz (mulz (mulz a)))))
     ⊕ b / 128 % 2 * mulz (mulz (mulz (mulz (mulz (mulz (mulz a)))))))))
     ≡ a ⊗ b
 unfolding _⊗_ shiftAdd
-ladder-sum a b h = sym (⊗-comm a b ∙ simp (mod-eq-of-lt h, div-div-eq-div-mul, ⊕-zero, ⊕-assoc, div-one))
+shift-add-sum a b h = sym (⊗-comm a b ∙ simp (mod-eq-of-lt h, div-div-eq-div-mul, ⊕-zero, ⊕-assoc, div-one))
 
-pub ladder-is : (a b a1 a2 a3 a4 a5 a6 a7 m0 m1 m2 m3 m4 m5 m6 m7 : ℕ) → a < 256 →
+pub shift-add-is : (a b a1 a2 a3 a4 a5 a6 a7 m0 m1 m2 m3 m4 m5 m6 m7 : ℕ) → a < 256 →
     a1 ≡ mulz a → a2 ≡ mulz a1 → a3 ≡ mulz a2 → a4 ≡ mulz a3 → a5 ≡ mulz a4 → a6 ≡ mulz a5 → a7 ≡ mulz a6 →
     m0 ≡ b / 1 % 2 * a → m1 ≡ b / 2 % 2 * a1 → m2 ≡ b / 4 % 2 * a2 → m3 ≡ b / 8 % 2 * a3 → m4 ≡ b / 16 % 2 * a4 →
     m5 ≡ b / 32 % 2 * a5 → m6 ≡ b / 64 % 2 * a6 → m7 ≡ b / 128 % 2 * a7 →
     bitXor (bitXor m0 (bitXor m1 (bitXor m2 m3))) (bitXor m4 (bitXor m5 (bitXor m6 m7))) ≡ a ⊗ b
 unfolding _⊕_
-ladder-is a b a1 a2 a3 a4 a5 a6 a7 m0 m1 m2 m3 m4 m5 m6 m7 h e1 e2 e3 e4 e5 e6 e7 f0 f1 f2 f3 f4 f5 f6 f7 = rw (f0, f1, f2, f3, f4, f5, f6, f7, e7, e6, e5, e4, e3, e2, e1) (ladder-sum a b h)
+shift-add-is a b a1 a2 a3 a4 a5 a6 a7 m0 m1 m2 m3 m4 m5 m6 m7 h e1 e2 e3 e4 e5 e6 e7 f0 f1 f2 f3 f4 f5 f6 f7 = rw (f0, f1, f2, f3, f4, f5, f6, f7, e7, e6, e5, e4, e3, e2, e1) (shift-add-sum a b h)

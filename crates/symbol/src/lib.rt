@@ -1,14 +1,14 @@
 // The symbols: the field of 256 by the polynomial x^8 + x^4 + x^3 + x^2 + 1 with the root 2, as numbers below 256. Promises that each function gives the
 // definition's sum, product, inverse or power for every symbol (specs/Arithmetic.antt), and that the symbols are a field whose root has the order 255
 // (proofs/Elem.antt).
-pub mod ladder;
 mod logs;
 pub mod plain;
 pub mod powers;
+pub mod shift_add;
 
-use ladder::product;
 use logs::log_at;
 use powers::power_at;
+use shift_add::product;
 ghost use mathlib.Core.Path.{_≡_};
 ghost use Rattle.algebra.specs.Field.{Ops};
 ghost use Rattle.symbol.specs.Arithmetic.{_⊕_, _⊗_, root, power, zpow};

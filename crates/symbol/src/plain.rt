@@ -42,7 +42,7 @@ pub fn difference(a: u8, b: u8) -> u8
 pub fn product(a: u8, b: u8) -> u8
     ensures { λ r. ⌜ r ≡ times gf256 a b ⌝ }
 {
-    crate::ladder::product(a, b)
+    crate::shift_add::product(a, b)
 }
 
 // A product that need not be reduced, and a sum with such a one (lazy reduction). A byte always is.

@@ -21,13 +21,13 @@ use Rattle.algebra.specs.Coding.{Coding}
 use Rattle.algebra.specs.Shape.{Field, FieldLaws}
 use Rattle.algebra.specs.Plain.{Working}
 use Rattle.algebra.proofs.Plain.{elem-zero}
-use Rattle.kernel.specs.Runs.{cell, Run, filled, copied}
+use Rattle.kernel.specs.Inner.{cell, Run, filled, copied}
 use Rattle.kernel.proofs.Rows.{row-before, cell-is}
 use Rattle.layout.specs.declared.Layout.{Layout}
 use Rattle.layout.specs.Layout.{trays, layers}
 use Rattle.blocks.specs.Blocks.{Block}
 use Rattle.codeword.specs.Codeword.{symbolAt, pointAt}
-use Rattle.syndrome.specs.Syndrome.{entryOf, Listed, survivorAt, Room, TrayPoints, Terms, TrayTerms, KeptTerms, Sums}
+use Rattle.syndrome.specs.Inner.{entryOf, Listed, survivorAt, Room, TrayPoints, Terms, TrayTerms, KeptTerms, Sums}
 
 module _ {A : Type 0} {f : Field A} (W : Working f) where
   open Field f using (ops)

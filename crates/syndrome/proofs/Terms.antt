@@ -17,10 +17,10 @@ use Rattle.algebra.specs.Coding.{Coding}
 use Rattle.algebra.specs.Shape.{Field, FieldLaws}
 use Rattle.algebra.specs.Plain.{Working}
 use Rattle.algebra.proofs.Plain.{elem-plus}
-use Rattle.kernel.specs.Runs.{cell, Run, Standing, copied, added, accrued, stepped}
+use Rattle.kernel.specs.Inner.{cell, Run, Standing, copied, added, accrued, stepped}
 use Rattle.kernel.proofs.Standing.{standing-run}
 use Rattle.kernel.proofs.Rows.{row-in, cell-other, row-zero, zero-cell}
-use Rattle.syndrome.specs.Syndrome.{Room, term, Terms, Later, Adding}
+use Rattle.syndrome.specs.Inner.{Room, term, Terms, Later, Adding}
 
 module _ {A : Type 0} {f : Field A} (W : Working f) where
   open Field f using (ops)

@@ -13,12 +13,12 @@ use Rattle.algebra.specs.Lagrange.{check}
 use Rattle.algebra.specs.Erasure.{fill}
 use Rattle.algebra.proofs.Sum.{sum-congr}
 use Rattle.algebra.specs.Shape.{Field}
-use Rattle.kernel.specs.Runs.{cell}
+use Rattle.kernel.specs.Inner.{cell}
 use Rattle.kernel.proofs.Rows.{row-before}
 use Rattle.layout.specs.declared.Layout.{Layout}
 use Rattle.layout.specs.Layout.{trays}
 use Rattle.codeword.specs.Codeword.{symbolAt, pointAt, checkAt}
-use Rattle.syndrome.specs.Syndrome.{Listed, entryOf, survivorAt, Sums}
+use Rattle.syndrome.specs.Inner.{Listed, entryOf, survivorAt, Sums}
 
 -- a row and a column lie in the sums
 pub sum-in : (sums : List ℕ) (w r t j : ℕ) → r * w ≤ length sums → t < r → j < w → t * w + j < length sums

@@ -8,16 +8,16 @@ use symbol257::plain::product;
 ghost use mathlib.Core.Path.{_≡_};
 ghost use Prim.Native.Nat.{ℕ, _+_, _*_, _/_, _^_, _<_, _≤_};
 ghost use lib.ListN.{length};
-ghost use Rattle.kernel.specs.Runs.{Run};
+ghost use Rattle.kernel.specs.Inner.{Run};
 ghost use Rattle.symbol257.specs.Elem.{gf257};
 ghost use Rattle.layout.specs.Layout.{trays, digits, layers};
 ghost use Rattle.blocks.specs.Blocks.{Block};
-ghost use Rattle.syndrome.specs.Syndrome.{Listed, Room, stair, DigitPowers, TrayPoints, Terms, Later, TrayTerms, KeptTerms, Sums};
+ghost use Rattle.syndrome.specs.Inner.{Listed, Room, powerRun, DigitPowers, TrayPoints, Terms, Later, TrayTerms, KeptTerms, Sums};
 
 // s runs of equal symbols, each run z times the one before.
-fn stairs(row: &mut [u16], run: usize, s: usize, first: u16, z: u16)
+fn power_runs(row: &mut [u16], run: usize, s: usize, first: u16, z: u16)
     requires { ⌜ (s * run ≤ length (now row)) × (0 < run) ⌝ }
-    ensures { λ _. ⌜ Run (stair gf257 z first run) (now (row .entry)) (now (row .exit)) 0 (s * run) ⌝ }
+    ensures { λ _. ⌜ Run (powerRun gf257 z first run) (now (row .entry)) (now (row .exit)) 0 (s * run) ⌝ }
 {
     let mut a = 0usize;
     let mut v = first;
@@ -29,12 +29,21 @@ fn stairs(row: &mut [u16], run: usize, s: usize, first: u16, z: u16)
 }
 
 // A symbol times z to the power of digit i, which runs through the block.
-fn waves(row: &mut [u16], l: Layout, w: usize, first: usize, i: u32, run: usize, start: u16, z: u16)
+fn repeated_powers(
+    row: &mut [u16],
+    l: Layout,
+    w: usize,
+    first: usize,
+    i: u32,
+    run: usize,
+    start: u16,
+    z: u16,
+)
     requires { ⌜ Block l w first × (w ≤ length (now row)) × (run ≡ digits l ^ i) × (run < w) ⌝ }
     ensures { λ _. ⌜ DigitPowers gf257 l w first i start z (now (row .exit)) ⌝ }
 {
     let s = layout::digit_count(l) as usize;
-    stairs(row, run, s, start, z);
+    power_runs(row, run, s, start, z);
     kernel257::extend(row, s * run, w / (s * run));
 }
 
@@ -45,7 +54,7 @@ pub fn digit_powers(row: &mut [u16], l: Layout, w: usize, first: usize, i: u32, 
 {
     let run = blocks::block_width(l, i);
     if run < w {
-        waves(row, l, w, first, i, run, start, z);
+        repeated_powers(row, l, w, first, i, run, start, z);
         return;
     }
     let s = layout::digit_count(l);
@@ -113,7 +122,7 @@ fn tray_terms(
     add_terms(sums, w, r, cur, row);
 }
 
-// Adds them unless the tray is listed: its bytes are not looked at.
+// Adds them unless the tray is listed: its symbols are not looked at.
 fn kept_terms(
     sums: &mut [u16],
     l: Layout,

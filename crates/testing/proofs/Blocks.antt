@@ -19,7 +19,7 @@ use Rattle.layout.specs.declared.Layout.{Layout}
 use Rattle.layout.specs.Layout.{trays, checks, layers}
 use Rattle.codeword.specs.Codeword.{checkAt}
 use Rattle.codeword.specs.Test.{FirstBad}
-use Rattle.syndrome.specs.Syndrome.{Room, Sums}
+use Rattle.syndrome.specs.Inner.{Room, Sums}
 use Rattle.syndrome.proofs.Whole.{sums-are}
 use Rattle.testing.specs.Inner.{FirstIn, FirstBroken}
 

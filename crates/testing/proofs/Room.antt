@@ -13,7 +13,7 @@ use Rattle.layout.specs.declared.Layout.{Layout}
 use Rattle.layout.specs.Layout.{checks, digits, layers}
 use Rattle.codeword.specs.Inner.{Scannable}
 use Rattle.blocks.specs.Blocks.{blockLimit, roomLimit, Block}
-use Rattle.syndrome.specs.Syndrome.{Room}
+use Rattle.syndrome.specs.Inner.{Room}
 use Rattle.testing.specs.Inner.{FirstBroken}
 use Rattle.blocks.proofs.Room.{roomOf, rowOf, room-long, row-long}
 use Rattle.blocks.proofs.Whole.{start-fits, width-pos, count-whole, block-of}

@@ -11,7 +11,7 @@ use Rattle.symbol.specs.Arithmetic.{_⊕_, _⊗_, mulz}
 use Rattle.symbol.proofs.Xor.{⊕-swap, ⊕-zero, ⊕-lt}
 use Rattle.symbol.proofs.Laws.{⊕-⊗, ⊗-⊕, ⊗-zero, ⊗-assoc, ⊗-lt}
 use Rattle.symbol.proofs.Halves.{twice-times, masked-times, half}
-use Rattle.kernel.specs.Runs.{Run}
+use Rattle.kernel.specs.Inner.{Run}
 use Rattle.kernel.proofs.Runs.{run-more}
 use Rattle.weigh.specs.Weigh.{mix, three, five}
 

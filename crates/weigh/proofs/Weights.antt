@@ -9,7 +9,6 @@ use lib.Dec.{T, eqb, eqb→eq, lit<}
 use lib.ListN.{length, getD}
 use Rattle.algebra.specs.Field.{Ops, Laws}
 use Rattle.algebra.specs.Sum.{sum, pow}
-use Rattle.algebra.specs.Plain.{plus}
 use Rattle.algebra.proofs.Ring.{ring, one-mul}
 use Rattle.algebra.proofs.Pow.{pow-zero, one-pow}
 use Rattle.algebra.proofs.Plain.{elem-plus}
@@ -18,7 +17,7 @@ use Rattle.symbol.specs.Elem.{Elem, elem, ops, z, gf256}
 use Rattle.symbol.proofs.Tables.{log, logs, zpow-log}
 use Rattle.symbol.proofs.Elem.{laws, elem-zero, elem-one, elem-⊕, elem-⊗, elem-power, elem-zpow}
 use Rattle.symbol.proofs.Working.{working}
-use Rattle.kernel.specs.Runs.{Run, addedApart, sumApart}
+use Rattle.kernel.specs.Inner.{Run, added}
 use Rattle.weigh.specs.Weigh.{mix, three, five, weight, weightedTerm, Weighed}
 
 -- ---- the factors
@@ -55,7 +54,7 @@ five-terms : (a b c d e p q r s : Elem) → ops .add a (ops .add (ops .add (ops 
     ≡ ops .add (ops .add (ops .add (ops .add (ops .add (ops .zero) a) (ops .mul p b)) (ops .mul q c)) (ops .mul r d)) (ops .mul s e)
 five-terms a b c d e p q r s = let L = laws in simp (ring, L)
 
-turn-terms : (a b c p q : Elem) → ops .add (ops .add (ops .add (ops .add (ops .zero) a) (ops .mul p b)) (ops .mul q c)) (ops .add (ops .add (ops .zero) b) c)
+turn-terms : (a b c p q : Elem) → ops .add (ops .add (ops .add (ops .add (ops .add (ops .zero) a) (ops .mul p b)) (ops .mul q c)) b) c
     ≡ ops .add (ops .add (ops .add (ops .zero) a) (ops .mul (ops .add p (ops .one)) b)) (ops .mul (ops .add q (ops .one)) c)
 turn-terms a b c p q = let L = laws in simp (ring, L)
 
@@ -110,16 +109,21 @@ next-third = ap (λ x. ops .add x (ops .one)) (sym (weight-is 3 214 1 2 215 thir
     c : 215 ⊕ 1 ≡ 214
     c = unfold _⊕_ in refl
 
-three-two : (src was is : List ℕ) (from gap len : ℕ) → Weighed gf256 3 1 src from gap len was → Run (addedApart gf256 was 0 src (from + gap) gap 2) was is 0 len →
-    Weighed gf256 3 2 src from gap len is
-unfolding addedApart sumApart sum weightedTerm
-three-two src was is from gap len k r = record {
+-- a run plus another
+run-plus : (src was is : List ℕ) (from len : ℕ) → Run (added gf256 was 0 src from) was is 0 len → (j : ℕ) → j < len →
+    elem (getD is j 0) ≡ ops .add (elem (getD was j 0)) (elem (getD src (from + j) 0))
+unfolding added
+run-plus src was is from len r j h =
+    ap (λ n. elem (getD is n 0)) (sym (zero-add j)) ∙ ap elem (r .done j h)
+    ∙ elem-plus working (getD was (0 + j) 0) (getD src (from + j) 0) ∙ ap (λ n. ops .add (elem (getD was n 0)) (elem (getD src (from + j) 0))) (zero-add j)
+
+three-two : (src was mid is : List ℕ) (from gap len : ℕ) → Weighed gf256 3 1 src from gap len was → Run (added gf256 was 0 src (from + gap)) was mid 0 len →
+    Run (added gf256 mid 0 src (from + gap + gap)) mid is 0 len → Weighed gf256 3 2 src from gap len is
+unfolding sum weightedTerm
+three-two src was mid is from gap len k r t = record {
   at = λ j h.
-      ap (λ n. elem (getD is n 0)) (sym (zero-add j)) ∙ ap elem (r .done j h)
-      ∙ elem-plus working (getD was (0 + j) 0) (plus gf256 (plus gf256 0 (getD src (from + gap + j + 0 * gap) 0)) (getD src (from + gap + j + 1 * gap) 0))
-      ∙ ap₂ (ops .add) (ap (λ n. elem (getD was n 0)) (zero-add j) ∙ k .at j h)
-      (elem-plus working (plus gf256 0 (getD src (from + gap + j + 0 * gap) 0)) (getD src (from + gap + j + 1 * gap) 0)
-      ∙ ap₂ (ops .add) (elem-plus working 0 (getD src (from + gap + j + 0 * gap) 0) ∙ ap₂ (ops .add) elem-zero (second j)) (last j))
+      run-plus src mid is (from + gap + gap) len t j h
+      ∙ ap₂ (ops .add) (run-plus src was mid (from + gap) len r j h ∙ ap₂ (ops .add) (k .at j h) (second j)) (last j)
       ∙ turn-terms (ops .mul (weight gf256 3 1 0) (elem (getD src (from + 0 * gap + j) 0))) (elem (getD src (from + 1 * gap + j) 0)) (elem (getD src (from + 2 * gap + j) 0))
       (weight gf256 3 1 1) (weight gf256 3 1 2)
       ∙ ap₂ (ops .add)
@@ -127,11 +131,11 @@ three-two src was is from gap len k r = record {
       (ap (λ x. ops .mul x (elem (getD src (from + 2 * gap + j) 0))) next-third);
 }
   where
-    second : (j : ℕ) → elem (getD src (from + gap + j + 0 * gap) 0) ≡ elem (getD src (from + 1 * gap + j) 0)
-    second j = let e : from + gap + j + 0 * gap ≡ from + 1 * gap + j = omega arith in ap (λ n. elem (getD src n 0)) e
+    second : (j : ℕ) → elem (getD src (from + gap + j) 0) ≡ elem (getD src (from + 1 * gap + j) 0)
+    second j = let e : from + gap + j ≡ from + 1 * gap + j = omega arith in ap (λ n. elem (getD src n 0)) e
 
-    last : (j : ℕ) → elem (getD src (from + gap + j + 1 * gap) 0) ≡ elem (getD src (from + 2 * gap + j) 0)
-    last j = let e : from + gap + j + 1 * gap ≡ from + 2 * gap + j = omega arith in ap (λ n. elem (getD src n 0)) e
+    last : (j : ℕ) → elem (getD src (from + gap + gap + j) 0) ≡ elem (getD src (from + 2 * gap + j) 0)
+    last j = let e : from + gap + gap + j ≡ from + 2 * gap + j = omega arith in ap (λ n. elem (getD src n 0)) e
 
 module _ (m : ℕ) (src was is : List ℕ) (from gap len : ℕ) where
   three-sums : (p q : ℕ) → elem p ≡ weight gf256 3 m 1 → elem q ≡ weight gf256 3 m 2 → Run (three src from gap p q) was is 0 len → Weighed gf256 3 m src from gap len is
@@ -179,9 +183,9 @@ module _ (m : ℕ) (src was is : List ℕ) (from gap len : ℕ) where
   unfolding power _⊗_ shiftAdd mulz _⊕_
   three-once = three-case 1 214 215 tt tt
 
-  pub three-turn : m < 3 → ¬ (m ≡ 0) → ¬ (m ≡ 1) → (m ≡ 2 → Weighed gf256 3 1 src from gap len was) → Run (addedApart gf256 was 0 src (from + gap) gap 2) was is 0 len →
-      Weighed gf256 3 m src from gap len is
-  three-turn h x y k r = let e : m ≡ 2 = omega arith in subst (λ n. Weighed gf256 3 n src from gap len is) (sym e) (three-two src was is from gap len (k e) r)
+  pub three-turn : (mid : List ℕ) → m < 3 → ¬ (m ≡ 0) → ¬ (m ≡ 1) → (m ≡ 2 → Weighed gf256 3 1 src from gap len was) → Run (added gf256 was 0 src (from + gap)) was mid 0 len →
+      Run (added gf256 mid 0 src (from + gap + gap)) mid is 0 len → Weighed gf256 3 m src from gap len is
+  three-turn mid h x y k r t = let e : m ≡ 2 = omega arith in subst (λ n. Weighed gf256 3 n src from gap len is) (sym e) (three-two src was mid is from gap len (k e) r t)
 
   five-case : (k p q v w : ℕ) → T (eqb (power (power 10 1) k) p) → T (eqb (power (power 10 2) k) q) → T (eqb (power (power 10 3) k) v) → T (eqb (power (power 10 4) k) w) → m ≡ k →
       Run (five src from gap p q v w) was is 0 len → Weighed gf256 5 m src from gap len is

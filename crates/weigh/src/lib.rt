@@ -1,13 +1,13 @@
 // Sums over the places of racks of three and of five, each place times a power of its factor. The bits of the factors go from the highest down, so that a
 // symbol is doubled once for all places together; the factors are written out, so that the compiler leaves out the bits that are not set. One loop a sum, with
 // no branch or table.
-use symbol::ladder::masked;
-use symbol::ladder::twice;
+use symbol::shift_add::masked;
+use symbol::shift_add::twice;
 ghost use mathlib.Core.Path.{_≡_};
 ghost use Prim.Native.Nat.{_+_, _<_, _≤_};
 ghost use lib.ListN.{length};
 ghost use Rattle.symbol.specs.Elem.{gf256};
-ghost use Rattle.kernel.specs.Runs.{Run};
+ghost use Rattle.kernel.specs.Inner.{Run};
 ghost use Rattle.weigh.specs.Weigh.{mix, three, five, Weighed};
 
 // Four symbols times their factors.
@@ -91,7 +91,8 @@ pub fn weigh_three(out: &mut [u8], len: usize, src: &[u8], from: usize, gap: usi
         sum_three(out, len, src, from, gap, 214, 215);
         return;
     }
-    kernel::add_apart(out, 0, len, src, from + gap, gap, 2);
+    kernel::add(out, 0, len, src, from + gap);
+    kernel::add(out, 0, len, src, from + gap + gap);
 }
 
 // The same over racks of five: the factors are 1, z^51, z^102, z^153 and z^204 to the power m.

@@ -5,7 +5,7 @@ use borrow.Author.Needs.{needs}
 use Rattle.symbol.specs.Elem.{gf256}
 use Rattle.symbol.proofs.Working.{working}
 use Rattle.cards.specs.Inner.{partSum}
-use Rattle.cards.proofs.Mend.{part-none, part-more, part-all, helpers-limit, digit-limit, multiplier-in, groups-limit, helper-limit, group-limit, share-in}
+use Rattle.cards.proofs.Repair.{part-none, part-more, part-all, helpers-limit, digit-limit, multiplier-in, groups-limit, helper-limit, group-limit, share-in}
 use Rattle.cards.proofs.card_sum.Statement.{statement}
 use Rattle.cards.proofs.card_sum.Tie as tie
 

@@ -6,7 +6,7 @@ use borrow.Author.Needs.{needs}
 use Rattle.symbol.specs.Elem.{gf256}
 use Rattle.symbol.proofs.Working.{working}
 use Rattle.cards.specs.Inner.{SumsBelow}
-use Rattle.cards.proofs.Mend.{below-none, sums-more, sums-end}
+use Rattle.cards.proofs.Repair.{below-none, sums-more, sums-end}
 use Rattle.cards.proofs.card_sums.Statement.{statement}
 use Rattle.cards.proofs.card_sums.Tie as tie
 

@@ -6,7 +6,7 @@ use borrow.Author.Needs.{needs}
 use Rattle.symbol257.specs.Elem.{gf257}
 use Rattle.symbol257.proofs.Working.{working}
 use Rattle.cards.specs.Inner.{partSum}
-use Rattle.cards.proofs.Mend.{part-none, part-more, part-all, helpers-limit, digit-limit, multiplier-in, groups-limit, helper-limit, group-limit, share-in}
+use Rattle.cards.proofs.Repair.{part-none, part-more, part-all, helpers-limit, digit-limit, multiplier-in, groups-limit, helper-limit, group-limit, share-in}
 use Rattle.cards257.proofs.card_sum.Statement.{statement}
 use Rattle.cards257.proofs.card_sum.Tie as tie
 

@@ -7,7 +7,7 @@ use borrow.Author.Needs.{needs}
 use Rattle.symbol257.specs.Elem.{gf257}
 use Rattle.symbol257.proofs.Working.{working}
 use Rattle.cards.specs.Inner.{SumsBelow}
-use Rattle.cards.proofs.Mend.{below-none, sums-more, sums-end}
+use Rattle.cards.proofs.Repair.{below-none, sums-more, sums-end}
 use Rattle.cards257.proofs.card_sums.Statement.{statement}
 use Rattle.cards257.proofs.card_sums.Tie as tie
 

@@ -5,8 +5,8 @@ use lib.ListN.{length}
 use borrow.Author.Needs.{needs}
 use Rattle.symbol.specs.Elem.{gf256}
 use Rattle.symbol.proofs.Working.{working}
-use Rattle.kernel.specs.Runs.{Run}
-use Rattle.columns.specs.Columns.{weighted}
+use Rattle.kernel.specs.Inner.{Run}
+use Rattle.columns.specs.Inner.{weighted}
 use Rattle.columns.proofs.Rows.{columns-none, columns-more, columns-end, column-fits, to-fits, from-fits, column-next, column-sums, column-coefs, count-fits, coef-fits, next-fits}
 use Rattle.columns.proofs.add_columns.Statement.{statement}
 use Rattle.columns.proofs.add_columns.Tie as tie

@@ -5,7 +5,7 @@ use lib.ListN.{length}
 use borrow.Author.Needs.{needs}
 use Rattle.symbol.specs.Elem.{gf256}
 use Rattle.symbol.proofs.Working.{working}
-use Rattle.columns.specs.Columns.{Combined}
+use Rattle.columns.specs.Inner.{Combined}
 use Rattle.columns.proofs.Rows.{combined-none, combined-more, combined-end, found-in, found-fits, coefs-fits, places-of, row-room}
 use Rattle.columns.proofs.combine.Statement.{statement}
 use Rattle.columns.proofs.combine.Tie as tie

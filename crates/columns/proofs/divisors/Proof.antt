@@ -5,7 +5,7 @@ use lib.ListN.{length}
 use borrow.Author.Needs.{needs}
 use Rattle.symbol.specs.Elem.{gf256}
 use Rattle.symbol.proofs.Working.{working, minus-one-is}
-use Rattle.columns.specs.Columns.{Turned}
+use Rattle.columns.specs.Inner.{Turned}
 use Rattle.columns.proofs.Steps.{columns-next}
 use Rattle.columns.proofs.Dividing.{turned-start, divisors-of, all-in, whole-fits}
 use Rattle.columns.proofs.divisors.Statement.{statement}

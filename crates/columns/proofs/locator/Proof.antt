@@ -5,7 +5,7 @@ use lib.ListN.{length}
 use borrow.Author.Needs.{needs}
 use Rattle.symbol.specs.Elem.{gf256}
 use Rattle.symbol.proofs.Working.{working}
-use Rattle.columns.specs.Columns.{Locator}
+use Rattle.columns.specs.Inner.{Locator}
 use Rattle.columns.proofs.Steps.{locator-start, locator-more, locator-end, columns-next, first-in, rest-low, rest-in, whole-fits, top-in}
 use Rattle.columns.proofs.locator.Statement.{statement}
 use Rattle.columns.proofs.locator.Tie as tie

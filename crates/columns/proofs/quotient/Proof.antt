@@ -5,7 +5,7 @@ use lib.ListN.{length}
 use borrow.Author.Needs.{needs}
 use Rattle.symbol.specs.Elem.{gf256}
 use Rattle.symbol.proofs.Working.{working}
-use Rattle.columns.specs.Columns.{Quotient}
+use Rattle.columns.specs.Inner.{Quotient}
 use Rattle.columns.proofs.Steps.{point-in, point-fits}
 use Rattle.columns.proofs.Dividing.{quotient-start, quotient-more, quotient-end, top-fits, top-in, down-fits, from-few, from-fits, next-after, next-in, product-in}
 use Rattle.columns.proofs.quotient.Statement.{statement}

@@ -5,7 +5,7 @@ use lib.ListN.{length}
 use borrow.Author.Needs.{needs}
 use Rattle.symbol.specs.Elem.{gf256}
 use Rattle.symbol.proofs.Working.{working}
-use Rattle.columns.specs.Columns.{Solved}
+use Rattle.columns.specs.Inner.{Solved}
 use Rattle.columns.proofs.Rows.{solved-none, solved-more, solved-end, systems-next}
 use Rattle.columns.proofs.solve_rows.Statement.{statement}
 use Rattle.columns.proofs.solve_rows.Tie as tie

@@ -3,8 +3,8 @@ use Prim.Native.Nat.{_-_, _*_, _≤_}
 use native.Mathlib.Omega.{arith}
 use lib.ListN.{length}
 use borrow.Author.Needs.{needs}
-use Rattle.kernel.specs.Runs.{Run}
-use Rattle.columns.specs.Columns.{stretched}
+use Rattle.kernel.specs.Inner.{Run}
+use Rattle.columns.specs.Inner.{stretched}
 use Rattle.columns.proofs.Rows.{spread-none, spread-more, spread-end, spread-in, spread-fits}
 use Rattle.columns.proofs.spread_runs.Statement.{statement}
 use Rattle.columns.proofs.spread_runs.Tie as tie

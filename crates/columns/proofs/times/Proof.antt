@@ -5,7 +5,7 @@ use lib.ListN.{length}
 use borrow.Author.Needs.{needs}
 use Rattle.symbol.specs.Elem.{gf256}
 use Rattle.symbol.proofs.Working.{working}
-use Rattle.columns.specs.Columns.{Timing}
+use Rattle.columns.specs.Inner.{Timing}
 use Rattle.columns.proofs.Steps.{timing-none, timing-more, timed-of, shift-in, shift-fits, point-fits, point-in}
 use Rattle.columns.proofs.times.Statement.{statement}
 use Rattle.columns.proofs.times.Tie as tie

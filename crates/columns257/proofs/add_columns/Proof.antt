@@ -6,8 +6,8 @@ use lib.ListN.{length}
 use borrow.Author.Needs.{needs}
 use Rattle.symbol257.specs.Elem.{gf257}
 use Rattle.symbol257.proofs.Working.{working}
-use Rattle.kernel.specs.Runs.{Run}
-use Rattle.columns.specs.Columns.{weighted}
+use Rattle.kernel.specs.Inner.{Run}
+use Rattle.columns.specs.Inner.{weighted}
 use Rattle.columns.proofs.Rows.{columns-none, columns-more, columns-end, column-fits, to-fits, from-fits, column-next, column-sums, column-coefs, count-fits, coef-fits, next-fits}
 use Rattle.columns257.proofs.add_columns.Statement.{statement}
 use Rattle.columns257.proofs.add_columns.Tie as tie

@@ -6,7 +6,7 @@ use lib.ListN.{length}
 use borrow.Author.Needs.{needs}
 use Rattle.symbol257.specs.Elem.{gf257}
 use Rattle.symbol257.proofs.Working.{working}
-use Rattle.columns.specs.Columns.{Combined}
+use Rattle.columns.specs.Inner.{Combined}
 use Rattle.columns.proofs.Rows.{combined-none, combined-more, combined-end, found-in, found-fits, coefs-fits, places-of, row-room}
 use Rattle.columns257.proofs.combine.Statement.{statement}
 use Rattle.columns257.proofs.combine.Tie as tie

@@ -6,7 +6,7 @@ use lib.ListN.{length}
 use borrow.Author.Needs.{needs}
 use Rattle.symbol257.specs.Elem.{gf257}
 use Rattle.symbol257.proofs.Working.{working, minus-one-is}
-use Rattle.columns.specs.Columns.{Turned}
+use Rattle.columns.specs.Inner.{Turned}
 use Rattle.columns.proofs.Steps.{columns-next}
 use Rattle.columns.proofs.Dividing.{turned-start, divisors-of, all-in, whole-fits}
 use Rattle.columns257.proofs.divisors.Statement.{statement}

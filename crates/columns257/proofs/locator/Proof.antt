@@ -6,7 +6,7 @@ use lib.ListN.{length}
 use borrow.Author.Needs.{needs}
 use Rattle.symbol257.specs.Elem.{gf257}
 use Rattle.symbol257.proofs.Working.{working}
-use Rattle.columns.specs.Columns.{Locator}
+use Rattle.columns.specs.Inner.{Locator}
 use Rattle.columns.proofs.Steps.{locator-start, locator-more, locator-end, columns-next, first-in, rest-low, rest-in, whole-fits, top-in}
 use Rattle.columns257.proofs.locator.Statement.{statement}
 use Rattle.columns257.proofs.locator.Tie as tie

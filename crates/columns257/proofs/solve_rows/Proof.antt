@@ -6,7 +6,7 @@ use lib.ListN.{length}
 use borrow.Author.Needs.{needs}
 use Rattle.symbol257.specs.Elem.{gf257}
 use Rattle.symbol257.proofs.Working.{working}
-use Rattle.columns.specs.Columns.{Solved}
+use Rattle.columns.specs.Inner.{Solved}
 use Rattle.columns.proofs.Rows.{solved-none, solved-more, solved-end, systems-next}
 use Rattle.columns257.proofs.solve_rows.Statement.{statement}
 use Rattle.columns257.proofs.solve_rows.Tie as tie

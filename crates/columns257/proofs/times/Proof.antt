@@ -6,7 +6,7 @@ use lib.ListN.{length}
 use borrow.Author.Needs.{needs}
 use Rattle.symbol257.specs.Elem.{gf257}
 use Rattle.symbol257.proofs.Working.{working}
-use Rattle.columns.specs.Columns.{Timing}
+use Rattle.columns.specs.Inner.{Timing}
 use Rattle.columns.proofs.Steps.{timing-none, timing-more, timed-of, shift-in, shift-fits, point-fits, point-in}
 use Rattle.columns257.proofs.times.Statement.{statement}
 use Rattle.columns257.proofs.times.Tie as tie

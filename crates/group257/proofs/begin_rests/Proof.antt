@@ -7,7 +7,7 @@ use borrow.Author.Needs.{needs}
 use Rattle.symbol257.specs.Elem.{gf257}
 use Rattle.symbol257.proofs.Working.{working}
 use Rattle.group.specs.Inner.{Begun}
-use Rattle.syndrome.proofs.Points.{stair-in, stair-fits}
+use Rattle.syndrome.proofs.Points.{power-run-in, power-run-fits}
 use Rattle.group.proofs.Rests.{begin-none, begin-more, begin-end, begin-from, begin-fits, begin-fits-2, begin-fits-3}
 use Rattle.group257.proofs.begin_rests.Statement.{statement}
 use Rattle.group257.proofs.begin_rests.Tie as tie
@@ -22,11 +22,11 @@ pub begin-rests-spec : {M : Type 1} → statement M
 begin-rests-spec =
     tie.close (tie.spec Inv-loop μ-loop
     (λ c. (omega arith, refl, begin-none working _ _ _ _ _))
-    (λ c. search stair-fits)
+    (λ c. search power-run-fits)
     (λ c. search (begin-fits-2 working))
     (λ c. search (begin-fits working))
     (λ c. search (begin-fits-3 working))
-    (λ c κs. (search stair-in, search (begin-from working)))
+    (λ c κs. (search power-run-in, search (begin-from working)))
     (λ c. omega arith)
     (λ c. omega arith)
     (λ c. (omega arith, search needs, search (begin-more working)))

@@ -4,7 +4,7 @@ use native.Mathlib.Omega.{arith}
 use lib.ListN.{length, length-set}
 use borrow.Author.Needs.{needs}
 use Rattle.symbol.specs.Elem.{gf256}
-use Rattle.kernel.specs.Runs.{Standing, accrued, stepped}
+use Rattle.kernel.specs.Inner.{Standing, accrued, stepped}
 use Rattle.kernel.proofs.Standing.{standing-none, standing-end, accrue-more, step-more}
 use Rattle.kernel.proofs.accrue.Statement.{statement}
 use Rattle.kernel.proofs.accrue.Tie as tie

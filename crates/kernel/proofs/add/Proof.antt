@@ -4,7 +4,7 @@ use native.Mathlib.Omega.{arith}
 use lib.ListN.{length, length-set}
 use borrow.Author.Needs.{needs}
 use Rattle.symbol.specs.Elem.{gf256}
-use Rattle.kernel.specs.Runs.{Run, added}
+use Rattle.kernel.specs.Inner.{Run, added}
 use Rattle.kernel.proofs.Runs.{run-none, run-end, add-more}
 use Rattle.kernel.proofs.add.Statement.{statement}
 use Rattle.kernel.proofs.add.Tie as tie

@@ -5,7 +5,7 @@ use lib.ListN.{length, length-set}
 use borrow.Author.Needs.{needs}
 use Rattle.symbol.specs.Elem.{gf256}
 use Rattle.symbol.proofs.Working.{working}
-use Rattle.kernel.specs.Runs.{Run, addedGrid}
+use Rattle.kernel.specs.Inner.{Run, addedGrid}
 use Rattle.kernel.proofs.Runs.{run-none, run-end}
 use Rattle.kernel.proofs.Apart.{grid-lies, grid-fits, add-grid-more}
 use Rattle.kernel.proofs.add_grid.Statement.{statement}

@@ -4,7 +4,7 @@ use native.Mathlib.Omega.{arith}
 use lib.ListN.{length, length-set}
 use borrow.Author.Needs.{needs}
 use Rattle.symbol.specs.Elem.{gf256}
-use Rattle.kernel.specs.Runs.{Run, addedProduct}
+use Rattle.kernel.specs.Inner.{Run, addedProduct}
 use Rattle.kernel.proofs.Runs.{run-none, run-end, product-more}
 use Rattle.kernel.proofs.add_product.Statement.{statement}
 use Rattle.kernel.proofs.add_product.Tie as tie

@@ -4,7 +4,7 @@ use native.Mathlib.Omega.{arith}
 use lib.ListN.{length, length-set}
 use borrow.Author.Needs.{needs}
 use Rattle.symbol.specs.Elem.{gf256}
-use Rattle.kernel.specs.Runs.{Spaced, addedSpaced}
+use Rattle.kernel.specs.Inner.{Spaced, addedSpaced}
 use Rattle.kernel.proofs.Spaced.{place-in, spaced-none, spaced-end, add-spaced-more}
 use Rattle.kernel.proofs.add_spaced.Statement.{statement}
 use Rattle.kernel.proofs.add_spaced.Tie as tie

@@ -2,7 +2,7 @@ use mathlib.Core.Path.{_≡_, refl}
 use Prim.Native.Nat.{_-_, _≤_}
 use native.Mathlib.Omega.{arith}
 use lib.ListN.{length, length-set}
-use Rattle.kernel.specs.Runs.{Run, filled}
+use Rattle.kernel.specs.Inner.{Run, filled}
 use Rattle.kernel.proofs.Runs.{run-none, run-end, fill-more}
 use Rattle.kernel.proofs.fill.Statement.{statement}
 use Rattle.kernel.proofs.fill.Tie as tie

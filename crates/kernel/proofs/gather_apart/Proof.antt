@@ -5,7 +5,7 @@ use lib.ListN.{length, getD}
 use Rattle.algebra.specs.Field.{Ops}
 use Rattle.symbol.specs.Elem.{gf256}
 use Rattle.symbol.proofs.Working.{working}
-use Rattle.kernel.specs.Runs.{apart}
+use Rattle.kernel.specs.Inner.{apart}
 use Rattle.kernel.proofs.Spaced.{place-in}
 use Rattle.kernel.proofs.Apart.{apart-none, apart-more, apart-end}
 use Rattle.kernel.proofs.gather_apart.Statement.{statement}

@@ -5,7 +5,7 @@ use lib.ListN.{length}
 use Rattle.algebra.specs.Field.{Ops}
 use Rattle.symbol.specs.Elem.{gf256}
 use Rattle.symbol.proofs.Working.{working}
-use Rattle.kernel.specs.Runs.{grid}
+use Rattle.kernel.specs.Inner.{grid}
 use Rattle.kernel.proofs.Rows.{row-before, row-end}
 use Rattle.kernel.proofs.Apart.{grid-none, grid-more, grid-end, row-first}
 use Rattle.kernel.proofs.gather_grid.Statement.{statement}

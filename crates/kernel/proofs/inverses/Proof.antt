@@ -5,7 +5,7 @@ use lib.ListN.{length, length-set}
 use borrow.Author.Needs.{needs}
 use Rattle.symbol.specs.Elem.{gf256}
 use Rattle.symbol.proofs.Working.{working}
-use Rattle.kernel.specs.Runs.{Inverted}
+use Rattle.kernel.specs.Inner.{Inverted}
 use Rattle.kernel.proofs.Inverse.{inverted-none, inverted-next, inverted-end}
 use Rattle.kernel.proofs.inverses.Statement.{statement}
 use Rattle.kernel.proofs.inverses.Tie as tie

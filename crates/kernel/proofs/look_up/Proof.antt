@@ -4,7 +4,7 @@ use native.Mathlib.Omega.{arith}
 use lib.ListN.{length, length-set}
 use borrow.Author.Needs.{needs}
 use Rattle.symbol.specs.Elem.{gf256}
-use Rattle.kernel.specs.Runs.{Run, lookedUp}
+use Rattle.kernel.specs.Inner.{Run, lookedUp}
 use Rattle.kernel.proofs.Runs.{run-none, run-end, look-more}
 use Rattle.kernel.proofs.look_up.Statement.{statement}
 use Rattle.kernel.proofs.look_up.Tie as tie

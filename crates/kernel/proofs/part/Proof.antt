@@ -4,7 +4,7 @@ use native.Mathlib.Omega.{arith}
 use lib.ListN.{length, length-set}
 use borrow.Author.Needs.{needs}
 use Rattle.symbol.specs.Elem.{gf256}
-use Rattle.kernel.specs.Runs.{Run, parted}
+use Rattle.kernel.specs.Inner.{Run, parted}
 use Rattle.kernel.proofs.Runs.{run-none, run-end, part-more}
 use Rattle.kernel.proofs.part.Statement.{statement}
 use Rattle.kernel.proofs.part.Tie as tie

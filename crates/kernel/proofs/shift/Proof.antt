@@ -4,7 +4,7 @@ use native.Mathlib.Omega.{arith}
 use lib.ListN.{length, length-set}
 use borrow.Author.Needs.{needs}
 use Rattle.symbol.specs.Elem.{gf256}
-use Rattle.kernel.specs.Runs.{Run, copied, shifted}
+use Rattle.kernel.specs.Inner.{Run, copied, shifted}
 use Rattle.kernel.proofs.Runs.{run-none, run-end, shift-more, carry-more}
 use Rattle.kernel.proofs.shift.Statement.{statement}
 use Rattle.kernel.proofs.shift.Tie as tie

@@ -5,7 +5,7 @@ use native.Mathlib.Omega.{arith}
 use lib.ListN.{length, length-set}
 use borrow.Author.Needs.{needs}
 use Rattle.symbol257.specs.Elem.{gf257}
-use Rattle.kernel.specs.Runs.{Standing, accrued, stepped}
+use Rattle.kernel.specs.Inner.{Standing, accrued, stepped}
 use Rattle.kernel.proofs.Standing.{standing-none, standing-end, accrue-more, step-more}
 use Rattle.kernel257.proofs.accrue.Statement.{statement}
 use Rattle.kernel257.proofs.accrue.Tie as tie

@@ -5,7 +5,7 @@ use native.Mathlib.Omega.{arith}
 use lib.ListN.{length, length-set}
 use borrow.Author.Needs.{needs}
 use Rattle.symbol257.specs.Elem.{gf257}
-use Rattle.kernel.specs.Runs.{Run, added}
+use Rattle.kernel.specs.Inner.{Run, added}
 use Rattle.kernel.proofs.Runs.{run-none, run-end, add-more}
 use Rattle.kernel257.proofs.add.Statement.{statement}
 use Rattle.kernel257.proofs.add.Tie as tie

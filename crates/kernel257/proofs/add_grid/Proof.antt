@@ -6,7 +6,7 @@ use lib.ListN.{length, length-set}
 use borrow.Author.Needs.{needs}
 use Rattle.symbol257.specs.Elem.{gf257}
 use Rattle.symbol257.proofs.Working.{working}
-use Rattle.kernel.specs.Runs.{Run, addedGrid}
+use Rattle.kernel.specs.Inner.{Run, addedGrid}
 use Rattle.kernel.proofs.Runs.{run-none, run-end}
 use Rattle.kernel.proofs.Apart.{grid-lies, grid-fits, add-grid-more}
 use Rattle.kernel257.proofs.add_grid.Statement.{statement}

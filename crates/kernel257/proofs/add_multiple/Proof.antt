@@ -5,7 +5,7 @@ use native.Mathlib.Omega.{arith}
 use lib.ListN.{length, length-set}
 use borrow.Author.Needs.{needs}
 use Rattle.symbol257.specs.Elem.{gf257}
-use Rattle.kernel.specs.Runs.{Run, addedMultiple}
+use Rattle.kernel.specs.Inner.{Run, addedMultiple}
 use Rattle.kernel.proofs.Runs.{run-none, run-end, multiple-more}
 use Rattle.kernel257.proofs.add_multiple.Statement.{statement}
 use Rattle.kernel257.proofs.add_multiple.Tie as tie

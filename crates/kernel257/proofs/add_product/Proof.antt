@@ -5,7 +5,7 @@ use native.Mathlib.Omega.{arith}
 use lib.ListN.{length, length-set}
 use borrow.Author.Needs.{needs}
 use Rattle.symbol257.specs.Elem.{gf257}
-use Rattle.kernel.specs.Runs.{Run, addedProduct}
+use Rattle.kernel.specs.Inner.{Run, addedProduct}
 use Rattle.kernel.proofs.Runs.{run-none, run-end, product-more}
 use Rattle.kernel257.proofs.add_product.Statement.{statement}
 use Rattle.kernel257.proofs.add_product.Tie as tie

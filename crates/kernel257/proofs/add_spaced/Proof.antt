@@ -5,7 +5,7 @@ use native.Mathlib.Omega.{arith}
 use lib.ListN.{length, length-set}
 use borrow.Author.Needs.{needs}
 use Rattle.symbol257.specs.Elem.{gf257}
-use Rattle.kernel.specs.Runs.{Spaced, addedSpaced}
+use Rattle.kernel.specs.Inner.{Spaced, addedSpaced}
 use Rattle.kernel.proofs.Spaced.{place-in, spaced-none, spaced-end, add-spaced-more}
 use Rattle.kernel257.proofs.add_spaced.Statement.{statement}
 use Rattle.kernel257.proofs.add_spaced.Tie as tie

@@ -4,7 +4,7 @@ use Prim.Native.Nat.{_-_, _*_, _≤_}
 use native.Mathlib.Omega.{arith}
 use lib.ListN.{length}
 use borrow.Author.Needs.{needs}
-use Rattle.kernel.specs.Runs.{Run, repeated}
+use Rattle.kernel.specs.Inner.{Run, repeated}
 use Rattle.kernel.proofs.Periods.{repeated-one, repeated-more, repeated-end, repeat-room, repeat-before, repeat-fits, repeat-fits-2}
 use Rattle.kernel257.proofs.extend.Statement.{statement}
 use Rattle.kernel257.proofs.extend.Tie as tie

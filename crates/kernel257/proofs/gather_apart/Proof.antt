@@ -6,7 +6,7 @@ use lib.ListN.{length, getD}
 use Rattle.algebra.specs.Field.{Ops}
 use Rattle.symbol257.specs.Elem.{gf257}
 use Rattle.symbol257.proofs.Working.{working}
-use Rattle.kernel.specs.Runs.{apart}
+use Rattle.kernel.specs.Inner.{apart}
 use Rattle.kernel.proofs.Spaced.{place-in}
 use Rattle.kernel.proofs.Apart.{apart-none, apart-more, apart-end}
 use Rattle.kernel257.proofs.gather_apart.Statement.{statement}

@@ -6,7 +6,7 @@ use lib.ListN.{length}
 use Rattle.algebra.specs.Field.{Ops}
 use Rattle.symbol257.specs.Elem.{gf257}
 use Rattle.symbol257.proofs.Working.{working}
-use Rattle.kernel.specs.Runs.{grid}
+use Rattle.kernel.specs.Inner.{grid}
 use Rattle.kernel.proofs.Rows.{row-before, row-end}
 use Rattle.kernel.proofs.Apart.{grid-none, grid-more, grid-end, row-first}
 use Rattle.kernel257.proofs.gather_grid.Statement.{statement}

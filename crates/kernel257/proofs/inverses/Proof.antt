@@ -6,7 +6,7 @@ use lib.ListN.{length, length-set}
 use borrow.Author.Needs.{needs}
 use Rattle.symbol257.specs.Elem.{gf257}
 use Rattle.symbol257.proofs.Working.{working}
-use Rattle.kernel.specs.Runs.{Inverted}
+use Rattle.kernel.specs.Inner.{Inverted}
 use Rattle.kernel.proofs.Inverse.{inverted-none, inverted-next, inverted-end}
 use Rattle.kernel257.proofs.inverses.Statement.{statement}
 use Rattle.kernel257.proofs.inverses.Tie as tie

@@ -3,7 +3,7 @@ use mathlib.Core.Path.{_≡_, refl}
 use Prim.Native.Nat.{_-_, _*_, _<_, _≤_}
 use native.Mathlib.Omega.{arith}
 use lib.ListN.{length, length-set}
-use Rattle.kernel.specs.Runs.{Run, sampled}
+use Rattle.kernel.specs.Inner.{Run, sampled}
 use Rattle.kernel.proofs.Runs.{run-none, run-end, sample-more}
 use Rattle.kernel.proofs.Runs.{sample-in}
 use Rattle.kernel257.proofs.sample.Statement.{statement}

@@ -5,7 +5,7 @@ use native.Mathlib.Omega.{arith}
 use lib.ListN.{length, length-set}
 use borrow.Author.Needs.{needs}
 use Rattle.symbol257.specs.Elem.{gf257}
-use Rattle.kernel.specs.Runs.{Run, copied, shifted}
+use Rattle.kernel.specs.Inner.{Run, copied, shifted}
 use Rattle.kernel.proofs.Runs.{run-none, run-end, shift-more, carry-more}
 use Rattle.kernel257.proofs.shift.Statement.{statement}
 use Rattle.kernel257.proofs.shift.Tie as tie

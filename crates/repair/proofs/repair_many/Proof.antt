@@ -79,5 +79,5 @@ repair-many-spec =
       done-is = c .before .before .before .before .smaller .ensures ∙ ap (λ k. min (a .budget) (k - a .first)) e;
       crossed-is = refl;
       remaining-is = ap (λ k. length (a .lost .now) * (a .l .helpers * k)) m;
-      piece = c .before .before .mend-groups .ensures;
+      piece = c .before .before .repair-groups .ensures;
     }))

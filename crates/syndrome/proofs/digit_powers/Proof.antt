@@ -7,8 +7,8 @@ use Rattle.syndrome.proofs.digit_powers.Tie as tie
 block-width-requires : tie.Need-block-width-requires
 block-width-requires c κs = search needs
 
-waves-requires : tie.Need-waves-requires
-waves-requires c κs = search needs
+repeated-powers-requires : tie.Need-repeated-powers-requires
+repeated-powers-requires c κs = search needs
 
 same-length : tie.Need-same-length
 same-length c = search needs
@@ -45,7 +45,7 @@ digit-powers-spec =
     tie.close
     (tie.spec
     block-width-requires
-    waves-requires
+    repeated-powers-requires
     same-length
     returns
     digit-count-requires

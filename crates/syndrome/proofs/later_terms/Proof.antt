@@ -5,7 +5,7 @@ use lib.ListN.{length}
 use borrow.Author.Needs.{needs}
 use Rattle.symbol.specs.Elem.{gf256}
 use Rattle.symbol.proofs.Working.{working}
-use Rattle.syndrome.specs.Syndrome.{Adding}
+use Rattle.syndrome.specs.Inner.{Adding}
 use Rattle.syndrome.proofs.Terms.{adding-none, adding-more, adding-end, term-in, term-fits, cur-in}
 use Rattle.syndrome.proofs.later_terms.Statement.{statement}
 use Rattle.syndrome.proofs.later_terms.Tie as tie

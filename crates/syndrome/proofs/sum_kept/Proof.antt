@@ -5,7 +5,7 @@ use lib.ListN.{length}
 use borrow.Author.Needs.{needs}
 use Rattle.symbol.specs.Elem.{gf256}
 use Rattle.symbol.proofs.Working.{working}
-use Rattle.syndrome.specs.Syndrome.{Sums}
+use Rattle.syndrome.specs.Inner.{Sums}
 use Rattle.syndrome.proofs.Terms.{room-next}
 use Rattle.syndrome.proofs.Sums.{sums-none, sums-more, sums-end, sums-fits, sums-in}
 use Rattle.syndrome.proofs.sum_kept.Statement.{statement}

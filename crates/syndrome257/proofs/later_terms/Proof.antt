@@ -6,7 +6,7 @@ use lib.ListN.{length}
 use borrow.Author.Needs.{needs}
 use Rattle.symbol257.specs.Elem.{gf257}
 use Rattle.symbol257.proofs.Working.{working}
-use Rattle.syndrome.specs.Syndrome.{Adding}
+use Rattle.syndrome.specs.Inner.{Adding}
 use Rattle.syndrome.proofs.Terms.{adding-none, adding-more, adding-end, term-in, term-fits, cur-in}
 use Rattle.syndrome257.proofs.later_terms.Statement.{statement}
 use Rattle.syndrome257.proofs.later_terms.Tie as tie

@@ -6,7 +6,7 @@ use lib.ListN.{length}
 use borrow.Author.Needs.{needs}
 use Rattle.symbol257.specs.Elem.{gf257}
 use Rattle.symbol257.proofs.Working.{working}
-use Rattle.syndrome.specs.Syndrome.{Sums}
+use Rattle.syndrome.specs.Inner.{Sums}
 use Rattle.syndrome.proofs.Terms.{room-next}
 use Rattle.syndrome.proofs.Sums.{sums-none, sums-more, sums-end, sums-fits, sums-in}
 use Rattle.syndrome257.proofs.sum_kept.Statement.{statement}

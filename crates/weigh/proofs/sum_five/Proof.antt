@@ -3,7 +3,7 @@ use Prim.Native.Nat.{_-_, _≤_}
 use native.Mathlib.Omega.{arith}
 use lib.ListN.{length, length-set}
 use borrow.Author.Needs.{needs}
-use Rattle.kernel.specs.Runs.{Run}
+use Rattle.kernel.specs.Inner.{Run}
 use Rattle.kernel.proofs.Runs.{run-none, run-end}
 use Rattle.weigh.specs.Weigh.{five}
 use Rattle.weigh.proofs.Bits.{five-more}

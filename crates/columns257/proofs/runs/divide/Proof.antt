@@ -5,9 +5,9 @@ use native.Mathlib.Omega.{arith}
 use lib.ListN.{length, length-set}
 use borrow.Author.Needs.{needs}
 use Rattle.symbol257.specs.Elem.{gf257}
-use Rattle.kernel.specs.Runs.{Run}
+use Rattle.kernel.specs.Inner.{Run}
 use Rattle.kernel.proofs.Runs.{run-none, run-end}
-use Rattle.columns.specs.Columns.{divided}
+use Rattle.columns.specs.Inner.{divided}
 use Rattle.columns.proofs.Dividing.{divide-more}
 use Rattle.columns257.proofs.runs.divide.Statement.{statement}
 use Rattle.columns257.proofs.runs.divide.Tie as tie

@@ -5,9 +5,9 @@ use native.Mathlib.Omega.{arith}
 use lib.ListN.{length, length-set}
 use borrow.Author.Needs.{needs}
 use Rattle.symbol257.specs.Elem.{gf257}
-use Rattle.kernel.specs.Runs.{Run}
+use Rattle.kernel.specs.Inner.{Run}
 use Rattle.kernel.proofs.Runs.{run-none, run-end}
-use Rattle.columns.specs.Columns.{negated}
+use Rattle.columns.specs.Inner.{negated}
 use Rattle.columns.proofs.Dividing.{negate-more}
 use Rattle.columns257.proofs.runs.negate.Statement.{statement}
 use Rattle.columns257.proofs.runs.negate.Tie as tie

@@ -5,9 +5,9 @@ use native.Mathlib.Omega.{arith}
 use lib.ListN.{length, length-set}
 use borrow.Author.Needs.{needs}
 use Rattle.symbol257.specs.Elem.{gf257}
-use Rattle.kernel.specs.Runs.{Run}
+use Rattle.kernel.specs.Inner.{Run}
 use Rattle.kernel.proofs.Runs.{run-none, run-end}
-use Rattle.columns.specs.Columns.{scaled}
+use Rattle.columns.specs.Inner.{scaled}
 use Rattle.columns.proofs.Dividing.{scale-more}
 use Rattle.columns257.proofs.runs.scale.Statement.{statement}
 use Rattle.columns257.proofs.runs.scale.Tie as tie

@@ -5,9 +5,9 @@ use native.Mathlib.Omega.{arith}
 use lib.ListN.{length, length-set}
 use borrow.Author.Needs.{needs}
 use Rattle.symbol257.specs.Elem.{gf257}
-use Rattle.kernel.specs.Runs.{Run}
+use Rattle.kernel.specs.Inner.{Run}
 use Rattle.kernel.proofs.Runs.{run-none, run-end}
-use Rattle.columns.specs.Columns.{scaledBy}
+use Rattle.columns.specs.Inner.{scaledBy}
 use Rattle.columns.proofs.Dividing.{scale-by-more}
 use Rattle.columns257.proofs.runs.scale_by.Statement.{statement}
 use Rattle.columns257.proofs.runs.scale_by.Tie as tie
