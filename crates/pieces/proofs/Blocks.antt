@@ -88,7 +88,7 @@ module _ {n : ℕ} (N : ℕ) (l : Layout) (lost helpers shares host : List ℕ) 
         block = g;
         sums-long = le-trans (fit .sums) (r .sums-long);
         room = record {
-          few = u;
+          few = le-trans u (r .most);
           sides-long = le-trans u (r .sides-long);
           found-long = le-trans u (r .found-long);
           points-long = le-trans u (r .points-long);
@@ -136,6 +136,7 @@ pub rooms-next : (sums sides found points coefs row cur sums′ sides′ found�
     Rooms (length sums′) sums′ sides′ found′ points′ coefs′ row′ cur′
 rooms-next sums sides found points coefs row cur sums′ sides′ found′ points′ coefs′ row′ cur′ r e1 e2 e3 e4 e5 e6 e7 = record {
   enough = rw e1 (r .enough);
+  most = rw e1 (r .most);
   sums-long = omega arith;
   sides-long = rw (e1, e2) (r .sides-long);
   found-long = rw (e1, e3) (r .found-long);
@@ -153,12 +154,12 @@ fitting-in l e rows p left w count n n′ r a h s same = rw same (s .fits w h (f
 pub rooms : Rooms (length roomOf) roomOf roomOf roomOf roomOf roomOf rowOf rowOf
 rooms = record {
   enough = rw room-long (omega arith);
+  most = rw room-long (omega arith);
   sums-long = le-refl _;
   sides-long = le-refl _;
   found-long = le-refl _;
   points-long = le-refl _;
-  coefs-long =
-      le-refl _;
+  coefs-long = le-refl _;
   row-long = row;
   cur-long = row;
 }
@@ -170,7 +171,17 @@ pub spacious : (l : Layout) (e count : ℕ) → Spacious l e count (length roomO
 spacious l e count = record { fits = λ w h f. rw room-long f }
 
 pub small-rooms : Rooms (length rowOf) rowOf rowOf rowOf rowOf rowOf rowOf rowOf
-small-rooms = record { enough = row; sums-long = le-refl _; sides-long = le-refl _; found-long = le-refl _; points-long = le-refl _; coefs-long = le-refl _; row-long = row; cur-long = row }
+small-rooms = record {
+  enough = row;
+  most = rw row-long (omega arith);
+  sums-long = le-refl _;
+  sides-long = le-refl _;
+  found-long = le-refl _;
+  points-long = le-refl _;
+  coefs-long = le-refl _;
+  row-long = row;
+  cur-long = row;
+}
   where
     row : blockLimit ≤ length rowOf
     row = rw row-long (omega arith)

@@ -42,6 +42,7 @@ pub record Piecing (N : ℕ) (l : Layout) (lost helpers shares host : List ℕ) 
 -- rooms of n symbols to work in
 pub record Rooms (n : ℕ) (sums sides found points coefs row cur : List ℕ) : Type 0 where
   pub enough : blockLimit ≤ n
+  pub most : n ≤ roomLimit
   pub sums-long : n ≤ length sums
   pub sides-long : n ≤ length sides
   pub found-long : n ≤ length found
