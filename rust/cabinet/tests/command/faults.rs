@@ -184,6 +184,8 @@ fn files_and_folders_that_may_only_be_read() {
     assert_eq!(as_user(&bench, REPAIR).status, 0);
     assert!(before == bench.snapshot("c"));
     allow(&bench, "c", 0o555);
+    fs::create_dir(bench.path("closed")).expect("a folder can be made");
+    allow(&bench, "closed", 0o555);
     let before = bench.snapshot("c");
     for line in [
         "store 4 3 8 3 --volume 9 --replace data c",
@@ -191,7 +193,7 @@ fn files_and_folders_that_may_only_be_read() {
         "recover c --erase 4",
         "scrub c --budget 5",
         "share c --host 0 --helper 2 c/share",
-        "get c c/back",
+        "get c closed/back",
     ] {
         fails_as_user(&bench, line, "Permission denied");
         assert!(before == bench.snapshot("c"), "{line}: a file has changed");
