@@ -44,7 +44,7 @@ PLAIN = {'rack_checks': 'syndrome'}
 # crates that the other field has its own of, written by hand
 OWN = ['symbol', 'planes']
 # types of a crate that its twin takes from it
-TAKEN = {'repair': ['Repaired'], 'correcting': ['Corrected'], 'scrub': ['Report', 'Scrubbed', 'Walk']}
+TAKEN = {'repair': ['Repaired', 'RepairNumbers'], 'correcting': ['Corrected', 'CorrectedNumbers'], 'scrub': ['Report', 'Scrubbed', 'Walk']}
 # the crate of the boundary, its module over the first field, and the one that is made from it
 BOUNDARY, FIRST, SECOND = 'gesarumbo', 'field256', 'field257'
 
@@ -74,7 +74,7 @@ def code(name, text):
     text = symbols(text, TWINS[name])
     for kind in TAKEN.get(name, []):
         text, named = re.subn(r'use crate::%s;\n|(// [^\n]*\n|#\[[^\n]*\n)*pub (enum|struct) %s \{.*?\n\}\n\n' % (kind, kind), '', text, flags=re.S)
-        if named:
+        if named and re.search(r'\b%s\b' % kind, text):
             text = text.replace('\nuse symbol257', '\nuse %s::%s;\nuse symbol257' % (name, kind), 1)
     return cited(name, text)
 

@@ -21,7 +21,7 @@ use Rattle.kernel.specs.Inner.{Run, copied, cell}
 use Rattle.layout.specs.declared.Layout.{Layout}
 use Rattle.layout.specs.Layout.{digits, parityRacks}
 use Rattle.layout.proofs.Numbers.{whole-low}
-use Rattle.blocks.specs.Blocks.{roomLimit}
+use Rattle.blocks.specs.Inner.{roomLimit}
 use Rattle.range.specs.Range.{symbolsFrom}
 use Rattle.share.proofs.Refusals.{symbols-range}
 use Rattle.sums.proofs.Steps.{digits-under}

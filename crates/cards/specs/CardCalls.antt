@@ -18,12 +18,12 @@ pub data CardCalls {A : Type 0} (f : Field A) (l : Layout) (x : ℕ) (helpers sh
       (budget : ℕ) (host′ spare′ : List ℕ) (g c t : ℕ) →
       ((j : ℕ) → j < layers l → OthersAlike f l x j host host′) →
       RepairAnswer f l (x ∷ []) helpers shares host′ G budget spare spare′ (Done g c t) →
-      CardCalls f l x helpers shares host start (G + report (Done g c t) .groupsDone) (crossed + report (Done g c t) .crossed) (report (Done g c t) .remaining) spare′
+      CardCalls f l x helpers shares host start (G + report (Done g c t) .groups) (crossed + report (Done g c t) .crossed) (report (Done g c t) .remaining) spare′
   card : {G crossed toCome : ℕ} {spare : List ℕ} → CardCalls f l x helpers shares host start G crossed toCome spare →
       (by host′ spare′ : List ℕ) (g c t : ℕ) →
       ((j : ℕ) → j < layers l → OthersAlike f l x j host host′) →
       CardAnswer f l x helpers by shares host′ G spare spare′ (Done g c t) →
-      CardCalls f l x helpers shares host start (G + report (Done g c t) .groupsDone) (crossed + report (Done g c t) .crossed) (report (Done g c t) .remaining) spare′
+      CardCalls f l x helpers shares host start (G + report (Done g c t) .groups) (crossed + report (Done g c t) .crossed) (report (Done g c t) .remaining) spare′
   -- a refused call is given anything besides the spare
   refused-piece : {G crossed toCome : ℕ} {spare : List ℕ} → CardCalls f l x helpers shares host start G crossed toCome spare →
       (l′ : Layout) (lost′ helpers′ shares′ host′ : List ℕ) (first budget : ℕ) (spare′ : List ℕ) (e : ℕ) →

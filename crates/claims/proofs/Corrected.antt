@@ -73,14 +73,14 @@ module _ {A : Type 0} (f : Field A) (l : Layout) (x : ℕ) (helpers : List ℕ) 
     before = repairGround f l x helpers group card shares host (length old)
 
     pub by-card-exactly : (r : Repaired) → CardAnswer f l x helpers card shares host group old new r →
-        (Refuses before → report r ≡ record { refusal = before; groupsDone = 0; crossed = 0; remaining = 0 }) × (Refuses (report r .refusal) → new ≡ old)
+        (Refuses before → report r ≡ record { refusal = before; groups = 0; crossed = 0; remaining = 0 }) × (Refuses (report r .refusal) → new ≡ old)
         × (before ≡ 0 → ((report r .refusal ≡ 0) ↔ Right f l x helpers group card) × ((report r .refusal ≡ 15) ↔ (¬ (Right f l x helpers group card))))
     by-card-exactly (Done g c t) p =
         let j = judged _ 0 (p .accepted) in
         (λ h. absurd (h (sym (j .0 h))), λ h. absurd (h refl), j .1)
     by-card-exactly (Refused e) p =
         let j = judged _ e (p .refused) in
-        (λ h i. record { refusal = j .0 h i; groupsDone = 0; crossed = 0; remaining = 0 }, λ h. p .kept, j .1)
+        (λ h i. record { refusal = j .0 h i; groups = 0; crossed = 0; remaining = 0 }, λ h. p .kept, j .1)
 
 pub as-the-repair : {A : Type 0} {f : Field A} (W : Working f) (l : Layout) (x : ℕ) (helpers : List ℕ) (group : ℕ) (card shares host old new : List ℕ) (r : Repaired) →
     CardAnswer f l x helpers card shares host group old new r → report r .refusal ≡ 0 →

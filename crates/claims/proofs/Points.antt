@@ -24,7 +24,7 @@ use Rattle.layout.specs.Layout.{trays, digits, layers, admissible}
 use Rattle.codeword.specs.Codeword.{shapeOf, symbolAt, pointAt, checkAt, Usable}
 use Rattle.rule.proofs.Racks.{no-weight}
 use Rattle.image.specs.declared.Edition.{Edition}
-use Rattle.image.specs.Inner.{Proper}
+use Rattle.image.specs.Inner.{Proper, writeGrounds}
 use Rattle.image.specs.Image.{imageLength, ownVolume, wellFormed, writeRefusal, readRefusal}
 use Rattle.image.proofs.Forms.{formed-facts}
 use Rattle.image.proofs.Ranges.{range-facts}
@@ -58,6 +58,7 @@ module _ {A : Type 0} (f : Field A) (l : Layout) (ok : Usable f l) where
 -- an image of volume 0 is not written
 pub nought-written : (ed : Edition) (l : Layout) → admissible (ed .order) l ≡ true → (tray state : ℕ) (symbols : List ℕ) → length symbols ≡ layers l →
     writeRefusal ed l tray state 0 symbols (imageLength ed l) ≡ 3
+unfolding writeRefusal writeGrounds
 nought-written ed l a tray state symbols long =
     sym (write-3 ed l tray state 0 (length symbols) (allBelow symbols (ed .size)) (imageLength ed l) true (sym a) refl (layers l) refl (imageLength ed l) refl long refl false
     (not-true-false _ (λ t. false≢true (range-facts l tray state 0 t .volume-ok))) refl)

@@ -91,9 +91,9 @@ module _ {A : Type 0} (f : Field A) (l : Layout) where
     pub repair-grounds : (r : Repaired) → RepairAnswer f l lost helpers shares host first budget old new r →
         Grounded (repairRefusal f l lost helpers shares host (length old) first budget) (report r .refusal) old new
         × (Refuses (repairRefusal f l lost helpers shares host (length old) first budget) →
-        report r ≡ record { refusal = repairRefusal f l lost helpers shares host (length old) first budget; groupsDone = 0; crossed = 0; remaining = 0 })
+        report r ≡ record { refusal = repairRefusal f l lost helpers shares host (length old) first budget; groups = 0; crossed = 0; remaining = 0 })
     repair-grounds (Done g c t) p = ((sym (p .accepted), λ h. absurd (h (p .accepted))), λ h. absurd (h (p .accepted)))
-    repair-grounds (Refused e) p = ((p .refused, λ h. p .kept), λ h i. record { refusal = p .refused i; groupsDone = 0; crossed = 0; remaining = 0 })
+    repair-grounds (Refused e) p = ((p .0, λ h. p .2), λ h i. record { refusal = p .0 i; groups = 0; crossed = 0; remaining = 0 })
 
   pub scrub-refused : (c : List ℕ) (w : Walk) (budget : ℕ) → Refuses (scrubRefusal f l c w budget) →
       scrubbed f l c w budget ≡ record { report = NoWalk (scrubRefusal f l c w budget); walk = w }

@@ -41,36 +41,36 @@ use Rattle.claims.specs.Claims.{OthersAlike}
 module _ {A : Type 0} {f : Field A} (W : Working f) (l : Layout) (lost helpers shares host : List ℕ) (first budget : ℕ) (old new : List ℕ) where
   -- a call writes its own groups' layers only
   pub own-groups : (r : Repaired) → RepairAnswer f l lost helpers shares host first budget old new r →
-      (length new ≡ length old) × ((n : ℕ) → n < length old → Outside l (firstLost l lost) first (report r .groupsDone) (n % layers l) → getD new n 0 ≡ getD old n 0)
+      (length new ≡ length old) × ((n : ℕ) → n < length old → Outside l (firstLost l lost) first (report r .groups) (n % layers l) → getD new n 0 ≡ getD old n 0)
   own-groups (Done g c t) p =
       let made = repairable f l lost helpers shares host (length old) first budget (p .accepted) in (
         p .piece .long,
         λ n h out. kept-at (length lost) (layers l) (layers-pos f l (usable W l (made .adm .admissible))) n old new (omega (arith, h, made .spare-long))
             (λ i hi j hj e. p .piece .kept i hi j hj (subst (λ y. Outside l (firstLost l lost) first g y) (sym e) out)),
       )
-  own-groups (Refused e) p = (ap length (p .kept), λ n h out. ap (λ s. getD s n 0) (p .kept))
+  own-groups (Refused e) p = (ap length (p .2), λ n h out. ap (λ s. getD s n 0) (p .2))
 
   -- no group done: nothing written
-  idle : (r : Repaired) → RepairAnswer f l lost helpers shares host first budget old new r → report r .groupsDone ≡ 0 → new ≡ old
+  idle : (r : Repaired) → RepairAnswer f l lost helpers shares host first budget old new r → report r .groups ≡ 0 → new ≡ old
   idle r p z =
       let own = own-groups r p in
       ext-getD 0 new old (own .0) (λ n h. own .1 n (omega (arith, h, own .0)) (λ w. omega (arith, z, w .0, w .1)))
 
-  no-group : (r : Repaired) → RepairAnswer f l lost helpers shares host first budget old new r → (budget ≡ 0) ⊎ (first ≡ groups l) → report r .groupsDone ≡ 0
+  no-group : (r : Repaired) → RepairAnswer f l lost helpers shares host first budget old new r → (budget ≡ 0) ⊎ (first ≡ groups l) → report r .groups ≡ 0
   no-group (Done g c t) p why = ⊎-elim (λ e. omega (arith, p .done-is, e)) (λ e. omega (arith, p .done-is, e)) why
   no-group (Refused e) p why = refl
 
   -- a budget of 0, or a first group of L/s, does nothing
   pub nothing : (r : Repaired) → RepairAnswer f l lost helpers shares host first budget old new r → (budget ≡ 0) ⊎ (first ≡ groups l) →
-      (new ≡ old) × (report r .groupsDone ≡ 0)
+      (new ≡ old) × (report r .groups ≡ 0)
   nothing r p why = (idle r p (no-group r p why), no-group r p why)
 
   -- what a call that is done reports
   pub reports : (r : Repaired) → RepairAnswer f l lost helpers shares host first budget old new r → report r .refusal ≡ 0 →
-      (report r .groupsDone ≡ min budget (groups l - first)) × (report r .crossed ≡ length lost * (l .helpers * report r .groupsDone))
-      × (report r .remaining ≡ length lost * (l .helpers * (groups l - (first + report r .groupsDone))))
+      (report r .groups ≡ min budget (groups l - first)) × (report r .crossed ≡ length lost * (l .helpers * report r .groups))
+      × (report r .remaining ≡ length lost * (l .helpers * (groups l - (first + report r .groups))))
   reports (Done g c t) p z = (p .done-is, p .crossed-is, p .remaining-is)
-  reports (Refused e) p z = absurd (omega (arith, p .ground, z))
+  reports (Refused e) p z = absurd (omega (arith, p .1, z))
 
   module _ (host′ new′ : List ℕ) (long : length host ≡ length host′) (alike : OthersAlike l lost host host′) where
     abbrev h : ℕ
@@ -138,9 +138,9 @@ module _ {A : Type 0} {f : Field A} (W : Working f) (l : Layout) (lost helpers s
     pub lost-unread : (r r′ : Repaired) → RepairAnswer f l lost helpers shares host first budget old new r →
         RepairAnswer f l lost helpers shares host′ first budget old new′ r′ → (r ≡ r′) × (new ≡ new′)
     lost-unread (Done g c t) (Done g′ c′ t′) p q = both-done g c t g′ c′ t′ p q
-    lost-unread (Done g c t) (Refused e) p q = absurd (omega (arith, p .accepted, same-ground, q .refused, q .ground))
-    lost-unread (Refused e) (Done g c t) p q = absurd (omega (arith, q .accepted, same-ground, p .refused, p .ground))
-    lost-unread (Refused e) (Refused e′) p q = (ap Refused (p .refused ∙ same-ground ∙ sym (q .refused)), p .kept ∙ sym (q .kept))
+    lost-unread (Done g c t) (Refused e) p q = absurd (omega (arith, p .accepted, same-ground, q .0, q .1))
+    lost-unread (Refused e) (Done g c t) p q = absurd (omega (arith, q .accepted, same-ground, p .0, p .1))
+    lost-unread (Refused e) (Refused e′) p q = (ap Refused (p .0 ∙ same-ground ∙ sym (q .0)), p .2 ∙ sym (q .2))
 
 -- two calls that both do a group, alike in what they are given of it, write the same there: a refused one does none
 module _ {A : Type 0} {f : Field A} (W : Working f) (l : Layout) (lost helpers shares host shares′ host′ : List ℕ) (first budget first′ budget′ : ℕ) (old new old′ new′ : List ℕ) where
@@ -149,7 +149,7 @@ module _ {A : Type 0} {f : Field A} (W : Working f) (l : Layout) (lost helpers s
 
   pub same-group-of : (r r′ : Repaired) →
       RepairAnswer f l lost helpers shares host first budget old new r → RepairAnswer f l lost helpers shares′ host′ first′ budget′ old′ new′ r′ →
-      (p : ℕ) → (first ≤ p) × (p < first + report r .groupsDone) → (first′ ≤ p) × (p < first′ + report r′ .groupsDone) →
+      (p : ℕ) → (first ≤ p) × (p < first + report r .groups) → (first′ ≤ p) × (p < first′ + report r′ .groups) →
       ((m k : ℕ) → m < length lost → k < l .helpers → sentSymbol f l (length lost) shares m p k ≡ sentSymbol f l (length lost) shares′ m p k) →
       ((j : ℕ) → j < layers l → groupAt l (firstLost l lost) j ≡ p → SoundAlike f l lost j host host′) →
       (i : ℕ) → i < length lost → (j : ℕ) → j < layers l → groupAt l (firstLost l lost) j ≡ p → getD new (i * layers l + j) 0 ≡ getD new′ (i * layers l + j) 0

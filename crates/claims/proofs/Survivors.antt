@@ -35,7 +35,7 @@ use Rattle.codeword.proofs.Buffers.{layers-pos}
 use Rattle.codeword.proofs.Unique.{tested-unique}
 use Rattle.layout.proofs.Facts.{admissible-facts}
 use Rattle.seen.proofs.Groups.{same-test}
-use Rattle.recover.specs.Recover.{keptTray, keptSymbols, recoverRefusal, Survivors, RecoverAnswer}
+use Rattle.recover.specs.Recover.{keptSymbols, recoverRefusal, Survivors, RecoverAnswer}
 use Rattle.recover.proofs.Grounds.{recoverable}
 use Rattle.repair.proofs.Pieces.{kept-at}
 use Rattle.claims.specs.Claims.{LayerAlike}
@@ -53,7 +53,7 @@ module _ {A : Type 0} (f : Field A) (l : Layout) where
 
   -- with none erased the trays kept are the whole buffer
   none-kept : (c : List ℕ) → keptSymbols f l [] c ≡ all (λ x. symbolsFrom f c (x * layers l) (layers l)) (trays l)
-  unfolding keptSymbols keptTray absent all
+  unfolding keptSymbols absent all
   none-kept c = refl
 
   whole : Usable f l → (c : List ℕ) → length c ≡ trays l * layers l → keptSymbols f l [] c ≡ allBelow c (f .coding .size)

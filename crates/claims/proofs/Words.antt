@@ -22,10 +22,11 @@ use Rattle.layout.specs.Layout.{layers}
 use Rattle.rule.specs.Rule.{groupAt}
 use Rattle.share.specs.Feeds.{count}
 use Rattle.margin.specs.Margin.{live, marginOf}
-use Rattle.reading.specs.Reading.{allDone, available, partRefusal, run, partGiven}
+use Rattle.reading.specs.Reading.{partRefusal, partGiven}
+use Rattle.reading.specs.Inner.{allDone, available}
 use Rattle.reading.proofs.Grounds.{accepted}
 use Rattle.scrub.specs.declared.Walk.{Walk}
-use Rattle.scrub.specs.Scrub.{scrubRefusal, after, stepped, scrubbed}
+use Rattle.scrub.specs.Scrub.{scrubRefusal, after, reported, scrubbed}
 
 -- the digits below B determine the remainder by s^B
 module _ (s : ℕ) (pos : 0 < s) where
@@ -88,11 +89,11 @@ margin-live l states = ap (λ n. pos n -ℤ pos (l .dimension)) (live-count stat
 -- where a part that is read lies
 module _ (N : ℕ) (l : Layout) (codeword spare : List ℕ) (lost done tray first end : ℕ) (z : partRefusal N l (length codeword) (length spare) lost done tray first end ≡ 0) where
   pub of-store : ¬ (tray ≡ lost) → partGiven N l codeword spare lost done tray first end ≡ take (end - first) (drop (tray * layers l + first) codeword)
-  unfolding partGiven run
+  unfolding partGiven
   of-store d = simp (eq-eqb (partRefusal N l (length codeword) (length spare) lost done tray first end) 0 z, ne-eqb tray lost d)
 
   pub of-spare : tray ≡ lost → partGiven N l codeword spare lost done tray first end ≡ take (end - first) (drop first spare)
-  unfolding partGiven run
+  unfolding partGiven
   of-spare e = simp (eq-eqb (partRefusal N l (length codeword) (length spare) lost done tray first end) 0 z, eq-eqb tray lost e)
 
   all-done : tray ≡ lost → allDone l lost done first end ≡ true
@@ -108,5 +109,5 @@ module _ (N : ℕ) (l : Layout) (codeword spare : List ℕ) (lost done tray firs
 -- how far a call of a walk goes
 pub steps : {A : Type 0} (f : Field A) (l : Layout) (c : List ℕ) (w : Walk) (budget : ℕ) → scrubRefusal f l c w budget ≡ 0 →
     scrubbed f l c w budget .walk .next ≡ w .next + min budget (layers l - w .next)
-unfolding scrubbed stepped after
+unfolding scrubbed reported after
 steps f l c w budget z = simp (eq-eqb (scrubRefusal f l c w budget) 0 z)

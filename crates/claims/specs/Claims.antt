@@ -103,7 +103,7 @@ pub record Demand1 {A : Type 0} (f : Field A) (ed : Edition) (l : Layout) : Type
   pub repair : (lost helpers shares host : List ℕ) (first budget : ℕ) (old new : List ℕ) (r : Repaired) →
       RepairAnswer f l lost helpers shares host first budget old new r →
       let ground = repairRefusal f l lost helpers shares host (length old) first budget in
-      Grounded ground (report r .refusal) old new × (Refuses ground → report r ≡ record { refusal = ground; groupsDone = 0; crossed = 0; remaining = 0 })
+      Grounded ground (report r .refusal) old new × (Refuses ground → report r ≡ record { refusal = ground; groups = 0; crossed = 0; remaining = 0 })
   pub write : (tray state volume : ℕ) (symbols image : List ℕ) → Refuses (writeRefusal ed l tray state volume symbols (length image)) →
       writeBuffer ed l tray state volume symbols image ≡ image
   -- what was refused is an empty part in edition 1, and in edition 2 the lent places as they were
@@ -161,13 +161,13 @@ pub record Demand2 {A : Type 0} (f : Field A) (l : Layout) : Type 0 where
 pub record EachRepair {A : Type 0} (f : Field A) (l : Layout) (lost helpers shares host : List ℕ) (first budget : ℕ) (old new : List ℕ) (r : Repaired) : Type 0 where
   -- 01: "It does the smaller of the budget and the groups left .. and reports groups done, symbols crossed .. and symbols still to come"
   pub reports : report r .refusal ≡ 0 →
-      (report r .groupsDone ≡ min budget (groups l - first)) × (report r .crossed ≡ length lost * (l .helpers * report r .groupsDone))
-      × (report r .remaining ≡ length lost * (l .helpers * (groups l - (first + report r .groupsDone))))
+      (report r .groups ≡ min budget (groups l - first)) × (report r .crossed ≡ length lost * (l .helpers * report r .groups))
+      × (report r .remaining ≡ length lost * (l .helpers * (groups l - (first + report r .groups))))
   -- "A piece writes its own groups' layers only", in the L symbols of each lost tray
   pub own-groups : (length new ≡ length old)
-      × ((n : ℕ) → n < length old → Outside l (firstLost l lost) first (report r .groupsDone) (n % layers l) → getD new n 0 ≡ getD old n 0)
+      × ((n : ℕ) → n < length old → Outside l (firstLost l lost) first (report r .groups) (n % layers l) → getD new n 0 ≡ getD old n 0)
   -- 01: "A budget of 0, or a first group of L/s, does nothing and is no refusal": it is refused only as one of 0 from group 0 on would be, which looks at nothing
-  pub nothing : (budget ≡ 0) ⊎ (first ≡ groups l) → (new ≡ old) × (report r .groupsDone ≡ 0)
+  pub nothing : (budget ≡ 0) ⊎ (first ≡ groups l) → (new ≡ old) × (report r .groups ≡ 0)
   pub no-ground : (budget ≡ 0) ⊎ (first ≡ groups l) → first ≤ groups l →
       repairRefusal f l lost helpers shares host (length old) first budget ≡ repairRefusal f l lost helpers shares host (length old) 0 0
   -- 01: "those of the lost tray are not looked at": a call alike but for the lost trays' symbols in the host rack answers alike and leaves the same spare
@@ -193,7 +193,7 @@ pub record Demand3 {A : Type 0} (f : Field A) (l : Layout) : Type 0 where
   -- "Two pieces over the same layout, lost tray and helpers that both do a group, alike in its d share symbols and sound host symbols, write the same there."
   pub same-group : (lost helpers shares host shares′ host′ : List ℕ) (first budget first′ budget′ : ℕ) (old new old′ new′ : List ℕ) (r r′ : Repaired) →
       RepairAnswer f l lost helpers shares host first budget old new r → RepairAnswer f l lost helpers shares′ host′ first′ budget′ old′ new′ r′ →
-      (p : ℕ) → (first ≤ p) × (p < first + report r .groupsDone) → (first′ ≤ p) × (p < first′ + report r′ .groupsDone) →
+      (p : ℕ) → (first ≤ p) × (p < first + report r .groups) → (first′ ≤ p) × (p < first′ + report r′ .groups) →
       ((m k : ℕ) → m < length lost → k < l .helpers → sentSymbol f l (length lost) shares m p k ≡ sentSymbol f l (length lost) shares′ m p k) →
       ((j : ℕ) → j < layers l → groupAt l (firstLost l lost) j ≡ p → SoundAlike f l lost j host host′) →
       (i : ℕ) → i < length lost → (j : ℕ) → j < layers l → groupAt l (firstLost l lost) j ≡ p → getD new (i * layers l + j) 0 ≡ getD new′ (i * layers l + j) 0
@@ -325,7 +325,7 @@ pub record Cards {A : Type 0} (f : Field A) (l : Layout) (x : ℕ) (helpers : Li
   -- "it tests the card too": a repair by card is refused likewise, and changes no symbol then
   pub repair-exactly : (card shares host old new : List ℕ) (r : Repaired) → CardAnswer f l x helpers card shares host group old new r →
       let ground = repairGround f l x helpers group card shares host (length old) in
-      (Refuses ground → report r ≡ record { refusal = ground; groupsDone = 0; crossed = 0; remaining = 0 }) × (Refuses (report r .refusal) → new ≡ old)
+      (Refuses ground → report r ≡ record { refusal = ground; groups = 0; crossed = 0; remaining = 0 }) × (Refuses (report r .refusal) → new ≡ old)
       × (ground ≡ 0 → ((report r .refusal ≡ 0) ↔ Right f l x helpers group card) × ((report r .refusal ≡ 15) ↔ (¬ (Right f l x helpers group card))))
   pub repair-one : (card shares host old new new′ : List ℕ) (r r′ : Repaired) →
       CardAnswer f l x helpers card shares host group old new r → CardAnswer f l x helpers card shares host group old new′ r′ → (r ≡ r′) × (new ≡ new′)

@@ -26,7 +26,7 @@ use Rattle.algebra.proofs.Plain.{elem-zero, elem-plus, elem-minus, elem-times, 
 use Rattle.kernel.specs.Inner.{cell, Run, filled, copied, repeated, addedProduct, addedMultiple}
 use Rattle.kernel.proofs.Runs.{run-none, run-append}
 use Rattle.kernel.proofs.Rows.{row-end, row-before, row-in, row-other}
-use Rattle.planes.specs.Planes.{Summed, Rows as PlaneRows}
+use Rattle.planes.specs.Inner.{Summed, Rows as PlaneRows}
 use Rattle.columns.specs.Inner.{column, Columns, Divisors, Quotient, scaled, scaledBy, negated, weighted, stretched, widened, room, Places, Systems, Wholes}
 use Rattle.columns.specs.Inner.{Combined, Divided, RowSolved, Solved}
 use Rattle.columns.proofs.Quotients.{quotient-basis}

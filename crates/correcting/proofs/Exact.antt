@@ -25,7 +25,7 @@ use Rattle.layout.proofs.Numbers.{groups-are, enough}
 use Rattle.codeword.specs.Codeword.{shapeOf, symbolAt, Usable}
 use Rattle.codeword.proofs.Usable.{usable}
 use Rattle.codeword.proofs.Buffers.{to-word, layers-pos}
-use Rattle.rule.specs.Rule.{rackPart, trayPart, groupAt, rackSymbol, shareSymbol, sharedSymbol, soundSum}
+use Rattle.rule.specs.Rule.{rackPart, trayPart, groupAt, shareSymbol, sharedSymbol, soundSum}
 use Rattle.rule.proofs.Racks.{tray-at, tray-long, no-weight, sum-out, rack-at, share-word}
 use Rattle.correcting.specs.Correcting.{ChecksHold, Names, Settled, OneWrong}
 use Rattle.correcting.proofs.Choices.{host-in, Alike, hold-one, hold-sums}
@@ -77,7 +77,7 @@ module _ {A : Type 0} {f : Field A} (W : Working f) (l : Layout) (adm : Admissib
       ∙ ap (λ y. symbolAt f l c y j) (div-add-mod' x (l .size))
     where
       pick : (y : ℕ) → y < l .size → Dec (y ≡ x % l .size) →
-          choose (eqb y (x % l .size)) (f .ops .zero) (rackSymbol f l host y j) ≡ choose (eqb y (x % l .size)) (f .ops .zero) (symbolAt f l c (h * l .size + y) j)
+          choose (eqb y (x % l .size)) (f .ops .zero) (symbolAt f l host y j) ≡ choose (eqb y (x % l .size)) (f .ops .zero) (symbolAt f l c (h * l .size + y) j)
       pick y hy (yes e) = choose-same _ _ _ _ e ∙ sym (choose-same _ _ _ _ e)
       pick y hy (no e) = choose-other _ _ _ _ e ∙ g .setting .sound j hj y hy e ∙ rack-at f l c h y j hy hj ∙ sym (choose-other _ _ _ _ e)
 

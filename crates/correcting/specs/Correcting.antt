@@ -14,9 +14,10 @@ use Rattle.algebra.specs.Consistent.{Consistent, Uncorrectable}
 use Rattle.layout.specs.declared.Layout.{Layout}
 use Rattle.layout.specs.Layout.{trays, layers, groups, traffic, parityRacks, admissibleWith}
 use Rattle.range.specs.Range.{symbolsFrom}
-use Rattle.codeword.specs.Codeword.{shapeOf, Codeword}
-use Rattle.rule.specs.Rule.{rackPart, Helpers, groupAt, rackSymbol, shareSymbol, sharedSymbol, soundSum}
+use Rattle.codeword.specs.Codeword.{shapeOf, Codeword, symbolAt}
+use Rattle.rule.specs.Rule.{rackPart, Helpers, groupAt, shareSymbol, sharedSymbol, soundSum}
 use Rattle.correcting.specs.declared.Corrected.{Corrected}
+use Rattle.correcting.specs.declared.CorrectedNumbers.{CorrectedNumbers}
 use Rattle.correcting.specs.declared.Corrected.the-variants.{Done, Refused}
 
 -- the numbers that the call looks at are symbols: the shares, and the host rack's trays before and after the lost tray x
@@ -38,12 +39,7 @@ correctingRefusal f l x helpers shares host spare =
     0)))))
 
 -- the documents' numbers for each answer: the refusal (0 for none), the rack named (B for none) and the symbols crossed
-pub record Report : Type 0 where
-  pub refusal : ℕ
-  pub rack : ℕ
-  pub crossed : ℕ
-
-abbrev pub report : Corrected → Report
+abbrev pub report : Corrected → CorrectedNumbers
 report (Done rack crossed) = record { refusal = 0; rack = rack; crossed = crossed }
 report (Refused e) = record { refusal = e; rack = 0; crossed = 0 }
 
@@ -84,14 +80,14 @@ module _ {A : Type 0} (f : Field A) (l : Layout) (x : ℕ) (helpers shares host 
     pub tray : (j : ℕ) → j < layers l → getD spare j 0 ≡ f .coding .val (add (hold .sums (groupAt l x j) (x / l .size) j) (neg (soundSum f l x host j)))
 
   -- a call that is done writes the whole spare
-  pub record CorrectingDone (old new : List ℕ) (n : Report) : Type 0 where
+  pub record CorrectingDone (old new : List ℕ) (n : CorrectedNumbers) : Type 0 where
     pub accepted : correctingRefusal f l x helpers shares host (length old) ≡ 0
     pub crossed-is : n .crossed ≡ traffic l
     pub long : length new ≡ length old
     pub settled : Settled (n .rack) new
 
   -- a call that is refused: no symbol changed; 14 is tried last
-  pub record CorrectingRefused (old new : List ℕ) (n : Report) : Type 0 where
+  pub record CorrectingRefused (old new : List ℕ) (n : CorrectedNumbers) : Type 0 where
     pub ground : 0 < n .refusal
     pub refused : ¬ (correctingRefusal f l x helpers shares host (length old) ≡ 0) → n .refusal ≡ correctingRefusal f l x helpers shares host (length old)
     pub last : correctingRefusal f l x helpers shares host (length old) ≡ 0 → (n .refusal ≡ 14) × NoneHold f l x helpers shares
@@ -110,7 +106,7 @@ pub record Setting {A : Type 0} (f : Field A) (l : Layout) (x : ℕ) (helpers sh
   pub shares-range : InRange (f .coding) shares
   pub host-long : length host ≡ l .size * layers l
   pub host-range : (g j : ℕ) → g < l .size → j < layers l → ¬ (g ≡ x % l .size) → getD host (g * layers l + j) 0 < f .coding .size
-  pub sound : (j : ℕ) → j < layers l → (g : ℕ) → g < l .size → ¬ (g ≡ x % l .size) → rackSymbol f l host g j ≡ rackSymbol f l (rackPart l c (x / l .size)) g j
+  pub sound : (j : ℕ) → j < layers l → (g : ℕ) → g < l .size → ¬ (g ≡ x % l .size) → symbolAt f l host g j ≡ symbolAt f l (rackPart l c (x / l .size)) g j
 
 -- and the helpers' shares, of which the k-th one's may have any symbols
 pub record OneWrong {A : Type 0} (f : Field A) (l : Layout) (x : ℕ) (helpers shares host c : List ℕ) (k : ℕ) : Type 0 where

@@ -20,6 +20,14 @@ pub enum Corrected {
     Refused(u8),
 }
 
+// The numbers of such an answer, as they cross to C; those that it does not have are 0.
+#[repr(C)]
+pub struct CorrectedNumbers {
+    pub refusal: u32,
+    pub rack: u32,
+    pub crossed: u64,
+}
+
 // The layout with E = 0 that has n whole racks of data more and 2 - n helpers less.
 fn plain_layout(l: Layout, n: u32) -> Layout
     requires { ⌜ AdmissibleWith (gf256 .order) 1 l × Racks n ⌝ }

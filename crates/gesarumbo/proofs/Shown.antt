@@ -1,123 +1,181 @@
 -- What the boundary shows of a call is the call's contract.
 -- Assumes nothing.
-use mathlib.Core.Path.{_≡_, sym, ap, ap₂, _∙_, subst}
+use mathlib.Core.Path.{_≡_, refl, sym, ap, ap₂, _∙_, subst}
 use mathlib.Core.Bool.{Bool, true, false, cond}
 use mathlib.Core.List.{List, [], _∷_}
-use Prim.Native.Nat.{ℕ, _+_, _-_, _*_, _<_}
+use Prim.Native.Nat.{ℕ, _+_, _-_, _*_, _≤_, _<_}
+use native.Mathlib.Decide.{ℕ-discrete}
+use native.Mathlib.Omega.{arith}
 use borrow.Author.Tests.{eq-eqb, ne-eqb}
 use lib.Dec.{eqb}
-use lib.ListN.{length, take, drop, take-append-drop}
-use lib.Seq.{take-append-seam}
+use lib.ListN.{length, take, drop, length-drop}
+use lib.Seq.{take-all, length-take-le}
+use Rattle.lists.proofs.Tables.{table-length}
 use Rattle.layout.specs.declared.Layout.{Layout}
 use Rattle.layout.specs.Layout.{layers}
-use Rattle.reading.specs.Reading.{partRefusal, run, partGiven}
-use Rattle.reading.proofs.Grounds.{Accepted, accepted}
-use Rattle.image.specs.Image.{edition1, headerLength, readRefusal, readTray, readSymbols}
-use Rattle.image.proofs.First.{given-part}
+use Rattle.reading.specs.Reading.{partRefusal, partGiven}
+use Rattle.reading.proofs.Grounds.{Accepted, accepted, run-end}
+use Rattle.image.specs.Image.{edition1, headerLength, symbolAt, ownLayout, ownTray, ownSymbols, readRefusal, readTray, readSymbols}
+use Rattle.image.proofs.Editions.{proper1}
+use Rattle.image.proofs.ReadGrounds.{readable}
+use Rattle.image.proofs.First.{given-rest}
 use Rattle.layout.specs.declared.Tray.{Tray}
 use Rattle.repair.specs.declared.Repaired.{Repaired}
-use Rattle.repair.specs.Repair.{RepairAnswer}
+use Rattle.repair.specs.Repair.{report, RepairAnswer}
 use Rattle.algebra.specs.Shape.{Field}
+use Rattle.gesarumbo.specs.declared.numbers.ImageNumbers.{ImageNumbers}
 use Rattle.gesarumbo.specs.declared.numbers.PartNumbers.{PartNumbers}
-use Rattle.gesarumbo.specs.declared.numbers.RepairNumbers.{RepairNumbers}
+use Rattle.repair.specs.declared.RepairNumbers.{RepairNumbers}
 use Rattle.correcting.specs.declared.Corrected.{Corrected}
-use Rattle.correcting.specs.Correcting.{CorrectingAnswer}
+use Rattle.correcting.specs.Correcting.{report as corrected, CorrectingAnswer}
 use Rattle.cards.specs.Cards.{CardAnswer}
-use Rattle.gesarumbo.specs.declared.numbers.CorrectedNumbers.{CorrectedNumbers}
-use Rattle.gesarumbo.specs.Boundary.{repairNumbers, correctedNumbers, Shown, ReadShown, PartShown}
-use Rattle.gesarumbo.specs.Inner.{partNumbers}
+use Rattle.correcting.specs.declared.CorrectedNumbers.{CorrectedNumbers}
+use Rattle.gesarumbo.specs.Boundary.{Shown, imageNumbers, partNumbers}
+use Rattle.gesarumbo.specs.Inner.{runNumbers}
 
--- a part is as long as it says
-own-length : (n : ℕ) (s part : List ℕ) → part ≡ take n s → take (length part) s ≡ part
-own-length n s part e =
-    ap (λ p. take (length p) s) e
-    ∙ ap (take (length (take n s))) (sym (take-append-drop n s))
-    ∙ take-append-seam (take n s) (drop n s)
-    ∙ sym e
-
+-- reading an image of edition 1; n is the refusal that was written
 module _ (l : Layout) (volume : ℕ) (image : List ℕ) where
   abbrev ground : ℕ
   ground = readRefusal edition1 l volume (layers l) image
 
-  pub read-refused : (n : ℕ) → n ≡ ground → (n ≡ 0 → ⊥) → ReadShown l volume image (record { refusal = n; tray = 0; offset = 0; length = 0 })
-  unfolding readTray readSymbols
-  read-refused n e d =
-      let r = ne-eqb ground 0 (λ z. d (e ∙ z)) in
-      record { refusal-is = e; tray-is = simp r; offset-is = simp r; length-is = simp r; part-is = simp r }
+  abbrev no-image : ℕ → ImageNumbers
+  no-image n = record { refusal = n; tray = 0; offset = 0; length = 0 }
+
+  abbrev an-image : ℕ → ℕ → ImageNumbers
+  an-image t n = record { refusal = 0; tray = t; offset = headerLength; length = n }
+
+  pub read-refused : (n : ℕ) → n ≡ ground → (n ≡ 0 → ⊥) → no-image n ≡ imageNumbers l volume image
+  unfolding imageNumbers
+  read-refused n e d = simp (ne-eqb ground 0 (λ z. d (e ∙ z))) (ap no-image e)
+
+  module _ (z : ground ≡ 0) where
+    read-long : length (readSymbols edition1 l volume (layers l) [] image) ≡ layers l
+    unfolding readSymbols ownSymbols
+    read-long =
+        simp (eq-eqb ground 0 z) (table-length (symbolAt edition1 image) (layers (ownLayout image))
+        ∙ ap layers (sym (readable edition1 l volume (layers l) image proper1 z .layout-is)))
+
+    read-tray : readTray edition1 l volume (layers l) image ≡ ownTray image
+    unfolding readTray
+    read-tray = simp (eq-eqb ground 0 z)
 
   pub read-done : (n t : ℕ) (part : List ℕ) → n ≡ ground → n ≡ 0 → t ≡ readTray edition1 l volume (layers l) image → part ≡ readSymbols edition1 l volume (layers l) [] image →
-      ReadShown l volume image (record { refusal = 0; tray = t; offset = headerLength; length = length part })
+      an-image t (length part) ≡ imageNumbers l volume image
+  unfolding imageNumbers
   read-done n t part e z f p =
-      let r = eq-eqb ground 0 (sym e ∙ z) in
-      let q : part ≡ take (length image - headerLength) (drop headerLength image) = p ∙ sym (given-part l volume image n e z) in
-      record {
-        refusal-is = sym z ∙ e;
-        tray-is = f;
-        offset-is = simp r;
-        length-is = ap length p;
-        part-is = own-length (length image - headerLength) (drop headerLength image) part q ∙ p;
-      }
+      let q : ground ≡ 0 = sym e ∙ z in
+      simp (eq-eqb ground 0 q) (ap₂ an-image (f ∙ read-tray q) (ap length p ∙ read-long q))
+
+  -- the bytes where the symbols are said to lie are the symbols that a read gives
+  abbrev Lies : Type 0
+  Lies = take (imageNumbers l volume image .length) (drop (imageNumbers l volume image .offset) image) ≡ readSymbols edition1 l volume (layers l) [] image
+
+  lies-refused : (ground ≡ 0 → ⊥) → Lies
+  unfolding imageNumbers readSymbols
+  lies-refused d = simp (ne-eqb ground 0 d)
+
+  lies-read : ground ≡ 0 → Lies
+  unfolding imageNumbers
+  lies-read z =
+      let g : drop headerLength image ≡ readSymbols edition1 l volume (layers l) [] image = given-rest l volume image ground refl z in
+      let n : length (drop headerLength image) ≡ layers l = ap length g ∙ read-long z in
+      simp (eq-eqb ground 0 z) (take-all (layers l) (drop headerLength image) (omega (arith, n)) ∙ g)
+
+  pub image-lies : Lies
+  image-lies = go (ℕ-discrete ground 0)
+    where
+      go : Dec (ground ≡ 0) → Lies
+      go (yes z) = lies-read z
+      go (no d) = lies-refused d
 
 module _ {A : Type 0} (f : Field A) (l : Layout) (helpers shares host : List ℕ) (first budget : ℕ) (old new : List ℕ) (a : Repaired) (r : RepairNumbers) where
-  pub repair-many-shown : (lost : List ℕ) → RepairAnswer f l lost helpers shares host first budget old new a → r ≡ repairNumbers a →
-      Shown (RepairAnswer f l lost helpers shares host first budget old new) repairNumbers r
+  pub repair-many-shown : (lost : List ℕ) → RepairAnswer f l lost helpers shares host first budget old new a → r ≡ report a →
+      Shown (RepairAnswer f l lost helpers shares host first budget old new) report r
   repair-many-shown lost right shown = record { answer = a; right = right; shown = shown }
 
   -- one lost tray
-  pub repair-shown : (lost : ℕ) (t : Tray) → t .0 ≡ lost → RepairAnswer f l (t .0 ∷ []) helpers shares host first budget old new a → r ≡ repairNumbers a →
-      Shown (RepairAnswer f l (lost ∷ []) helpers shares host first budget old new) repairNumbers r
+  pub repair-shown : (lost : ℕ) (t : Tray) → t .0 ≡ lost → RepairAnswer f l (t .0 ∷ []) helpers shares host first budget old new a → r ≡ report a →
+      Shown (RepairAnswer f l (lost ∷ []) helpers shares host first budget old new) report r
   repair-shown lost t e right shown =
       repair-many-shown (lost ∷ []) (subst (λ x. RepairAnswer f l (x ∷ []) helpers shares host first budget old new a) e right) shown
 
 -- the calls for one lost tray, by its number
 module _ {A : Type 0} (f : Field A) (l : Layout) (helpers shares host old new : List ℕ) (lost : ℕ) (t : Tray) (e : t .0 ≡ lost) where
-  pub correcting-shown : (a : Corrected) (r : CorrectedNumbers) → CorrectingAnswer f l (t .0) helpers shares host old new a → r ≡ correctedNumbers a →
-      Shown (CorrectingAnswer f l lost helpers shares host old new) correctedNumbers r
+  pub correcting-shown : (a : Corrected) (r : CorrectedNumbers) → CorrectingAnswer f l (t .0) helpers shares host old new a → r ≡ corrected a →
+      Shown (CorrectingAnswer f l lost helpers shares host old new) corrected r
   correcting-shown a r right shown =
       record { answer = a; right = subst (λ x. CorrectingAnswer f l x helpers shares host old new a) e right; shown = shown }
 
-  pub card-shown : (card : List ℕ) (group : ℕ) (a : Repaired) (r : RepairNumbers) → CardAnswer f l (t .0) helpers card shares host group old new a → r ≡ repairNumbers a →
-      Shown (CardAnswer f l lost helpers card shares host group old new) repairNumbers r
+  pub card-shown : (card : List ℕ) (group : ℕ) (a : Repaired) (r : RepairNumbers) → CardAnswer f l (t .0) helpers card shares host group old new a → r ≡ report a →
+      Shown (CardAnswer f l lost helpers card shares host group old new) report r
   card-shown card group a r right shown =
       record { answer = a; right = subst (λ x. CardAnswer f l x helpers card shares host group old new a) e right; shown = shown }
 
--- and so is one of two runs
-own-run : (b : Bool) (n x y : ℕ) (s c part : List ℕ) → part ≡ cond b (take n (drop x s)) (take n (drop y c)) →
-    take (length part) (drop (cond b x y) (cond (eqb (cond b 2 1) 2) s c)) ≡ part
-own-run true n x y s c part e = own-length n (drop x s) part e
-own-run false n x y s c part e = own-length n (drop y c) part e
+-- one of two runs: where it lies and how long it is
+run-lies : (b : Bool) (n x y : ℕ) (s c : List ℕ) → take n (drop (cond b x y) (cond (eqb (cond b 2 1) 2) s c)) ≡ cond b (take n (drop x s)) (take n (drop y c))
+run-lies true n x y s c = refl
+run-lies false n x y s c = refl
 
--- reading while repairing; x and y are the kinds' numbers, n the refusal that was written
-module _ (N : ℕ) (l : Layout) (codeword spare : List ℕ) (lost done tray first end x y n : ℕ) (xs : x ≡ lost) (ys : y ≡ tray)
-    (e : n ≡ partRefusal N l (length codeword) (length spare) x done y first end) where
-  refusal-is : n ≡ partRefusal N l (length codeword) (length spare) lost done tray first end
-  refusal-is = e ∙ ap₂ (λ a b. partRefusal N l (length codeword) (length spare) a done b first end) xs ys
+run-long : (b : Bool) (n x y : ℕ) (s c : List ℕ) → x + n ≤ length s → y + n ≤ length c → length (cond b (take n (drop x s)) (take n (drop y c))) ≡ n
+run-long true n x y s c h k = length-take-le n (drop x s) (omega (arith, length-drop x s))
+run-long false n x y s c h k = length-take-le n (drop y c) (omega (arith, length-drop y c))
 
-  pub part-refused : (n ≡ 0 → ⊥) → PartShown N l codeword spare lost done tray first end (record { refusal = n; source = 0; offset = 0; length = 0 })
+-- reading while repairing
+module _ (N : ℕ) (l : Layout) (codeword spare : List ℕ) (lost done tray first end : ℕ) where
+  abbrev part-ground : ℕ
+  part-ground = partRefusal N l (length codeword) (length spare) lost done tray first end
+
+  abbrev numbers : PartNumbers
+  numbers = partNumbers N l (length codeword) (length spare) lost done tray first end
+
+  abbrev no-part : ℕ → PartNumbers
+  no-part n = record { refusal = n; source = 0; offset = 0; length = 0 }
+
+  -- the symbols where the part is said to lie are the part that a read gives
+  abbrev PartLies : Type 0
+  PartLies = take (numbers .length) (drop (numbers .offset) (cond (eqb (numbers .source) 2) spare codeword)) ≡ partGiven N l codeword spare lost done tray first end
+
+  part-lies-refused : (part-ground ≡ 0 → ⊥) → PartLies
+  unfolding partNumbers partGiven
+  part-lies-refused d = simp (ne-eqb part-ground 0 d)
+
+  part-lies-read : part-ground ≡ 0 → PartLies
+  unfolding partNumbers partGiven
+  part-lies-read z = simp (eq-eqb part-ground 0 z) (run-lies (eqb tray lost) (end - first) first (tray * layers l + first) spare codeword)
+
+  pub part-lies : PartLies
+  part-lies = go (ℕ-discrete part-ground 0)
+    where
+      go : Dec (part-ground ≡ 0) → PartLies
+      go (yes z) = part-lies-read z
+      go (no d) = part-lies-refused d
+
+  part-long : part-ground ≡ 0 → length (partGiven N l codeword spare lost done tray first end) ≡ end - first
   unfolding partGiven
-  part-refused d =
-      let r = ne-eqb (partRefusal N l (length codeword) (length spare) lost done tray first end) 0 (λ z. d (refusal-is ∙ z)) in
-      record { refusal-is = refusal-is; source-is = simp r; offset-is = simp r; length-is = simp r; part-is = simp r }
+  part-long z =
+      let a = accepted N l (length codeword) (length spare) lost done tray first end z in
+      simp (eq-eqb part-ground 0 z) (run-long (eqb tray lost) (end - first) first (tray * layers l + first) spare codeword
+      (omega (arith, a .readable .rises, a .readable .end-in, a .spare-long)) (omega (arith, a .readable .rises, run-end a refl refl)))
 
-  module _ (z : n ≡ 0) where
-    none : partRefusal N l (length codeword) (length spare) lost done tray first end ≡ 0
-    none = sym refusal-is ∙ z
+  -- x and y are the kinds' numbers, n the refusal that was written
+  module _ (x y n : ℕ) (xs : x ≡ lost) (ys : y ≡ tray) (e : n ≡ partRefusal N l (length codeword) (length spare) x done y first end) where
+    refusal-is : n ≡ part-ground
+    refusal-is = e ∙ ap₂ (λ a b. partRefusal N l (length codeword) (length spare) a done b first end) xs ys
 
-    pub part-facts : Accepted N l (length codeword) (length spare) lost done tray first end
-    part-facts = accepted N l (length codeword) (length spare) lost done tray first end none
+    pub part-refused : (n ≡ 0 → ⊥) → no-part n ≡ numbers
+    unfolding partNumbers
+    part-refused d = simp (ne-eqb part-ground 0 (λ z. d (refusal-is ∙ z))) (ap no-part refusal-is)
 
-    module _ (part : List ℕ) (p : part ≡ partGiven N l codeword spare x done y first end) where
-      given : part ≡ partGiven N l codeword spare lost done tray first end
-      given = p ∙ ap₂ (λ a b. partGiven N l codeword spare a done b first end) xs ys
+    module _ (z : n ≡ 0) where
+      none : part-ground ≡ 0
+      none = sym refusal-is ∙ z
 
-      pub part-read : (m : ℕ) → m ≡ layers l → (r : PartNumbers) → r ≡ partNumbers lost tray first (tray * m + first) (length part) → PartShown N l codeword spare lost done tray first end r
-      unfolding partGiven run
-      part-read m k r s =
-          let q = eq-eqb (partRefusal N l (length codeword) (length spare) lost done tray first end) 0 none in
-          subst (PartShown N l codeword spare lost done tray first end) (sym (s ∙ ap (λ i. partNumbers lost tray first (tray * i + first) (length part)) k)) (record {
-            refusal-is = sym none;
-            source-is = simp q;
-            offset-is = simp q;
-            length-is = ap length given;
-            part-is = own-run (eqb tray lost) (end - first) first (tray * layers l + first) spare codeword part (given ∙ simp q) ∙ given;
-          })
+      pub part-facts : Accepted N l (length codeword) (length spare) lost done tray first end
+      part-facts = accepted N l (length codeword) (length spare) lost done tray first end none
+
+      pub part-read : (part : List ℕ) → part ≡ partGiven N l codeword spare x done y first end →
+          (m : ℕ) → m ≡ layers l → (r : PartNumbers) → r ≡ runNumbers lost tray first (tray * m + first) (length part) → r ≡ numbers
+      unfolding partNumbers
+      part-read part p m k r s =
+          let given : part ≡ partGiven N l codeword spare lost done tray first end = p ∙ ap₂ (λ a b. partGiven N l codeword spare a done b first end) xs ys in
+          simp (eq-eqb part-ground 0 none) (s ∙ ap₂ (λ i n. runNumbers lost tray first (tray * i + first) n) k (ap length given ∙ part-long none))

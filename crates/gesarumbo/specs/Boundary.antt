@@ -1,35 +1,28 @@
 -- The numbers that cross to C: for each answer those that documents 01 and 02 give it.
 -- Assumes nothing.
 use mathlib.Core.Path.{_≡_}
-use mathlib.Core.List.{List, []}
-use Prim.Native.Nat.{ℕ, _+_, _*_}
+use mathlib.Core.List.{List}
+use Prim.Native.Nat.{ℕ, _+_, _-_, _*_}
 use mathlib.Core.Bool.{cond}
 use lib.Dec.{eqb}
 use lib.IntN.{pos}
-use lib.ListN.{length, take, drop}
 use Rattle.layout.specs.declared.Layout.{Layout}
 use Rattle.layout.specs.declared.Measured.{Measured}
 use Rattle.layout.specs.declared.Measured.the-variants.{Known as Measures, Refused as NoMeasure}
 use Rattle.layout.specs.Layout.{layers}
 use Rattle.codeword.specs.declared.Tested.{Tested}
 use Rattle.codeword.specs.declared.Tested.the-variants.{Sound, Bad, Refused as NoTest}
-use Rattle.image.specs.Image.{edition1, headerLength, readRefusal, readTray, readSymbols}
+use Rattle.image.specs.Image.{edition1, headerLength, ownTray, readRefusal}
 use Rattle.scrub.specs.declared.Report.{Report}
+use Rattle.scrub.specs.declared.Report.the-variants.{Begun, Unfinished, Sound as FoundSound, Bad as FoundBad, Refused as NoWalk}
 use Rattle.scrub.specs.declared.Scrubbed.{Scrubbed}
-use Rattle.scrub.specs.Scrub.{numbersOf as reported}
 use Rattle.gesarumbo.specs.declared.numbers.ImageNumbers.{ImageNumbers}
 use Rattle.margin.specs.declared.LossMargin.{LossMargin}
 use Rattle.margin.specs.declared.LossMargin.the-variants.{Known as Margin, Refused as NoMargin}
 use Rattle.gesarumbo.specs.declared.numbers.MarginNumbers.{MarginNumbers}
 use Rattle.gesarumbo.specs.declared.numbers.MeasureNumbers.{MeasureNumbers}
-use Rattle.repair.specs.declared.Repaired.{Repaired}
-use Rattle.repair.specs.Repair.{report}
-use Rattle.correcting.specs.declared.Corrected.{Corrected}
-use Rattle.correcting.specs.Correcting.{report as corrected}
-use Rattle.reading.specs.Reading.{partRefusal, partGiven}
-use Rattle.gesarumbo.specs.declared.numbers.CorrectedNumbers.{CorrectedNumbers}
+use Rattle.reading.specs.Reading.{partRefusal}
 use Rattle.gesarumbo.specs.declared.numbers.PartNumbers.{PartNumbers}
-use Rattle.gesarumbo.specs.declared.numbers.RepairNumbers.{RepairNumbers}
 use Rattle.gesarumbo.specs.declared.numbers.TestNumbers.{TestNumbers}
 use Rattle.gesarumbo.specs.declared.numbers.ReportNumbers.{ReportNumbers}
 use Rattle.gesarumbo.specs.declared.numbers.ScrubNumbers.{ScrubNumbers}
@@ -50,18 +43,17 @@ abbrev pub marginNumbers : LossMargin → MarginNumbers
 marginNumbers (Margin m) = record { refusal = 0; margin = m }
 marginNumbers (NoMargin e) = record { refusal = e; margin = pos 0 }
 
-abbrev pub repairNumbers : Repaired → RepairNumbers
-repairNumbers a =
-    record { refusal = report a .refusal; groups = report a .groupsDone; crossed = report a .crossed; remaining = report a .remaining }
-
-abbrev pub correctedNumbers : Corrected → CorrectedNumbers
-correctedNumbers a = record { refusal = corrected a .refusal; rack = corrected a .rack; crossed = corrected a .crossed }
-
+-- the refusal and the report: 1 unfinished, 2 sound, 3 bad, 0 where nothing is said of the codeword
 abbrev pub reportNumbers : Report → ReportNumbers
-reportNumbers r = record { refusal = reported r .refusal; report = reported r .report }
+reportNumbers Begun = record { refusal = 0; report = 0 }
+reportNumbers Unfinished = record { refusal = 0; report = 1 }
+reportNumbers FoundSound = record { refusal = 0; report = 2 }
+reportNumbers FoundBad = record { refusal = 0; report = 3 }
+reportNumbers (NoWalk e) = record { refusal = e; report = 0 }
 
+-- these and the record
 abbrev pub scrubNumbers : Scrubbed → ScrubNumbers
-scrubNumbers a = record { refusal = reported (a .report) .refusal; report = reported (a .report) .report; walk = a .walk }
+scrubNumbers a = record { refusal = reportNumbers (a .report) .refusal; report = reportNumbers (a .report) .report; walk = a .walk }
 
 -- the numbers are those of an answer that the call's contract allows
 pub record Shown {Answer Numbers : Type 0} (Allowed : Answer → Type 0) (numbers : Answer → Numbers) (r : Numbers) : Type 0 where
@@ -69,23 +61,17 @@ pub record Shown {Answer Numbers : Type 0} (Allowed : Answer → Type 0) (number
   pub right : Allowed answer
   pub shown : r ≡ numbers answer
 
--- the numbers and the place of the part that a read of edition 1 gives
-pub record ReadShown (l : Layout) (volume : ℕ) (image : List ℕ) (r : ImageNumbers) : Type 0 where
-  pub refusal-is : r .refusal ≡ readRefusal edition1 l volume (layers l) image
-  pub tray-is : r .tray ≡ readTray edition1 l volume (layers l) image
-  pub offset-is : r .offset ≡ cond (eqb (readRefusal edition1 l volume (layers l) image) 0) headerLength 0
-  pub length-is : r .length ≡ length (readSymbols edition1 l volume (layers l) [] image)
-  pub part-is : take (r .length) (drop (r .offset) image) ≡ readSymbols edition1 l volume (layers l) [] image
+-- the refusal, the tray and where the symbols of an image of edition 1 lie in it: the L bytes behind the header
+unfoldable pub imageNumbers : Layout → ℕ → List ℕ → ImageNumbers
+imageNumbers l volume image =
+    cond (eqb (readRefusal edition1 l volume (layers l) image) 0)
+    (record { refusal = 0; tray = ownTray image; offset = headerLength; length = layers l })
+    (record { refusal = readRefusal edition1 l volume (layers l) image; tray = 0; offset = 0; length = 0 })
 
--- the place of the part that a read gives while a tray is being repaired: source is 1 for the codeword and 2 for the spare. N is the number of powers of the field's root
-module _ (N : ℕ) (l : Layout) (codeword spare : List ℕ) (lost done tray first end : ℕ) where
-  -- a number of a call that is done, 0 with a refusal
-  abbrev pub ifRead : ℕ → ℕ
-  ifRead n = cond (eqb (partRefusal N l (length codeword) (length spare) lost done tray first end) 0) n 0
-
-  pub record PartShown (r : PartNumbers) : Type 0 where
-    pub refusal-is : r .refusal ≡ partRefusal N l (length codeword) (length spare) lost done tray first end
-    pub source-is : r .source ≡ ifRead (cond (eqb tray lost) 2 1)
-    pub offset-is : r .offset ≡ ifRead (cond (eqb tray lost) first (tray * layers l + first))
-    pub length-is : r .length ≡ length (partGiven N l codeword spare lost done tray first end)
-    pub part-is : take (r .length) (drop (r .offset) (cond (eqb (r .source) 2) spare codeword)) ≡ partGiven N l codeword spare lost done tray first end
+-- the refusal and where the part lies that a read gives while a tray is being repaired: end - first symbols of the codeword (source 1) or of the spare (source 2),
+-- given the lengths of these. N is the number of powers of the field's root
+unfoldable pub partNumbers : ℕ → Layout → ℕ → ℕ → ℕ → ℕ → ℕ → ℕ → ℕ → PartNumbers
+partNumbers N l codeword spare lost done tray first end =
+    cond (eqb (partRefusal N l codeword spare lost done tray first end) 0)
+    (record { refusal = 0; source = cond (eqb tray lost) 2 1; offset = cond (eqb tray lost) first (tray * layers l + first); length = end - first })
+    (record { refusal = partRefusal N l codeword spare lost done tray first end; source = 0; offset = 0; length = 0 })

@@ -6,7 +6,7 @@ use layout::Tray;
 ghost use mathlib.Core.Path.{_≡_};
 ghost use lib.ListN.{length};
 ghost use Rattle.image.specs.Image.{edition1, edition2, writeRefusal, writeBuffer, readRefusal, readTray, readSymbols};
-ghost use Rattle.gesarumbo.specs.Boundary.{ReadShown};
+ghost use Rattle.gesarumbo.specs.Boundary.{imageNumbers};
 
 #[no_mangle]
 pub extern "C" fn gesarumbo_write_image(
@@ -40,7 +40,7 @@ pub extern "C" fn gesarumbo257_write_image(
 
 #[no_mangle]
 pub extern "C" fn gesarumbo_read_image(l: Layout, volume: u32, image: &[u8]) -> ImageNumbers
-    ensures { λ r. ⌜ ReadShown l volume (now (image .entry)) r ⌝ }
+    ensures { λ r. ⌜ r ≡ imageNumbers l volume (now (image .entry)) ⌝ }
 {
     let mut refusal = 0u32;
     let mut tray = 0u32;

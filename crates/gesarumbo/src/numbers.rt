@@ -1,15 +1,19 @@
 // The structs that cross to C, as in c/gesarumbo.h, and the numbers that they have for an answer.
 use codeword::Tested;
 use correcting::Corrected;
+use correcting::CorrectedNumbers;
 use layout::Measured;
 use margin::LossMargin;
+use repair::RepairNumbers;
 use repair::Repaired;
 use scrub::Report;
 use scrub::Scrubbed;
 use scrub::Walk;
 ghost use mathlib.Core.Path.{_≡_};
-ghost use Rattle.gesarumbo.specs.Boundary.{measureNumbers, testNumbers, marginNumbers, repairNumbers, correctedNumbers, scrubNumbers};
-ghost use Rattle.gesarumbo.specs.Inner.{partNumbers};
+ghost use Rattle.repair.specs.Repair.{report};
+ghost use Rattle.correcting.specs.Correcting.{report as corrected};
+ghost use Rattle.gesarumbo.specs.Boundary.{measureNumbers, testNumbers, marginNumbers, scrubNumbers};
+ghost use Rattle.gesarumbo.specs.Inner.{runNumbers};
 
 #[repr(C)]
 pub struct MeasureNumbers {
@@ -25,21 +29,6 @@ pub struct TestNumbers {
     pub verdict: u32,
     pub layer: u32,
     pub check: u32,
-}
-
-#[repr(C)]
-pub struct RepairNumbers {
-    pub refusal: u32,
-    pub groups: u64,
-    pub crossed: u64,
-    pub remaining: u64,
-}
-
-#[repr(C)]
-pub struct CorrectedNumbers {
-    pub refusal: u32,
-    pub rack: u32,
-    pub crossed: u64,
 }
 
 #[repr(C)]
@@ -129,7 +118,7 @@ pub fn test_numbers(answer: Tested) -> TestNumbers
 
 // The numbers of an answer of a repair.
 pub fn repair_numbers(answer: Repaired) -> RepairNumbers
-    ensures { λ r. ⌜ r ≡ repairNumbers answer ⌝ }
+    ensures { λ r. ⌜ r ≡ report answer ⌝ }
 {
     match answer {
         Repaired::Done {
@@ -153,7 +142,7 @@ pub fn repair_numbers(answer: Repaired) -> RepairNumbers
 
 // The numbers of an answer of the correcting repair.
 pub fn corrected_numbers(answer: Corrected) -> CorrectedNumbers
-    ensures { λ r. ⌜ r ≡ correctedNumbers answer ⌝ }
+    ensures { λ r. ⌜ r ≡ corrected answer ⌝ }
 {
     match answer {
         Corrected::Done { rack, crossed } => CorrectedNumbers {
@@ -222,7 +211,7 @@ pub fn scrub_numbers(answer: Scrubbed) -> ScrubNumbers
 
 // The numbers of a part that was read: from the spare for the lost tray, from the codeword, where it begins at `start`, for any other.
 pub fn part_numbers(lost: u32, tray: u32, first: u32, start: usize, length: usize) -> PartNumbers
-    ensures { λ r. ⌜ r ≡ partNumbers lost tray first start length ⌝ }
+    ensures { λ r. ⌜ r ≡ runNumbers lost tray first start length ⌝ }
 {
     if tray == lost {
         return PartNumbers {

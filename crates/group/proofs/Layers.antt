@@ -16,7 +16,7 @@ use Rattle.layout.specs.declared.Layout.{Layout}
 use Rattle.layout.specs.Layout.{digits, layers, layerLimit}
 use Rattle.layout.proofs.Facts.{bounds}
 use Rattle.layout.proofs.Numbers.{digits-small, layer-below}
-use Rattle.blocks.specs.Blocks.{Block}
+use Rattle.blocks.specs.Inner.{Block}
 use Rattle.blocks.proofs.Digits.{run-pos}
 use Rattle.sums.specs.Inner.{Groups}
 use Rattle.sums.proofs.Sides.{width-pos}

@@ -26,10 +26,10 @@ use Rattle.layout.specs.declared.Layout.{Layout}
 use Rattle.layout.specs.Layout.{digits, layers, groups, AdmissibleWith}
 use Rattle.layout.proofs.Facts.{bounds}
 use Rattle.layout.proofs.Numbers.{layer-below}
-use Rattle.codeword.specs.Codeword.{shapeOf}
+use Rattle.codeword.specs.Codeword.{shapeOf, symbolAt}
 use Rattle.codeword.proofs.Usable.{solvable}
-use Rattle.blocks.specs.Blocks.{roomLimit, Block}
-use Rattle.rule.specs.Rule.{groupAt, rackSymbol}
+use Rattle.blocks.specs.Inner.{roomLimit, Block}
+use Rattle.rule.specs.Rule.{groupAt}
 use Rattle.rule.specs.Lost.{firstLost, lostPlace, Losses, Piece}
 use Rattle.rule.specs.Inner.{layerSum, lostSymbol}
 use Rattle.rule.proofs.Lost.{lost-places, is-ruled}
@@ -89,7 +89,7 @@ module _ {A : Type 0} {f : Field A} (W : Working f) where
           ∙ solve-congr ops (column f 1 places (j / w % 1)) (λ k. place (shapeOf f l) (lostPlace l lost k)) i (length lost) hi
           (λ k hk. ap (λ n. elem (getD places n 0)) (number k (j / w % 1) (mod-one (j / w))) ∙ p .at k hk) _ _ (λ m hm. ap (ops .neg) (r .at m j hm hj) ∙ neg-neg ops laws _)
           ∙ ap (λ y. solve ops (λ k. place (shapeOf f l) (lostPlace l lost k)) (length lost)
-          (rest ops (place (shapeOf f l)) (l .size) (lostPlace l lost) (length lost) (λ m. ops .neg (cell f w sums (m * digits l + a) j)) (λ g. rackSymbol f l host g y)) i) (t .at j hj)
+          (rest ops (place (shapeOf f l)) (l .size) (lostPlace l lost) (length lost) (λ m. ops .neg (cell f w sums (m * digits l + a) j)) (λ g. symbolAt f l host g y)) i) (t .at j hj)
         where
           number : (k c : ℕ) → c ≡ 0 → k * 1 + c ≡ k
           number k c e = omega arith
@@ -165,7 +165,7 @@ module _ {A : Type 0} {f : Field A} (W : Working f) where
       unfolding foundAt lostSymbol
       symbol-is i =
           ap val (erased-congr ops (place (shapeOf f l)) (l .size) (lostPlace l lost) (length lost) (lost-places f l (solvable W l adm) lost helpers given) _ _ _ _
-          sum-is (record { at = λ g hg out. ap (rackSymbol f l host g) layer-is }) i)
+          sum-is (record { at = λ g hg out. ap (symbolAt f l host g) layer-is }) i)
 
       written : (old new : List ℕ) → BlockRepaired f l h lost host w first sums (digits l) old new →
           (i : ℕ) → i < length lost → y < layers l → getD new (i * layers l + y) 0 ≡ lostSymbol f l lost helpers shares host i y

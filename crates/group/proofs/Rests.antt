@@ -32,7 +32,6 @@ use Rattle.layout.specs.Layout.{digits, layers, trayLimit}
 use Rattle.layout.proofs.Facts.{bounds}
 use Rattle.codeword.specs.Codeword.{shapeOf, symbolAt}
 use Rattle.syndrome.specs.Inner.{Terms}
-use Rattle.rule.specs.Rule.{rackSymbol}
 use Rattle.rule.specs.Lost.{lostPlace}
 use Rattle.group.specs.Inner.{spot, gathered, InTray, Losing, LostPlaces, PlacesTo, soundSymbol, PlaceTerms, Begun, Growing, Rests}
 use Rattle.group.proofs.Spots.{spot-from}
@@ -70,7 +69,7 @@ module _ {A : Type 0} {f : Field A} (W : Working f) where
   -- ---- a place's terms
   pub terms-of : (l : Layout) (w e start run count stride total : ℕ) (host : List ℕ) (g p : ℕ) (before cur above row was is : List ℕ) → total ≡ layers l →
       elem p ≡ pow ops (place (shapeOf f l) g) 1 → InTray l w start run count stride → Run (gathered host (g * total + start) run stride) before cur 0 (count * run) →
-      Run (filled p) above row 0 w → Terms f w e row cur was is → PlaceTerms f l w e (λ j. rackSymbol f l host g (spot start run stride j)) g was is
+      Run (filled p) above row 0 w → Terms f w e row cur was is → PlaceTerms f l w e (λ j. symbolAt f l host g (spot start run stride j)) g was is
   unfolding symbolAt gathered filled
   terms-of l w e start run count stride total host g p before cur above row was is et ep t c r k = record {
     at = λ m j hm hj.
@@ -93,16 +92,16 @@ module _ {A : Type 0} {f : Field A} (W : Working f) where
       sound-lost : g < l .size → absent lost (h * l .size + g) ≡ false → soundSymbol f l lost host y g ≡ ops .zero
       unfolding soundSymbol
       sound-lost hg e =
-          sym (fill-same (lostPlace l lost) (λ k. ops .zero) (λ z. rackSymbol f l host z y) (length lost) (λ z. ops .zero) g (λ k hk eg. refl)
+          sym (fill-same (lostPlace l lost) (λ k. ops .zero) (λ z. symbolAt f l host z y) (length lost) (λ z. ops .zero) g (λ k hk eg. refl)
           (λ out. absurd (false≢true (sym e ∙ sym (absent-true lost (h * l .size + g) (λ k hk t. out k hk (place-of k hk t)))))))
         where
           place-of : (k : ℕ) → k < length lost → getD lost k 0 ≡ h * l .size + g → g ≡ lostPlace l lost k
           place-of k hk t = cell-same (l .size) h h g (lostPlace l lost k) hg (unfold lostPlace in mod-lt (getD lost k 0) (bounds l (q .adm) .size-low)) (sym t ∙ sym (tray-at k hk)) .1
 
-      sound-there : absent lost (h * l .size + g) ≡ true → soundSymbol f l lost host y g ≡ rackSymbol f l host g y
+      sound-there : absent lost (h * l .size + g) ≡ true → soundSymbol f l lost host y g ≡ symbolAt f l host g y
       unfolding soundSymbol
       sound-there e =
-          fill-outside (lostPlace l lost) (λ k. ops .zero) (λ z. rackSymbol f l host z y) (length lost) g
+          fill-outside (lostPlace l lost) (λ k. ops .zero) (λ z. symbolAt f l host z y) (length lost) g
           (λ k hk eg. absent-all lost (h * l .size + g) e k hk (sym (tray-at k hk) ∙ ap (λ z. h * l .size + z) (sym eg)))
 
     module _ (w e : ℕ) (layer : ℕ → ℕ) (g : ℕ) (was : List ℕ) where
@@ -114,7 +113,7 @@ module _ {A : Type 0} {f : Field A} (W : Working f) where
             ∙ ap (ops .add (cell f w was m j)) (mul-zero ops laws _) ∙ add-zero ops laws (cell f w was m j));
       }
 
-      pub terms-sound : (is : List ℕ) → absent lost (h * l .size + g) ≡ true → PlaceTerms f l w e (λ j. rackSymbol f l host g (layer j)) g was is →
+      pub terms-sound : (is : List ℕ) → absent lost (h * l .size + g) ≡ true → PlaceTerms f l w e (λ j. symbolAt f l host g (layer j)) g was is →
           PlaceTerms f l w e (λ j. soundSymbol f l lost host (layer j) g) g was is
       terms-sound is out t = record {
         at = λ m j hm hj. t .at m j hm hj ∙ ap (λ v. ops .add (cell f w was m j) (ops .mul (pow ops (place (shapeOf f l) g) m) v)) (sym (sound-there g (layer j) out));

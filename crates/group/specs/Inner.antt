@@ -14,9 +14,8 @@ use Rattle.algebra.specs.Shape.{Field}
 use Rattle.kernel.specs.Inner.{cell, Inverses}
 use Rattle.layout.specs.declared.Layout.{Layout}
 use Rattle.layout.specs.Layout.{digits, layers, Cabinet}
-use Rattle.codeword.specs.Codeword.{shapeOf}
-use Rattle.blocks.specs.Blocks.{roomLimit}
-use Rattle.rule.specs.Rule.{rackSymbol}
+use Rattle.codeword.specs.Codeword.{shapeOf, symbolAt}
+use Rattle.blocks.specs.Inner.{roomLimit}
 use Rattle.rule.specs.Lost.{lostPlace}
 use Rattle.sums.specs.Inner.{Groups}
 
@@ -90,7 +89,7 @@ module _ {A : Type 0} (f : Field A) where
 
   -- the host rack's symbols in layer y, zero at the lost places
   unfoldable pub soundSymbol : (l : Layout) (lost host : List ℕ) (y g : ℕ) → A
-  soundSymbol l lost host y = fill (lostPlace l lost) (λ k. ops .zero) (length lost) (λ g. rackSymbol f l host g y)
+  soundSymbol l lost host y = fill (lostPlace l lost) (λ k. ops .zero) (length lost) (λ g. symbolAt f l host g y)
 
   -- the part of place g added to the sums of the weights below e, with the symbols of a word for each column
   pub record PlaceTerms (l : Layout) (w e : ℕ) (symbol : ℕ → A) (g : ℕ) (was is : List ℕ) : Type 0 where
@@ -111,13 +110,13 @@ module _ {A : Type 0} (f : Field A) where
     pub at : (m j : ℕ) → m < length lost → j < w →
         cell f w rests m j
         ≡ ops .neg (rest ops (place (shapeOf f l)) (l .size) (lostPlace l lost) (length lost) (λ m. ops .neg (cell f w sums (m * digits l + a) j))
-        (λ g. rackSymbol f l host g (spot start run stride j)) m)
+        (λ g. symbolAt f l host g (spot start run stride j)) m)
 
   -- the lost symbols of the layer of group first + j with the digit a, where a buffer holds less the block's host sums: the i-th of them
   unfoldable pub foundAt : (l : Layout) (lost host : List ℕ) (h w first : ℕ) (sums : List ℕ) (a j i : ℕ) → A
   foundAt l lost host h w first sums a j i =
       erased ops (place (shapeOf f l)) (l .size) (lostPlace l lost) (length lost) (λ m. ops .neg (cell f w sums (m * digits l + a) j))
-      (λ g. rackSymbol f l host g (layerOf (digits l) h (first + j) a)) i
+      (λ g. symbolAt f l host g (layerOf (digits l) h (first + j) a)) i
 
   -- the layers of the block with the digit a are written, all others are as they were
   pub record DigitRepaired (l : Layout) (h : ℕ) (lost host : List ℕ) (w first : ℕ) (sums : List ℕ) (a : ℕ) (old new : List ℕ) : Type 0 where

@@ -9,7 +9,7 @@ ghost use Rattle.symbol.specs.Elem.{gf256};
 ghost use Rattle.kernel.specs.Inner.{Run};
 ghost use Rattle.layout.specs.Layout.{digits, layers, Cabinet};
 ghost use Rattle.syndrome.specs.Inner.{Room};
-ghost use Rattle.rule.specs.Rule.{rackSymbol};
+ghost use Rattle.codeword.specs.Codeword.{symbolAt};
 ghost use Rattle.sums.specs.Inner.{Groups};
 ghost use Rattle.group.specs.Inner.{spot, gathered, Inside, Scattered, InTray, Lying, Losing, LostPlaces, soundSymbol, PlaceTerms, Begun, Rests, PutRows};
 ghost use Rattle.group.specs.Inner.{DigitRepaired, BlockRepaired, Repairing, Workspace};
@@ -97,7 +97,7 @@ fn place_terms(
     row: &mut [u8],
 )
     requires { ⌜ Cabinet l × InTray l w (r .start) (r .run) (r .count) (r .stride) × Room w e (now rests) (now cur) (now row) × (length (now host) ≡ l .size * layers l) × (g < l .size) ⌝ }
-    ensures { λ _. ⌜ PlaceTerms gf256 l w e (λ j. rackSymbol gf256 l (now (host .entry)) g (spot (r .start) (r .run) (r .stride) j)) g (now (rests .entry)) (now (rests .exit)) ⌝ }
+    ensures { λ _. ⌜ PlaceTerms gf256 l w e (λ j. symbolAt gf256 l (now (host .entry)) g (spot (r .start) (r .run) (r .stride) j)) g (now (rests .entry)) (now (rests .exit)) ⌝ }
 {
     let total = layout::layer_count(l) as usize;
     let start = g as usize * total + r.start;

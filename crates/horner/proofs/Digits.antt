@@ -16,7 +16,7 @@ use Rattle.algebra.specs.Plain.{plus, rootPower, Working}
 use Rattle.algebra.proofs.Ring.{ring, one-mul, add-zero, mul-add}
 use Rattle.algebra.proofs.Pow.{pow-zero, pow-add}
 use Rattle.algebra.proofs.Plain.{elem-plus, elem-zero, elem-rootPower}
-use Rattle.horner.specs.Horner.{scaled, stepped, through}
+use Rattle.horner.specs.Inner.{scaled, stepped, through}
 use Rattle.horner.proofs.Loops.{elem-scaled}
 
 module _ {A : Type 0} {f : Field A} (W : Working f) where

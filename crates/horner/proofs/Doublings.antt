@@ -21,7 +21,7 @@ use Rattle.symbol.proofs.Elem.{laws, val-elem, elem-⊗}
 use Rattle.symbol.proofs.Working.{working, zpow-is}
 use Rattle.symbol.proofs.Halves.{twice-times}
 use Rattle.kernel.specs.Inner.{Run}
-use Rattle.horner.specs.Horner.{scaled, steppedRun, Left}
+use Rattle.horner.specs.Inner.{scaled, steppedRun, Left}
 use Rattle.horner.proofs.Loops.{elem-scaled, steps-next}
 
 pub double-more : (x k v n : ℕ) → v ≡ scaled gf256 k x → n ≡ mulz v → n ≡ scaled gf256 (k + 1) x

@@ -17,7 +17,7 @@ use Rattle.algebra.proofs.Ring.{one-mul, mul-assoc}
 use Rattle.algebra.proofs.Pow.{pow-zero, pow-add}
 use Rattle.kernel.specs.Inner.{Run}
 use Rattle.kernel.proofs.Runs.{run-more}
-use Rattle.horner.specs.Horner.{scaled, scaledRun, Scaled, stepped, steppedRun, through, throughRun, Left}
+use Rattle.horner.specs.Inner.{scaled, scaledRun, Scaled, stepped, steppedRun, through, throughRun, Left}
 
 -- a choice
 pub chosen-same : (y d p : ℕ) → d ≡ p → y ≡ cond (eqb d p) y 0

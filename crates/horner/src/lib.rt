@@ -10,7 +10,7 @@ ghost use lib.Dec.{eqb};
 ghost use lib.ListN.{length};
 ghost use Rattle.symbol.specs.Elem.{gf256};
 ghost use Rattle.kernel.specs.Inner.{Run};
-ghost use Rattle.horner.specs.Horner.{scaled, scaledRun, Scaled, steppedRun, throughRun};
+ghost use Rattle.horner.specs.Inner.{scaled, scaledRun, Scaled, steppedRun, throughRun};
 
 // A symbol times the root, t times over.
 fn raised(x: u8, t: usize) -> u8

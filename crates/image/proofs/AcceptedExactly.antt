@@ -14,10 +14,10 @@ use Rattle.lists.proofs.Tables.{table-length, table-at}
 use Rattle.layout.specs.declared.Layout.{Layout}
 use Rattle.layout.specs.Layout.{trays, layers}
 use Rattle.image.specs.declared.Edition.{Edition}
-use Rattle.image.specs.Image.{edition1, headerLength, imageLength, live, header, symbolBytes, stateAllowed, volumeAllowed, writeRefusal, writeBuffer}
-use Rattle.image.specs.Image.{ownLayout, ownState, ownTray, ownVolume, ownHeader, symbolAt, ownSymbols, readRefusal, readTray, readSymbols}
+use Rattle.image.specs.Image.{edition1, headerLength, imageLength, live, header, symbolBytes, writeRefusal, writeBuffer}
+use Rattle.image.specs.Image.{ownLayout, ownState, ownTray, ownVolume, symbolAt, ownSymbols, readRefusal, readTray, readSymbols}
 use Rattle.image.specs.Claims.{Gives, Made, AcceptedExactly}
-use Rattle.image.specs.Inner.{Proper}
+use Rattle.image.specs.Inner.{Proper, stateAllowed, volumeAllowed, ownHeader}
 use Rattle.image.proofs.Editions.{proper1}
 use Rattle.image.proofs.Numbers.{symbols-back}
 use Rattle.image.proofs.Bytes.{header-length, begins-split}

@@ -11,8 +11,8 @@ use Rattle.lists.specs.Lists.{allBelow}
 use Rattle.layout.specs.declared.Layout.{Layout}
 use Rattle.layout.specs.Layout.{layers, Cabinet}
 use Rattle.image.specs.declared.Edition.{Edition}
-use Rattle.image.specs.Image.{headerLength, header, symbolBytes, writeGrounds, writeRefusal, writeBuffer}
-use Rattle.image.specs.Inner.{Proper}
+use Rattle.image.specs.Image.{headerLength, header, symbolBytes, writeRefusal, writeBuffer}
+use Rattle.image.specs.Inner.{Proper, writeGrounds}
 use Rattle.image.proofs.Bytes.{header-length}
 use Rattle.image.proofs.WriteGrounds.{Writable, writable, write-answer, written}
 

@@ -16,7 +16,8 @@ use Rattle.layout.specs.declared.Layout.{Layout}
 use Rattle.layout.specs.Layout.{layers, admissible}
 use Rattle.symbol.specs.Elem.{gf256}
 use Rattle.range.specs.Range.{symbolsFrom}
-use Rattle.image.specs.Image.{edition1, headerLength, symbolBytes, ownLayout, symbolAt, ownSymbols, symbolsHeld, headerFormed, wellFormed, formedRefusal, readRefusal, readSymbols}
+use Rattle.image.specs.Image.{edition1, headerLength, symbolBytes, ownLayout, symbolAt, ownSymbols, wellFormed, readRefusal, readSymbols}
+use Rattle.image.specs.Inner.{symbolsHeld, headerFormed, formedRefusal}
 use Rattle.image.proofs.Editions.{proper1}
 use Rattle.image.proofs.Numbers.{symbols-one}
 use Rattle.image.proofs.Forms.{formed-room, formed-symbols}

@@ -1,7 +1,7 @@
 -- A well-formed image as facts, and from the tests as the code makes them.
 -- Assumes nothing.
-use mathlib.Core.Path.{_≡_, sym, ap, _∙_}
-use mathlib.Core.Bool.{Bool, true, false, not, false≢true}
+use mathlib.Core.Path.{_≡_, refl, sym, ap, _∙_}
+use mathlib.Core.Bool.{Bool, true, false, not, _&&_, false≢true}
 use mathlib.Core.List.{List}
 use Prim.Native.Nat.{ℕ, _+_, _*_, _≤_, _<_}
 use native.Mathlib.Omega.{arith}
@@ -13,8 +13,8 @@ use Rattle.layout.specs.declared.Layout.{Layout}
 use Rattle.layout.specs.Layout.{layers, admissible, Cabinet, Admissible}
 use Rattle.layout.proofs.Facts.{admissible-facts, facts-admissible, admitted-so}
 use Rattle.image.specs.declared.Edition.{Edition}
-use Rattle.image.specs.Image.{headerLength, imageLength, header, inRange, ownLayout, ownState, ownTray, ownVolume, ownHeader, symbolAt, symbolsHeld, begins, headerFormed, wellFormed}
-use Rattle.image.specs.Inner.{Proper, Headed}
+use Rattle.image.specs.Image.{headerLength, imageLength, header, inRange, ownLayout, ownState, ownTray, ownVolume, symbolAt, begins, wellFormed}
+use Rattle.image.specs.Inner.{Proper, Headed, ownHeader, symbolsHeld, headerFormed}
 use Rattle.image.proofs.Ranges.{InRange, range-facts, facts-range}
 
 module _ (ed : Edition) (s : List ℕ) where
@@ -65,28 +65,31 @@ module _ (ed : Edition) (s : List ℕ) where
     pub head : HeaderFormed
     pub held : (j : ℕ) → j < layers (ownLayout s) → symbolAt ed s j < ed .size
 
+  parts : wellFormed ed s ≡ (headerFormed ed s && symbolsHeld ed s (layers (ownLayout s)))
+  unfolding wellFormed headerFormed symbolsHeld
+  parts = refl
+
   pub formed-facts : Proper ed → wellFormed ed s ≡ true → WellFormed
-  unfolding wellFormed symbolsHeld
+  unfolding symbolsHeld
   formed-facts g h =
-      let p = both (headerFormed ed s) (symbolsHeld ed s (layers (ownLayout s))) h in
+      let p = both (headerFormed ed s) (symbolsHeld ed s (layers (ownLayout s))) (sym parts ∙ h) in
       record {
         head = header-facts g (p .0);
         held = λ j k. ltb-true _ _ (all-holds (λ j. ltb (symbolAt ed s j) (ed .size)) (layers (ownLayout s)) (p .1) j k);
       }
 
   pub facts-formed : Proper ed → WellFormed → wellFormed ed s ≡ true
-  unfolding wellFormed symbolsHeld
+  unfolding symbolsHeld
   facts-formed g w =
-      simp (
+      rw parts (simp (
         facts-header g (w .head),
         all-true (λ j. ltb (symbolAt ed s j) (ed .size)) (layers (ownLayout s)) (λ j k. lt-ltb _ _ (w .held j k)),
-      )
+      ))
 
   -- from the test of the header
   module _ (b : Bool) (e : b ≡ headerFormed ed s) where
     pub formed-not : not b ≡ true → false ≡ wellFormed ed s
-    unfolding wellFormed
-    formed-not h = simp (told-false e h)
+    formed-not h = rw parts (simp (told-false e h))
 
     module _ (g : Proper ed) (h : not b ≡ false) where
       facts : HeaderFormed
@@ -106,8 +109,7 @@ module _ (ed : Edition) (s : List ℕ) where
         formed-room = let f : ed .width * total ≡ ed .width * layers (ownLayout s) = ap (λ n. ed .width * n) own-total in omega (arith, facts .whole, f)
 
         pub formed-symbols : (r : Bool) → r ≡ symbolsHeld ed s total → r ≡ wellFormed ed s
-        unfolding wellFormed
-        formed-symbols r q = simp (told-true e h) (q ∙ ap (symbolsHeld ed s) own-total)
+        formed-symbols r q = rw parts (simp (told-true e h) (q ∙ ap (symbolsHeld ed s) own-total))
 
 pub formed-reads : (ed : Edition) (s : List ℕ) (f : Bool) → Proper ed → f ≡ wellFormed ed s → not f ≡ false → headerLength ≤ length s
 formed-reads ed s f g e k = formed-facts ed s g (told-true e k) .head .long

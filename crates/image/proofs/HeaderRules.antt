@@ -14,10 +14,10 @@ use Rattle.layout.specs.declared.Layout.{Layout}
 use Rattle.layout.specs.Layout.{layers, layerLimit}
 use Rattle.layout.proofs.Facts.{admissible-facts, facts-admissible}
 use Rattle.image.specs.declared.Edition.{Edition}
-use Rattle.image.specs.Image.{headerLength, little, numberAt, header, ownLayout, ownState, ownTray, ownVolume, ownHeader, begins, wellFormed}
+use Rattle.image.specs.Image.{headerLength, little, numberAt, header, ownLayout, ownState, ownTray, ownVolume, begins, wellFormed}
 use Rattle.image.specs.Rules.{Rules}
 use Rattle.image.specs.Claims.{FormedExactly}
-use Rattle.image.specs.Inner.{Proper}
+use Rattle.image.specs.Inner.{Proper, ownHeader}
 use Rattle.image.proofs.Numbers.{window, bytes-of}
 use Rattle.image.proofs.Bytes.{header-length, begins-split}
 use Rattle.image.proofs.Forms.{formed-facts, facts-formed}

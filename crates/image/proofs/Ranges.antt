@@ -9,7 +9,8 @@ use borrow.Author.Tests.{lt-ltb, ltb-true}
 use Rattle.lists.proofs.Bools.{both, not-true-false, told-false, told-true}
 use Rattle.layout.specs.declared.Layout.{Layout}
 use Rattle.layout.specs.Layout.{trays}
-use Rattle.image.specs.Image.{stateAllowed, volumeAllowed, inRange}
+use Rattle.image.specs.Image.{inRange}
+use Rattle.image.specs.Inner.{stateAllowed, volumeAllowed}
 
 pub record InRange (l : Layout) (tray state volume : ℕ) : Type 0 where
   pub tray-in : tray < trays l

@@ -13,8 +13,8 @@ use Rattle.layout.specs.declared.Layout.{Layout}
 use Rattle.layout.specs.Layout.{layers, admissible, Admissible}
 use Rattle.layout.proofs.Facts.{admissible-facts}
 use Rattle.image.specs.declared.Edition.{Edition}
-use Rattle.image.specs.Image.{headerLength, live, ownLayout, ownState, ownTray, ownVolume, ownSymbols, wellFormed, sameLayout, expected, formedRefusal, readRefusal, readTray, readSymbols}
-use Rattle.image.specs.Inner.{Proper}
+use Rattle.image.specs.Image.{headerLength, live, ownLayout, ownState, ownTray, ownVolume, ownSymbols, wellFormed, sameLayout, readRefusal, readTray, readSymbols}
+use Rattle.image.specs.Inner.{Proper, expected, formedRefusal}
 use Rattle.image.proofs.SameLayout.{same-facts}
 use Rattle.image.proofs.Forms.{WellFormed, formed-facts}
 
@@ -57,7 +57,7 @@ module _ (ed : Edition) (l : Layout) (volume places : ℕ) (s : List ℕ) where
       read-9 k = simp (told-true e h, eq-eqb places (layers l) (p ∙ t), told-false g k)
 
       pub read-formed : not f ≡ false → (r : ℕ) → r ≡ formedRefusal l volume s → r ≡ readRefusal ed l volume places s
-      unfolding readRefusal
+      unfolding readRefusal formedRefusal
       read-formed k r q = simp (told-true e h, eq-eqb places (layers l) (p ∙ t), told-true g k) q
 
   -- what lets a read through
@@ -70,7 +70,7 @@ module _ (ed : Edition) (l : Layout) (volume places : ℕ) (s : List ℕ) where
     pub volume-is : volume ≡ ownVolume s
 
   pub readable : Proper ed → readRefusal ed l volume places s ≡ 0 → Readable
-  unfolding readRefusal formedRefusal
+  unfolding readRefusal
   readable g h =
       let p = passed (admissible (ed .order) l) 1 _ (lit< tt) h in
       let n = passed (eqb places (layers l)) 2 _ (lit< tt) (p .1) in

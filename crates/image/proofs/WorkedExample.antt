@@ -7,9 +7,9 @@ use lib.ListN.{drop, replicate, set}
 use Rattle.lists.specs.Lists.{table, all, allBelow}
 use Rattle.layout.specs.declared.Layout.{Layout}
 use Rattle.layout.specs.Layout.{admissible, sizeAllowed}
-use Rattle.image.specs.Image.{edition1, edition2, little, header, symbolBytes, stateAllowed, inRange, writeGrounds, writeRefusal, writeBuffer, ownLayout}
-use Rattle.image.specs.Image.{ownSymbols, symbolsHeld, begins}
-use Rattle.image.specs.Image.{headerFormed, wellFormed, sameLayout, formedRefusal, readRefusal, readTray, readSymbols}
+use Rattle.image.specs.Image.{edition1, edition2, little, header, symbolBytes, inRange, writeRefusal, writeBuffer, ownLayout}
+use Rattle.image.specs.Image.{ownSymbols, begins}
+use Rattle.image.specs.Image.{wellFormed, sameLayout, readRefusal, readTray, readSymbols}
 
 abbrev small : Layout
 small = record { racks = 2; size = 1; dimension = 1; helpers = 1; errors = 0 }
@@ -33,8 +33,8 @@ pub worked-image :
     × (readRefusal edition1 small 8 L (set book 3 2) ≡ 10)
     × (readRefusal edition1 small 7 L (set book 2 2) ≡ 9)
     × (readRefusal edition1 small 7 L (drop 1 book) ≡ 9)
-unfolding writeBuffer writeGrounds inRange header little symbolBytes stateAllowed admissible sizeAllowed
-    readRefusal formedRefusal readTray readSymbols ownSymbols table symbolsHeld allBelow headerFormed wellFormed begins all ownLayout sameLayout
+unfolding writeBuffer writeRefusal inRange header little symbolBytes admissible sizeAllowed
+    readRefusal readTray readSymbols ownSymbols table allBelow wellFormed begins all ownLayout sameLayout
 worked-image = (refl, refl, refl, refl, refl, refl, refl, refl)
 
 -- the same tray in edition 2, with the largest symbol, and with one too large; to no place, which edition 2 measures first; and each edition read as the other
@@ -55,6 +55,6 @@ pub worked-second :
     × (readRefusal edition2 small 7 0 [] ≡ 2)
     × (readRefusal edition2 small 7 L book ≡ 9)
     × (readRefusal edition1 small 7 L second ≡ 9)
-unfolding writeBuffer writeGrounds inRange header little symbolBytes stateAllowed admissible sizeAllowed
-    readRefusal formedRefusal readTray readSymbols ownSymbols table symbolsHeld allBelow headerFormed wellFormed begins all ownLayout sameLayout
+unfolding writeBuffer writeRefusal inRange header little symbolBytes admissible sizeAllowed
+    readRefusal readTray readSymbols ownSymbols table allBelow wellFormed begins all ownLayout sameLayout
 worked-second = (refl, refl, refl, refl, refl, refl, refl, refl, refl, refl, refl)

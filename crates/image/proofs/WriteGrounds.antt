@@ -13,8 +13,8 @@ use Rattle.layout.specs.declared.Layout.{Layout}
 use Rattle.layout.specs.Layout.{layers, admissible, Cabinet, Admissible}
 use Rattle.layout.proofs.Facts.{admissible-facts, facts-admissible, admitted-so}
 use Rattle.image.specs.declared.Edition.{Edition}
-use Rattle.image.specs.Image.{imageLength, header, symbolBytes, inRange, writeGrounds, writeRefusal, writeBuffer}
-use Rattle.image.specs.Inner.{Proper}
+use Rattle.image.specs.Image.{imageLength, header, symbolBytes, inRange, writeRefusal, writeBuffer}
+use Rattle.image.specs.Inner.{Proper, writeGrounds}
 use Rattle.image.proofs.Ranges.{InRange, range-facts, facts-range}
 
 pub cabinet-so : (ed : Edition) (l : Layout) (a : Bool) → Proper ed → a ≡ admissible (ed .order) l → not a ≡ false → Cabinet l
@@ -60,7 +60,7 @@ module _ (ed : Edition) (l : Layout) (tray state volume : ℕ) (symbols : List �
     pub symbols-in : allBelow symbols (ed .size) ≡ true
 
   pub writable : Proper ed → writeRefusal ed l tray state volume symbols room ≡ 0 → Writable
-  unfolding writeGrounds
+  unfolding writeRefusal
   writable g h =
       let p = passed (admissible (ed .order) l) 1 _ (lit< tt) h in
       let q = passed (eqb (length symbols) (layers l) && eqb room (imageLength ed l)) 2 _ (lit< tt) (p .1) in
@@ -76,7 +76,7 @@ module _ (ed : Edition) (l : Layout) (tray state volume : ℕ) (symbols : List �
       }
 
   pub written-0 : Proper ed → Writable → writeRefusal ed l tray state volume symbols room ≡ 0
-  unfolding writeGrounds
+  unfolding writeRefusal
   written-0 g w =
       simp (
         sym (facts-admissible (ed .order) l (w .adm)),
@@ -90,6 +90,7 @@ module _ (ed : Edition) (l : Layout) (tray state volume : ℕ) (symbols image : 
   -- from the call as the code makes it: b is the answer of the test of the symbols
   module _ (b : Bool) (e : ℕ) (t : b ≡ allBelow symbols (ed .size)) (q : e ≡ writeGrounds ed l tray state volume (length symbols) b (length image)) where
     pub write-answer : e ≡ writeRefusal ed l tray state volume symbols (length image)
+    unfolding writeGrounds writeRefusal
     write-answer = q ∙ ap (λ ok. writeGrounds ed l tray state volume (length symbols) ok (length image)) t
 
     pub not-written : (e ≡ 0 → ⊥) → image ≡ writeBuffer ed l tray state volume symbols image

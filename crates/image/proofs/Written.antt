@@ -17,16 +17,15 @@ use Rattle.layout.specs.declared.Layout.{Layout}
 use Rattle.layout.specs.Layout.{trays, layers, Admissible}
 use Rattle.layout.proofs.Facts.{bounds}
 use Rattle.image.specs.declared.Edition.{Edition}
-use Rattle.image.specs.Image.{headerLength, live, demonstration, little, header, symbolBytes, stateAllowed, volumeAllowed, ownLayout, ownState, ownTray}
+use Rattle.image.specs.Image.{headerLength, live, demonstration, little, header, symbolBytes, ownLayout, ownState, ownTray}
 use Rattle.image.specs.Image.{ownVolume, symbolAt, ownSymbols, begins}
-use Rattle.image.specs.Inner.{Proper}
+use Rattle.image.specs.Inner.{Proper, stateAllowed, volumeAllowed}
 use Rattle.image.proofs.Numbers.{symbols-length, symbols-held}
 use Rattle.image.proofs.Bytes.{header-length, begins-append}
 use Rattle.image.proofs.WriteGrounds.{Writable}
 use Rattle.image.proofs.Forms.{WellFormed}
 
 state-small : (state : ℕ) → stateAllowed state ≡ true → state < 256
-unfolding stateAllowed
 state-small state h =
     ⊎-elim (λ e. omega (arith, eqb-true state live e)) (λ e. omega (arith, eqb-true state demonstration e)) (either (eqb state live) (eqb state demonstration) h)
 

@@ -66,29 +66,18 @@ unfoldable pub symbolBytes : ℕ → List ℕ → List ℕ
 symbolBytes w [] = []
 symbolBytes w (x ∷ xs) = little w x ++ symbolBytes w xs
 
--- which states an image may have, and which volume numbers: not 0, which is what a reset tray comes up with
-unfoldable pub stateAllowed : ℕ → Bool
-stateAllowed state = eqb state live || eqb state demonstration
-
-abbrev pub volumeAllowed : ℕ → Bool
-volumeAllowed volume = not (eqb volume 0)
-
--- a tray of the layout, and a state and a volume that an image may have
+-- a tray of the layout, a state that an image may have, and a volume number: not 0, which is what a reset tray comes up with
 unfoldable pub inRange : Layout → ℕ → ℕ → ℕ → Bool
-inRange l tray state volume = ltb tray (trays l) && stateAllowed state && volumeAllowed volume
+inRange l tray state volume = ltb tray (trays l) && (eqb state live || eqb state demonstration) && not (eqb volume 0)
 
 -- WRITING
 
--- the grounds; the numbers lent for symbols are count, ok says whether they are symbols, and the bytes for the image are room
-unfoldable pub writeGrounds : Edition → Layout → ℕ → ℕ → ℕ → ℕ → Bool → ℕ → ℕ
-writeGrounds e l tray state volume count ok room =
+-- the refusal, 0 for none; the bytes lent for the image are room
+unfoldable pub writeRefusal : Edition → Layout → ℕ → ℕ → ℕ → List ℕ → ℕ → ℕ
+writeRefusal e l tray state volume symbols room =
     unless (admissible (e .order) l) 1
-    (unless (eqb count (layers l) && eqb room (imageLength e l)) 2
-    (unless (inRange l tray state volume && ok) 3 0))
-
--- the refusal, 0 for none
-abbrev pub writeRefusal : Edition → Layout → ℕ → ℕ → ℕ → List ℕ → ℕ → ℕ
-writeRefusal e l tray state volume symbols room = writeGrounds e l tray state volume (length symbols) (allBelow symbols (e .size)) room
+    (unless (eqb (length symbols) (layers l) && eqb room (imageLength e l)) 2
+    (unless (inRange l tray state volume && allBelow symbols (e .size)) 3 0))
 
 -- the lent bytes of the image afterwards
 unfoldable pub writeBuffer : Edition → Layout → ℕ → ℕ → ℕ → List ℕ → List ℕ → List ℕ
@@ -112,10 +101,6 @@ ownTray s = getD s 8 0
 abbrev pub ownVolume : List ℕ → ℕ
 ownVolume s = numberAt 12 4 s
 
--- the header of all this
-abbrev pub ownHeader : Edition → List ℕ → List ℕ
-ownHeader e s = header e (ownLayout s) (ownTray s) (ownState s) (ownVolume s)
-
 -- its symbols
 abbrev pub symbolAt : Edition → List ℕ → ℕ → ℕ
 symbolAt e s j = numberAt (headerLength + e .width * j) (e .width) s
@@ -123,27 +108,20 @@ symbolAt e s j = numberAt (headerLength + e .width * j) (e .width) s
 unfoldable pub ownSymbols : Edition → List ℕ → List ℕ
 ownSymbols e s = table (symbolAt e s) (layers (ownLayout s))
 
--- whether the first so many are symbols of the field
-unfoldable pub symbolsHeld : Edition → List ℕ → ℕ → Bool
-symbolsHeld e s n = all (λ j. ltb (symbolAt e s j) (e .size)) n
-
 -- whether a list begins with another
 unfoldable pub begins : List ℕ → List ℕ → Bool
 begins s front = all (λ i. eqb (getD s i 0) (getD front i 0)) (length front)
 
--- an image whose header and length are not malformed, all by what it says of itself: a whole header, an admissible layout, the length, a tray below n, a state
--- and volume allowed, and no other header than the one of what it says
-unfoldable pub headerFormed : Edition → List ℕ → Bool
-headerFormed e s =
+-- an image that is not malformed, all by what it says of itself: a whole header, an admissible layout, the length, a tray below n, a state and volume allowed, no
+-- other header than the one of what it says, and symbols of the field
+unfoldable pub wellFormed : Edition → List ℕ → Bool
+wellFormed e s =
     leb headerLength (length s)
     && admissible (e .order) (ownLayout s)
     && eqb (length s) (imageLength e (ownLayout s))
     && inRange (ownLayout s) (ownTray s) (ownState s) (ownVolume s)
-    && begins s (ownHeader e s)
-
--- an image that is not malformed
-unfoldable pub wellFormed : Edition → List ℕ → Bool
-wellFormed e s = headerFormed e s && symbolsHeld e s (layers (ownLayout s))
+    && begins s (header e (ownLayout s) (ownTray s) (ownState s) (ownVolume s))
+    && all (λ j. ltb (symbolAt e s j) (e .size)) (layers (ownLayout s))
 
 -- the same five numbers
 unfoldable pub sameLayout : Layout → Layout → Bool
@@ -151,21 +129,15 @@ sameLayout l m =
     eqb (l .racks) (m .racks) && eqb (l .size) (m .size) && eqb (l .dimension) (m .dimension) && eqb (l .helpers) (m .helpers)
     && eqb (l .errors) (m .errors)
 
--- an image of the layout and volume expected
-abbrev pub expected : Layout → ℕ → List ℕ → Bool
-expected l volume s = sameLayout l (ownLayout s) && eqb volume (ownVolume s)
-
--- the grounds of a well-formed image
-unfoldable pub formedRefusal : Layout → ℕ → List ℕ → ℕ
-formedRefusal l volume s = unless (eqb (ownState s) live) 10 (unless (expected l volume s) 11 0)
-
 -- the refusal, 0 for none, where the symbols go to so many places: edition 2 copies them to lent ones; edition 1 hands out the part of the image that holds
 -- them, which has the places L that it must have
 unfoldable pub readRefusal : Edition → Layout → ℕ → ℕ → List ℕ → ℕ
 readRefusal e l volume places s =
     unless (admissible (e .order) l) 1
     (unless (eqb places (layers l)) 2
-    (unless (wellFormed e s) 9 (formedRefusal l volume s)))
+    (unless (wellFormed e s) 9
+    (unless (eqb (ownState s) live) 10
+    (unless (sameLayout l (ownLayout s) && eqb volume (ownVolume s)) 11 0))))
 
 -- the tray number that is given; 0 with a refusal
 unfoldable pub readTray : Edition → Layout → ℕ → ℕ → List ℕ → ℕ

@@ -2,13 +2,14 @@
 -- same as `wellFormed` is a theorem (proofs/HeaderRules.antt).
 -- Assumes nothing.
 use mathlib.Core.Path.{_≡_}
-use mathlib.Core.Bool.{true}
+use mathlib.Core.Bool.{true, _||_, not}
 use mathlib.Core.List.{List}
 use Prim.Native.Nat.{ℕ, _≤_, _<_}
+use lib.Dec.{eqb}
 use lib.ListN.{length}
 use Rattle.layout.specs.Layout.{trays, layers, admissible}
 use Rattle.image.specs.declared.Edition.{Edition}
-use Rattle.image.specs.Image.{headerLength, imageLength, numberAt, stateAllowed, volumeAllowed, ownLayout, ownState, ownTray, ownVolume, symbolAt}
+use Rattle.image.specs.Image.{headerLength, imageLength, live, demonstration, numberAt, ownLayout, ownState, ownTray, ownVolume, symbolAt}
 
 -- the rules of an image
 pub record Rules (e : Edition) (s : List ℕ) : Type 0 where
@@ -17,9 +18,9 @@ pub record Rules (e : Edition) (s : List ℕ) : Type 0 where
   -- the header's rules
   pub length-is : numberAt 0 2 s ≡ headerLength
   pub edition-is : numberAt 2 1 s ≡ e .number
-  pub state-ok : stateAllowed (ownState s) ≡ true
+  pub state-ok : (eqb (ownState s) live || eqb (ownState s) demonstration) ≡ true
   pub zero-is : numberAt 10 2 s ≡ 0
-  pub volume-ok : volumeAllowed (ownVolume s) ≡ true
+  pub volume-ok : not (eqb (ownVolume s) 0) ≡ true
   pub offset-is : numberAt 16 4 s ≡ headerLength
   pub count-is : numberAt 20 4 s ≡ layers (ownLayout s)
   -- its own layout, its tray, and its length

@@ -14,8 +14,8 @@ ghost use mathlib.Core.Path.{_≡_};
 ghost use Prim.Native.Nat.{_≤_};
 ghost use lib.ListN.{length};
 ghost use Rattle.layout.specs.Layout.{Cabinet};
-ghost use Rattle.image.specs.Image.{headerLength, imageLength, stateAllowed, volumeAllowed, inRange, writeGrounds, headerFormed, sameLayout, expected, formedRefusal};
-ghost use Rattle.image.specs.Inner.{Proper, Headed};
+ghost use Rattle.image.specs.Image.{headerLength, imageLength, inRange, sameLayout};
+ghost use Rattle.image.specs.Inner.{Proper, Headed, stateAllowed, volumeAllowed, writeGrounds, headerFormed, expected, formedRefusal};
 
 // The length of an image.
 fn image_length(e: Edition, l: Layout) -> usize

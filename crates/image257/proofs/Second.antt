@@ -17,7 +17,8 @@ use Rattle.lists.proofs.Loops.{Upto, upto-none, upto-more}
 use Rattle.lists.proofs.Tables.{is-table}
 use Rattle.layout.specs.declared.Layout.{Layout}
 use Rattle.layout.specs.Layout.{layers}
-use Rattle.image.specs.Image.{edition2, headerLength, little, symbolBytes, ownLayout, symbolAt, ownSymbols, symbolsHeld, readRefusal, readSymbols}
+use Rattle.image.specs.Image.{edition2, headerLength, little, symbolBytes, ownLayout, symbolAt, ownSymbols, readRefusal, readSymbols}
+use Rattle.image.specs.Inner.{symbolsHeld}
 use Rattle.image.proofs.Editions.{proper2}
 use Rattle.image.proofs.Numbers.{symbols-length, symbols-at}
 use Rattle.image.proofs.ReadGrounds.{readable, given-symbols}

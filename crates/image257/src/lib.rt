@@ -14,7 +14,8 @@ ghost use mathlib.Core.Path.{_≡_};
 ghost use Prim.Native.Nat.{_+_, _*_, _/_, _%_, _<_, _≤_};
 ghost use lib.ListN.{length, set};
 ghost use Rattle.lists.specs.Lists.{table, allBelow};
-ghost use Rattle.image.specs.Image.{edition2, headerLength, symbolBytes, symbolAt, symbolsHeld, writeRefusal, writeBuffer, wellFormed, readRefusal, readTray, readSymbols};
+ghost use Rattle.image.specs.Image.{edition2, headerLength, symbolBytes, symbolAt, writeRefusal, writeBuffer, wellFormed, readRefusal, readTray, readSymbols};
+ghost use Rattle.image.specs.Inner.{symbolsHeld};
 
 // What a read answers: the refusal's number, 0 for none, and the tray's.
 #[repr(C)]

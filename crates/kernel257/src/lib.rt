@@ -66,14 +66,6 @@ pub fn repeat(out: &mut [u16], to: usize, from: usize, len: usize)
     }
 }
 
-// The smaller of two numbers.
-fn smaller(a: usize, b: usize) -> usize
-    requires { ⌜ (0 < a) × (0 < b) ⌝ }
-    ensures { λ m. ⌜ (m ≤ a) × (m ≤ b) × (0 < m) ⌝ }
-{
-    if a < b { a } else { b }
-}
-
 // The first so many symbols, again and again.
 pub fn extend(row: &mut [u16], period: usize, count: usize)
     requires { ⌜ (count * period ≤ length (now row)) × (0 < count) ⌝ }
@@ -81,7 +73,7 @@ pub fn extend(row: &mut [u16], period: usize, count: usize)
 {
     let mut c = 1usize;
     while c < count {
-        let m = smaller(c, count - c);
+        let m = lists::smaller(c as u64, (count - c) as u64) as usize;
         repeat(row, c * period, 0, m * period);
         c += m;
     }

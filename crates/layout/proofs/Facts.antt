@@ -34,7 +34,7 @@ quotient-fits N u f = let e = mul-div-le N u in omega arith
 
 module _ (N : ℕ) (l : Layout) where
   pub admissible-facts : admissible N l ≡ true → Admissible N l
-  unfolding admissible
+  unfolding admissible sizeAllowed
   admissible-facts h =
       let h7 = both _ (leb (layers l) layerLimit) h in
       let h6 = both _ (leb (l .helpers) (l .racks - 1)) (h7 .0) in

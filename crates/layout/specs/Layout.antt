@@ -8,13 +8,6 @@ use Rattle.layout.specs.declared.Layout.{Layout}
 use Rattle.layout.specs.declared.Measured.{Measured}
 use Rattle.layout.specs.declared.Measured.the-variants.{Known, Refused}
 
--- the limits on n and on L
-abbrev pub trayLimit : ℕ
-trayLimit = 60
-
-abbrev pub layerLimit : ℕ
-layerLimit = 4096
-
 -- n, the trays
 abbrev pub trays : Layout → ℕ
 trays l = l .racks * l .size
@@ -47,23 +40,19 @@ groups l = layers l / digits l
 abbrev pub traffic : Layout → ℕ
 traffic l = l .helpers * groups l
 
--- the rack sizes for which a field whose root has N powers has points: the divisors of N. In two racks or more of at most 60 trays these are 1, 3, 5, 15 and 17 for 255,
--- the field of 256, and 1, 2, 4, 8 and 16 for 256, the field modulo 257 (sizes-255 and sizes-256 in proofs/Sizes.antt)
-unfoldable pub sizeAllowed : ℕ → ℕ → Bool
-sizeAllowed N u = leb 1 u && eqb (u * (N / u)) N
-
--- which layouts are admissible for such a field
+-- which layouts are admissible for a field whose root has N powers. It has points for the rack sizes that divide N: in two racks or more of at most 60 trays these are 1, 3,
+-- 5, 15 and 17 for 255, the field of 256, and 1, 2, 4, 8 and 16 for 256, the field modulo 257 (sizes-255 and sizes-256 in proofs/Sizes.antt). n is at most 60, L 4,096
 unfoldable pub admissible : ℕ → Layout → Bool
 admissible N l =
     leb 2 (l .racks)
-    && sizeAllowed N (l .size)
-    && leb (trays l) trayLimit
+    && (leb 1 (l .size) && eqb (l .size * (N / l .size)) N)
+    && leb (trays l) 60
     && leb (l .size) (l .dimension)
     && leb (l .size) (trays l - l .dimension)
     && leb (l .errors) 1
     && leb (wholeRacks l + 2 * l .errors) (l .helpers)
     && leb (l .helpers) (l .racks - 1)
-    && leb (layers l) layerLimit
+    && leb (layers l) 4096
 
 -- those with one E only: the calls for one E answer 1 for the other
 unfoldable pub admissibleWith : ℕ → ℕ → Layout → Bool
@@ -78,6 +67,17 @@ unfoldable pub measured : ℕ → Layout → Measured
 measured N l = cond (admissible N l) (Known (layers l) (checks l) (traffic l)) (Refused 1)
 
 -- ---- what only code and proofs need
+-- the limits on n and on L
+abbrev pub trayLimit : ℕ
+trayLimit = 60
+
+abbrev pub layerLimit : ℕ
+layerLimit = 4096
+
+-- the rack sizes for which a field whose root has N powers has points
+unfoldable pub sizeAllowed : ℕ → ℕ → Bool
+sizeAllowed N u = leb 1 u && eqb (u * (N / u)) N
+
 -- the same as facts, for the contracts of functions that want an admissible layout: what holds for every field and either E
 pub record Cabinet (l : Layout) : Type 0 where
   pub racks-low : 2 ≤ l .racks

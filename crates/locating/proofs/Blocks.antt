@@ -19,7 +19,7 @@ use Rattle.layout.specs.declared.Layout.{Layout}
 use Rattle.layout.specs.Layout.{layers, groups, parityRacks, trayLimit, layerLimit, Cabinet}
 use Rattle.layout.proofs.Facts.{bounds}
 use Rattle.layout.proofs.Numbers.{whole-low, parity-low}
-use Rattle.blocks.specs.Blocks.{blockLimit, roomLimit, Block, Allowed}
+use Rattle.blocks.specs.Inner.{blockLimit, roomLimit, Block, Allowed}
 use Rattle.blocks.proofs.Room.{roomOf, rowOf, room-long, row-long}
 use Rattle.sums.specs.Inner.{Chosen, RackPowers}
 use Rattle.pieces.proofs.Blocks.{groups-under, groups-of}

@@ -29,7 +29,7 @@ use Rattle.layout.specs.declared.Layout.{Layout}
 use Rattle.layout.specs.Layout.{digits, groups, parityRacks, trayLimit, layerLimit, Cabinet}
 use Rattle.layout.proofs.Facts.{bounds}
 use Rattle.codeword.specs.Codeword.{shapeOf}
-use Rattle.blocks.specs.Blocks.{Block}
+use Rattle.blocks.specs.Inner.{Block}
 use Rattle.syndrome.specs.Inner.{Terms}
 use Rattle.rule.specs.Rule.{sharedSymbol}
 use Rattle.sums.specs.Inner.{helperAt, placePoint, unknownPoint as placed, Chosen, Pointed, PointsTo, RackPowers}

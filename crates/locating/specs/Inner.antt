@@ -16,7 +16,7 @@ use Rattle.kernel.specs.Inner.{cell}
 use Rattle.layout.specs.declared.Layout.{Layout}
 use Rattle.layout.specs.Layout.{groups, traffic, parityRacks, layerLimit, Cabinet}
 use Rattle.codeword.specs.Codeword.{shapeOf}
-use Rattle.blocks.specs.Blocks.{blockLimit, roomLimit}
+use Rattle.blocks.specs.Inner.{blockLimit, roomLimit}
 use Rattle.rule.specs.Rule.{sharedSymbol}
 use Rattle.sums.specs.Inner.{helperAt, Chosen, Groups, PointsTo}
 

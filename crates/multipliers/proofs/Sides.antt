@@ -32,7 +32,7 @@ use Rattle.layout.specs.Inner.{InGroup}
 use Rattle.layout.proofs.Facts.{bounds}
 use Rattle.layout.proofs.Numbers.{total-plain, digits-small, whole-low}
 use Rattle.codeword.specs.Codeword.{pointAt}
-use Rattle.blocks.specs.Blocks.{blockLimit, roomLimit}
+use Rattle.blocks.specs.Inner.{blockLimit, roomLimit}
 use Rattle.blocks.proofs.Room.{roomOf, rowOf, room-long, row-long}
 use Rattle.syndrome.specs.Inner.{Room, Terms}
 use Rattle.sums.specs.Inner.{helperAt, placePoint, unknownPoint, Groups, Pointed, PointsTo}

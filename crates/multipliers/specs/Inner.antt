@@ -12,7 +12,7 @@ use Rattle.algebra.specs.Shape.{Field}
 use Rattle.kernel.specs.Inner.{cell}
 use Rattle.layout.specs.declared.Layout.{Layout}
 use Rattle.layout.specs.Layout.{digits, groups, parityRacks}
-use Rattle.blocks.specs.Blocks.{blockLimit, roomLimit}
+use Rattle.blocks.specs.Inner.{blockLimit, roomLimit}
 use Rattle.sums.specs.Inner.{helperAt, placePoint, Chosen}
 use Rattle.card.specs.Inner.{rightMultiplier}
 

@@ -6,7 +6,7 @@ ghost use Prim.Native.Nat.{_≤_};
 ghost use lib.ListN.{length};
 ghost use Rattle.symbol.specs.Elem.{gf256};
 ghost use Rattle.kernel.specs.Inner.{Inverses};
-ghost use Rattle.blocks.specs.Blocks.{roomLimit};
+ghost use Rattle.blocks.specs.Inner.{roomLimit};
 ghost use Rattle.multipliers.specs.Inner.{Grouped, Space, Rooms, HelperPoints, PowerSides, Multipliers};
 
 // The points of the helpers in a group.

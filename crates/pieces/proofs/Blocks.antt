@@ -13,7 +13,7 @@ use Rattle.kernel.specs.Inner.{Inverses}
 use Rattle.layout.specs.declared.Layout.{Layout}
 use Rattle.layout.specs.Layout.{digits, layers, groups, parityRacks, trayLimit, Cabinet}
 use Rattle.layout.proofs.Facts.{bounds, rack-in}
-use Rattle.blocks.specs.Blocks.{blockLimit, roomLimit, Block, Allowed}
+use Rattle.blocks.specs.Inner.{blockLimit, roomLimit, Block, Allowed}
 use Rattle.blocks.proofs.Room.{roomOf, rowOf, room-long, row-long}
 use Rattle.rule.specs.Lost.{firstLost, Losses}
 use Rattle.sums.specs.Inner.{Received, Groups, Summing}

@@ -6,7 +6,7 @@ use Prim.Native.Nat.{ℕ, _+_, _*_, _≤_}
 use lib.ListN.{length}
 use Rattle.layout.specs.declared.Layout.{Layout}
 use Rattle.layout.specs.Layout.{digits, layers, groups, parityRacks, trayLimit, AdmissibleWith}
-use Rattle.blocks.specs.Blocks.{blockLimit, roomLimit}
+use Rattle.blocks.specs.Inner.{blockLimit, roomLimit}
 use Rattle.rule.specs.Lost.{Losses}
 
 -- rows enough for the R unknowns of a group and for its host sums, with e lost trays

@@ -24,7 +24,7 @@ use Rattle.symbol.proofs.Working.{working}
 use Rattle.kernel.specs.Inner.{cell, Run, filled, added}
 use Rattle.kernel.proofs.Runs.{run-more}
 use Rattle.kernel.proofs.Rows.{row-in, row-other}
-use Rattle.planes.specs.Planes.{Rows, Summed, doubled, BitAdded, Plane, Upper}
+use Rattle.planes.specs.Inner.{Rows, Summed, doubled, BitAdded, Plane, Upper}
 
 -- twice a run
 pub double-more : (was is : List ℕ) (to j len p : ℕ) → Run (doubled was to) was is to j → j < len → to + len ≤ length was → ((i : ℕ) → Fits w8 (getD is i 0)) → p ≡ mulz (getD is (to + j) 0) →

@@ -6,7 +6,7 @@ ghost use Prim.Native.Nat.{_+_, _*_, _<_, _≤_};
 ghost use lib.ListN.{length};
 ghost use Rattle.symbol.specs.Elem.{gf256};
 ghost use Rattle.kernel.specs.Inner.{Run};
-ghost use Rattle.planes.specs.Planes.{Rows, Summed, doubled, BitAdded, Plane, Upper};
+ghost use Rattle.planes.specs.Inner.{Rows, Summed, doubled, BitAdded, Plane, Upper};
 
 // Twice a run.
 fn double(out: &mut [u8], to: usize, len: usize)

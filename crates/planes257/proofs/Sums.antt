@@ -16,7 +16,7 @@ use Rattle.algebra.proofs.Sum.{sum-zero, sum-add-one}
 use Rattle.algebra.proofs.Plain.{elem-zero, elem-plus, elem-times, plus-below, zero-below}
 use Rattle.kernel.specs.Inner.{cell, Run, filled, addedMultiple}
 use Rattle.kernel.proofs.Rows.{row-in, row-other}
-use Rattle.planes.specs.Planes.{Rows, Summed}
+use Rattle.planes.specs.Inner.{Rows, Summed}
 
 module _ {A : Type 0} {f : Field A} (W : Working f) (w i : ℕ) (sums coefs : List ℕ) (at : ℕ) where
   open Field f using (ops)

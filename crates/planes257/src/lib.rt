@@ -1,6 +1,6 @@
 // A sum of rows, each times one symbol, in the field modulo 257: row after row, for its numbers do not add by bits. Promises what crate planes does.
 ghost use Rattle.symbol257.specs.Elem.{gf257};
-ghost use Rattle.planes.specs.Planes.{Rows, Summed};
+ghost use Rattle.planes.specs.Inner.{Rows, Summed};
 
 // Row i of what is found: the sum of the m rows of sums, each times its symbol, the first of which stands at a place of coefs.
 pub fn combine(

@@ -28,10 +28,10 @@ use Rattle.layout.specs.Layout.{Cabinet, trays, digits}
 use Rattle.layout.proofs.Facts.{bounds}
 use Rattle.layout.proofs.Numbers.{room}
 use Rattle.codeword.specs.Codeword.{shapeOf, pointAt}
-use Rattle.blocks.specs.Blocks.{Block}
+use Rattle.blocks.specs.Inner.{Block}
 use Rattle.syndrome.specs.Inner.{Listed, survivorAt, Sums}
 use Rattle.syndrome.proofs.Sums.{survivor-listed}
-use Rattle.rack_checks.specs.Racks.{ListedFrom, keptSum, raisedBy, RackRaised, rackTerm, Above}
+use Rattle.rack_checks.specs.Inner.{ListedFrom, keptSum, raisedBy, RackRaised, rackTerm, Above}
 use Rattle.rack_checks.proofs.Numbers.{place-in}
 
 module _ {A : Type 0} {f : Field A} (W : Working f) (l : Layout) (w first r : ℕ) (c es : List ℕ) where

@@ -18,10 +18,10 @@ use Rattle.layout.specs.declared.Layout.{Layout}
 use Rattle.layout.specs.Layout.{Cabinet, trays, checks, digits, layers, trayLimit}
 use Rattle.layout.proofs.Facts.{bounds}
 use Rattle.layout.proofs.Numbers.{digits-small}
-use Rattle.blocks.specs.Blocks.{Block}
+use Rattle.blocks.specs.Inner.{Block}
 use Rattle.syndrome.specs.Inner.{Listed}
 use Rattle.syndrome.proofs.Sums.{tray-in}
-use Rattle.rack_checks.specs.Racks.{ListedFrom, Kept, Readable}
+use Rattle.rack_checks.specs.Inner.{ListedFrom, Kept, Readable}
 
 -- ---- trays that are all listed
 pub from-none : (es : List ℕ) (n : ℕ) → ListedFrom es n n

@@ -19,13 +19,13 @@ use Rattle.algebra.proofs.Ring.{add-zero, mul-zero, one-mul, mul-comm}
 use Rattle.algebra.proofs.Sum.{sum-zero, sum-add-one, sum-congr}
 use Rattle.algebra.proofs.Plain.{elem-zero, elem-one, elem-plus, elem-times}
 use Rattle.kernel.specs.Inner.{Run, filled, added, addedMultiple}
-use Rattle.weigh.specs.Weigh.{weight, weightedTerm, Weighed}
+use Rattle.weigh.specs.Inner.{weight, weightedTerm, Weighed}
 use Rattle.layout.specs.declared.Layout.{Layout}
 use Rattle.layout.specs.Layout.{trays, layers}
 use Rattle.codeword.specs.Codeword.{shapeOf, symbolAt}
 use Rattle.syndrome.specs.Inner.{Listed, survivorAt}
 use Rattle.syndrome.proofs.Sums.{survivor-listed, survivor-kept}
-use Rattle.rack_checks.specs.Racks.{Kept, Readable, placeTerm, PlaceAdded, PlaceSums, LastSums, keptSum}
+use Rattle.rack_checks.specs.Inner.{Kept, Readable, placeTerm, PlaceAdded, PlaceSums, LastSums, keptSum}
 
 module _ {A : Type 0} {f : Field A} (W : Working f) (l : Layout) (w first : ℕ) (c es : List ℕ) (i m : ℕ) where
   open Field f using (ops, root)

@@ -24,16 +24,16 @@ use Rattle.symbol.specs.Elem.{gf256}
 use Rattle.symbol.proofs.Working.{working, root-is}
 use Rattle.kernel.specs.Inner.{cell, Run, added}
 use Rattle.kernel.proofs.Rows.{cell-is, cell-other}
-use Rattle.horner.specs.Horner.{through, throughRun}
+use Rattle.horner.specs.Inner.{through, throughRun}
 use Rattle.horner.proofs.Digits.{through-is}
 use Rattle.layout.specs.declared.Layout.{Layout}
 use Rattle.layout.specs.Layout.{digits}
 use Rattle.layout.proofs.Facts.{bounds}
 use Rattle.layout.proofs.Numbers.{digits-small}
-use Rattle.blocks.specs.Blocks.{Block}
+use Rattle.blocks.specs.Inner.{Block}
 use Rattle.syndrome.specs.Inner.{DigitPowers}
 use Rattle.syndrome.proofs.Terms.{first-row}
-use Rattle.rack_checks.specs.Racks.{PlaceSums, keptSum, raisedBy, Raised, Weighed, WeightRaised, Weights, RackRaised}
+use Rattle.rack_checks.specs.Inner.{PlaceSums, keptSum, raisedBy, Raised, Weighed, WeightRaised, Weights, RackRaised}
 use Rattle.rack_checks.proofs.Places.{places-all}
 
 -- ---- one step of one check

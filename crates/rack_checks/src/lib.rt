@@ -9,9 +9,9 @@ ghost use Prim.Native.Nat.{_+_, _*_, _/_, _<_, _≤_};
 ghost use lib.ListN.{length};
 ghost use Rattle.symbol.specs.Elem.{gf256};
 ghost use Rattle.layout.specs.Layout.{Cabinet, trays, layers, trayLimit};
-ghost use Rattle.blocks.specs.Blocks.{Block};
+ghost use Rattle.blocks.specs.Inner.{Block};
 ghost use Rattle.syndrome.specs.Inner.{Listed, Room, DigitPowers, Sums};
-ghost use Rattle.rack_checks.specs.Racks.{ListedFrom, Kept, Readable, ByRacks, PlaceAdded, PlaceSums, LastSums, Raised, WeightRaised, RackRaised};
+ghost use Rattle.rack_checks.specs.Inner.{ListedFrom, Kept, Readable, ByRacks, PlaceAdded, PlaceSums, LastSums, Raised, WeightRaised, RackRaised};
 
 // The least tray from which on all are listed.
 fn listed_from(es: &[u32], n: u32) -> u32

@@ -14,7 +14,8 @@ use Rattle.lists.proofs.Bools.{not-true-false, all-holds, all-true, all-false, 
 use Rattle.algebra.specs.Coding.{Coding, InRange}
 use Rattle.algebra.specs.Shape.{Field}
 use Rattle.kernel.proofs.Rows.{row-before}
-use Rattle.range.specs.Range.{symbolsFrom, symbolRows, Highest, HighestApart}
+use Rattle.range.specs.Range.{symbolsFrom, symbolRows}
+use Rattle.range.specs.Inner.{Highest, HighestApart}
 
 module _ {A : Type 0} (f : Field A) (xs : List ℕ) (from len : ℕ) where
   pub symbols-true : ((k : ℕ) → k < len → getD xs (from + k) 0 < f .coding .size) → true ≡ symbolsFrom f xs from len

@@ -5,7 +5,8 @@ ghost use mathlib.Core.Path.{_≡_};
 ghost use Prim.Native.Nat.{ℕ, _+_, _*_, _<_, _≤_};
 ghost use lib.ListN.{length};
 ghost use Rattle.symbol.specs.Elem.{gf256};
-ghost use Rattle.range.specs.Range.{symbolsFrom, symbolRows, Highest, HighestApart};
+ghost use Rattle.range.specs.Range.{symbolsFrom, symbolRows};
+ghost use Rattle.range.specs.Inner.{Highest, HighestApart};
 
 // The higher of two numbers.
 fn higher(a: u8, b: u8) -> u8

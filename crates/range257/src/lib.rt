@@ -6,7 +6,8 @@ ghost use mathlib.Core.Path.{_≡_};
 ghost use Prim.Native.Nat.{ℕ, _+_, _*_, _<_, _≤_};
 ghost use lib.ListN.{length};
 ghost use Rattle.symbol257.specs.Elem.{gf257};
-ghost use Rattle.range.specs.Range.{symbolsFrom, symbolRows, Highest, HighestApart};
+ghost use Rattle.range.specs.Range.{symbolsFrom, symbolRows};
+ghost use Rattle.range.specs.Inner.{Highest, HighestApart};
 
 // The higher of two numbers.
 fn higher(a: u16, b: u16) -> u16

@@ -13,8 +13,7 @@ use Rattle.layout.specs.Layout.{layerLimit, trays, layers, groups, Cabinet}
 use Rattle.layout.specs.Inner.{HasLayer}
 use Rattle.layout.proofs.Facts.{bounds, rack-in}
 use Rattle.rule.specs.Rule.{groupAt}
-use Rattle.reading.specs.Reading.{inRange, allDone, available}
-use Rattle.reading.specs.Inner.{Asked, Readable}
+use Rattle.reading.specs.Inner.{Asked, Readable, inRange, allDone, available}
 
 module _ (l : Layout) (lost done tray first end : ℕ) where
   record InRange : Type 0 where

@@ -23,8 +23,8 @@ use Rattle.rule.specs.Rule.{trayPart, groupAt}
 use Rattle.rule.proofs.Racks.{tray-long, tray-at}
 use Rattle.rule.proofs.Single.{one-exact}
 use Rattle.repair.proofs.Single.{cutting-one}
-use Rattle.reading.specs.Reading.{allDone, available, partRefusal, run, partGiven}
-use Rattle.reading.specs.Repairing.{Repairing}
+use Rattle.reading.specs.Reading.{partRefusal, partGiven}
+use Rattle.reading.specs.Inner.{allDone, available, Repairing}
 use Rattle.reading.proofs.Ranges.{done-facts}
 use Rattle.reading.proofs.Grounds.{Accepted, accepted, run-in}
 
@@ -76,7 +76,7 @@ module _ {A : Type 0} {f : Field A} (W : Working f) (l : Layout) (x : Tray) (c c
   -- the store's other trays are those of c: a part that is given is that run of layers of c's tray.
   pub reads-the-codeword : partRefusal (f .order) l (length codeword) (length spare) (x .0) done tray first end ≡ 0 →
       partGiven (f .order) l codeword spare (x .0) done tray first end ≡ take (end - first) (drop first (trayPart l c tray))
-  unfolding partGiven run
+  unfolding partGiven
   reads-the-codeword z =
       let a = accepted (f .order) l (length codeword) (length spare) (x .0) done tray first end z in
       elim (ℕ-discrete tray (x .0)) [
@@ -87,7 +87,7 @@ module _ {A : Type 0} {f : Field A} (W : Working f) (l : Layout) (x : Tray) (c c
 -- An empty run is an empty part, also of the lost tray with no group done: the last ground never applies to it.
 pub empty-run : (N : ℕ) (l : Layout) (codeword spare : List ℕ) (lost done tray first : ℕ) →
     (available l lost done tray first first ≡ true) × (partGiven N l codeword spare lost done tray first first ≡ [])
-unfolding available allDone partGiven run all
+unfolding available allDone partGiven all
 empty-run N l codeword spare lost done tray first =
     let z : first - first ≡ 0 = omega arith in (
       ap (λ n. not (eqb tray lost) || all (λ i. ltb (groupAt l lost (first + i)) done) n) z ∙ always (not (eqb tray lost)),

@@ -17,7 +17,8 @@ use Rattle.layout.specs.Layout.{trays, checks, layers, admissible}
 use Rattle.range.proofs.Symbols.{symbols-all}
 use Rattle.codeword.proofs.Usable.{usable}
 use Rattle.codeword.proofs.Buffers.{layers-pos}
-use Rattle.recover.specs.Recover.{keptSymbols, recoverRefusal, RecoverAnswer, Kept}
+use Rattle.recover.specs.Recover.{keptSymbols, recoverRefusal, RecoverAnswer}
+use Rattle.recover.specs.Inner.{Kept}
 use Rattle.restore.specs.Restored.{LayerFits, Erasing, RestoredTo}
 use Rattle.recover.proofs.Restored.{survivors-fit, restores, restored-range}
 use Rattle.recover.proofs.Grounds.{Recoverable, recoverable, kept-all}

@@ -17,7 +17,8 @@ use Rattle.layout.specs.Layout.{trays, checks, layers, admissible, Admissible}
 use Rattle.layout.proofs.Facts.{admissible-facts}
 use Rattle.kernel.proofs.Rows.{row-before}
 use Rattle.range.specs.Range.{symbolsFrom}
-use Rattle.recover.specs.Recover.{keptTray, keptSymbols, recoverRefusal}
+use Rattle.recover.specs.Recover.{keptSymbols, recoverRefusal}
+use Rattle.recover.specs.Inner.{keptTray}
 use Rattle.syndrome.specs.Inner.{Listed}
 use Rattle.recover.proofs.Restored.{list-listed}
 
@@ -39,11 +40,11 @@ module _ {A : Type 0} (f : Field A) (es c : List ℕ) (total x : ℕ) where
 
 module _ {A : Type 0} (f : Field A) (l : Layout) (es c : List ℕ) where
   pub kept-false : (x n total : ℕ) (r : Bool) → n ≡ trays l → total ≡ layers l → x < n → r ≡ keptTray f es c total x → not r ≡ true → false ≡ keptSymbols f l es c
-  unfolding keptSymbols
+  unfolding keptSymbols keptTray
   kept-false x n total r e t h q m = all-false _ _ x (omega arith) (λ z. false≢true (sym (sym q ∙ not-true r m) ∙ ap (λ y. keptTray f es c y x) t ∙ z))
 
   pub kept-true : (x n total : ℕ) → n ≡ trays l → total ≡ layers l → n ≤ x → ((i : ℕ) → i < x → keptTray f es c total i ≡ true) → true ≡ keptSymbols f l es c
-  unfolding keptSymbols
+  unfolding keptSymbols keptTray
   kept-true x n total e t h g = sym (all-true _ _ (λ i k. ap (λ y. keptTray f es c y i) (sym t) ∙ g i (omega arith)))
 
   pub kept-all : keptSymbols f l es c ≡ true → (x : ℕ) → x < trays l → absent es x ≡ true → symbolsFrom f c (x * layers l) (layers l) ≡ true

@@ -23,7 +23,8 @@ use Rattle.layout.specs.Layout.{trays, checks, layers}
 use Rattle.layout.proofs.Lists.{list-places}
 use Rattle.codeword.specs.Codeword.{shapeOf, symbolAt, pointAt, Codeword, Usable}
 use Rattle.codeword.proofs.Buffers.{to-word, from-word, buffers-same}
-use Rattle.recover.specs.Recover.{Kept, Survivors, Restores}
+use Rattle.recover.specs.Recover.{Survivors, Restores}
+use Rattle.recover.specs.Inner.{Kept}
 use Rattle.syndrome.specs.Inner.{entryOf, Listed}
 use Rattle.restore.specs.Restored.{restoredAt, LayerFits, RestoredTo}
 

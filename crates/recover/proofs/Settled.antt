@@ -18,7 +18,7 @@ use Rattle.layout.specs.declared.Layout.{Layout}
 use Rattle.layout.specs.Layout.{trays, layers}
 use Rattle.range.specs.Range.{symbolsFrom}
 use Rattle.codeword.specs.Codeword.{Codeword}
-use Rattle.recover.specs.Recover.{keptTray, keptSymbols, recoverRefusal, RecoverAnswer, Survivors}
+use Rattle.recover.specs.Recover.{keptSymbols, recoverRefusal, RecoverAnswer, Survivors}
 
 module _ {A : Type 0} (f : Field A) (l : Layout) (es : List ℕ) where
   itself : (c : List ℕ) → Survivors l es c c
@@ -39,7 +39,7 @@ module _ {A : Type 0} (f : Field A) (l : Layout) (es : List ℕ) where
       all-same _ _ (layers l) (λ k q. ap (λ (n : ℕ). ltb n (f .coding .size)) (sym (s .same x k h q (λ i b z. absent-all es x e i b (sym z)))))
 
   kept-same : (c c′ : List ℕ) → Survivors l es c c′ → keptSymbols f l es c ≡ keptSymbols f l es c′
-  unfolding keptSymbols keptTray
+  unfolding keptSymbols
   kept-same c c′ s = all-same _ _ (trays l) (λ x h. tray-same c c′ s x h (absent es x) refl)
 
   refusal-same : (c c′ : List ℕ) → Survivors l es c c′ → recoverRefusal f l es c ≡ recoverRefusal f l es c′

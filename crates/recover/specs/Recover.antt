@@ -13,13 +13,9 @@ use Rattle.layout.specs.Layout.{trays, checks, layers, admissible}
 use Rattle.range.specs.Range.{symbolsFrom}
 use Rattle.codeword.specs.Codeword.{Codeword}
 
--- tray x of so many layers is listed, or all its numbers are symbols
-unfoldable pub keptTray : {A : Type 0} → Field A → List ℕ → List ℕ → ℕ → ℕ → Bool
-keptTray f es c total x = cond (absent es x) (symbolsFrom f c (x * total) total) true
-
 -- every number of the trays that are not listed is a symbol
 unfoldable pub keptSymbols : {A : Type 0} → Field A → Layout → List ℕ → List ℕ → Bool
-keptSymbols f l es c = all (keptTray f es c (layers l)) (trays l)
+keptSymbols f l es c = all (λ x. cond (absent es x) (symbolsFrom f c (x * layers l) (layers l)) true) (trays l)
 
 -- the refusal of a recovery before the checks of the survivors are looked at, given the list of erased trays and the buffer; 0 for none
 unfoldable pub recoverRefusal : {A : Type 0} → Field A → Layout → List ℕ → List ℕ → ℕ
@@ -31,14 +27,10 @@ recoverRefusal f l es c =
     (unless (leb (length es) (checks l)) 5
     0))))
 
--- tray x is not in the list
-abbrev pub Kept : List ℕ → ℕ → Type 0
-Kept es x = (k : ℕ) → k < length es → ¬ (x ≡ getD es k 0)
-
 -- d has the survivors of c: it is as long and alike outside the trays listed
 pub record Survivors (l : Layout) (es c d : List ℕ) : Type 0 where
   pub long : length d ≡ length c
-  pub same : (x j : ℕ) → x < trays l → j < layers l → Kept es x → getD d (x * layers l + j) 0 ≡ getD c (x * layers l + j) 0
+  pub same : (x j : ℕ) → x < trays l → j < layers l → ((k : ℕ) → k < length es → ¬ (x ≡ getD es k 0)) → getD d (x * layers l + j) 0 ≡ getD c (x * layers l + j) 0
 
 module _ {A : Type 0} (f : Field A) (l : Layout) (es c d : List ℕ) where
   -- d is the one codeword that has the survivors of c

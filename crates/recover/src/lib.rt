@@ -8,7 +8,8 @@ ghost use Prim.Native.Nat.{_+_, _*_, _≤_};
 ghost use lib.ListN.{length};
 ghost use Rattle.symbol.specs.Elem.{gf256};
 ghost use Rattle.layout.specs.Layout.{trays, layers, Cabinet};
-ghost use Rattle.recover.specs.Recover.{keptTray, keptSymbols, recoverRefusal, RecoverAnswer};
+ghost use Rattle.recover.specs.Recover.{keptSymbols, recoverRefusal, RecoverAnswer};
+ghost use Rattle.recover.specs.Inner.{keptTray};
 
 // Whether a tray is listed, or all its numbers are symbols.
 fn kept_tray(es: &[u32], c: &[u8], total: usize, x: u32) -> bool

@@ -98,7 +98,7 @@ module _ {A : Type 0} {f : Field A} (W : Working f) (l : Layout) (adm : Admissib
   }
   sofar (done {G = G} {crossed = k} {toCome = m} {spare = spare} before budget host′ spare′ g c t alike r) = more G k m spare budget host′ spare′ g c t alike r (sofar before)
   sofar (refused {G = G} {crossed = k} {toCome = m} {spare = spare} before l′ lost′ helpers′ shares′ host′ first budget spare′ e r) = subst (λ y. Sofar G k m y)
-      (sym (r .kept)) (sofar before)
+      (sym (r .2)) (sofar before)
 
   -- a spare of a done call has e·L symbols
   pub done-long : {G crossed toCome : ℕ} {spare : List ℕ} → Calls f l lost helpers shares host start G crossed toCome spare → 0 < G → length spare ≡ length lost * layers l

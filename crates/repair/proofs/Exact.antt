@@ -88,8 +88,8 @@ repair-exact {f = f} W l adm lost helpers shares host c s budget enough spare ne
     let ok = solvable W l adm in
     absurd (omega (
       arith,
-      r .refused,
-      r .ground,
+      r .0,
+      r .1,
       accepted f l lost helpers shares host (length spare) 0 budget (lost-high f l ok lost helpers (t .losses))
           (record { adm = adm; shares-long = t .shares-long; host-long = t .host-long; spare-long = el; losses = t .losses; first-in = omega arith })
           (piece-symbols f l lost shares host 0 budget helpers (t .losses) (size-pos l (adm .admissible .cabinet)) (omega arith) (t .shares-long)

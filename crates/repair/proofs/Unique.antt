@@ -19,7 +19,7 @@ use Rattle.rule.specs.Lost.{firstLost, Losses, Piece}
 use Rattle.rule.proofs.Lost.{ruled-same}
 use Rattle.repair.specs.declared.Repaired.{Repaired}
 use Rattle.repair.specs.declared.Repaired.the-variants.{Done, Refused}
-use Rattle.repair.specs.Repair.{repairRefusal, report, RepairDone, RepairRefused, RepairAnswer}
+use Rattle.repair.specs.Repair.{repairRefusal, report, RepairDone, RepairAnswer}
 use Rattle.repair.proofs.Refusals.{repairable}
 use Rattle.repair.proofs.Pieces.{kept-at}
 
@@ -56,8 +56,8 @@ module _ {A : Type 0} {f : Field A} (W : Working f) (l : Layout) (lost helpers s
       )
 
   done-refused : {B : Type 0} (z : repairRefusal f l lost helpers shares host (length old) first budget ≡ 0) (new″ : List ℕ) (e : ℕ) →
-      RepairRefused f l lost helpers shares host first budget old new″ (report (Refused e)) → B
-  done-refused z new″ e r = absurd (omega (arith, z, r .refused, r .ground))
+      RepairAnswer f l lost helpers shares host first budget old new″ (Refused e) → B
+  done-refused z new″ e r = absurd (omega (arith, z, r .0, r .1))
 
   -- two answers to one call are the same, and so are the spares they leave
   pub repaired-unique : (a b : Repaired) → RepairAnswer f l lost helpers shares host first budget old new a → RepairAnswer f l lost helpers shares host first budget old new′ b →
@@ -65,4 +65,4 @@ module _ {A : Type 0} {f : Field A} (W : Working f) (l : Layout) (lost helpers s
   repaired-unique (Done g c t) (Done g′ c′ t′) p q = both-done g c t g′ c′ t′ p q
   repaired-unique (Done g c t) (Refused e) p q = done-refused (p .accepted) new′ e q
   repaired-unique (Refused e) (Done g c t) p q = done-refused (q .accepted) new e p
-  repaired-unique (Refused e) (Refused e′) p q = (ap Refused (p .refused ∙ sym (q .refused)), p .kept ∙ sym (q .kept))
+  repaired-unique (Refused e) (Refused e′) p q = (ap Refused (p .0 ∙ sym (q .0)), p .2 ∙ sym (q .2))

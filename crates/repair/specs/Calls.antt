@@ -22,7 +22,7 @@ pub data Calls {A : Type 0} (f : Field A) (l : Layout) (lost helpers shares host
       (budget : ℕ) (host′ spare′ : List ℕ) (g c t : ℕ) →
       ((j : ℕ) → j < layers l → SoundAlike f l lost j host host′) →
       RepairAnswer f l lost helpers shares host′ G budget spare spare′ (Done g c t) →
-      Calls f l lost helpers shares host start (G + report (Done g c t) .groupsDone) (crossed + report (Done g c t) .crossed) (report (Done g c t) .remaining) spare′
+      Calls f l lost helpers shares host start (G + report (Done g c t) .groups) (crossed + report (Done g c t) .crossed) (report (Done g c t) .remaining) spare′
   -- a refused call is given anything besides the spare
   refused : {G crossed toCome : ℕ} {spare : List ℕ} → Calls f l lost helpers shares host start G crossed toCome spare →
       (l′ : Layout) (lost′ helpers′ shares′ host′ : List ℕ) (first budget : ℕ) (spare′ : List ℕ) (e : ℕ) →
@@ -72,4 +72,4 @@ pub record DoneCall {A : Type 0} (f : Field A) (l : Layout) (lost helpers : List
 
 -- it does group p
 abbrev pub Does : {A : Type 0} {f : Field A} {l : Layout} {lost helpers : List ℕ} → DoneCall f l lost helpers → ℕ → Type 0
-Does call p = (call .first ≤ p) × (p < call .first + report (Done (call .done) (call .crossed) (call .toCome)) .groupsDone)
+Does call p = (call .first ≤ p) × (p < call .first + report (Done (call .done) (call .crossed) (call .toCome)) .groups)

@@ -8,8 +8,8 @@ use Rattle.algebra.specs.Coding.{InRange}
 use Rattle.algebra.specs.Shape.{Field}
 use Rattle.layout.specs.declared.Layout.{Layout}
 use Rattle.layout.specs.Layout.{layers, groups, traffic}
-use Rattle.codeword.specs.Codeword.{Codeword}
-use Rattle.rule.specs.Rule.{rackPart, trayPart, Helpers, groupAt, Outside, rackSymbol, RuledOne}
+use Rattle.codeword.specs.Codeword.{Codeword, symbolAt}
+use Rattle.rule.specs.Rule.{rackPart, trayPart, Helpers, groupAt, Outside, RuledOne}
 use Rattle.rule.specs.Lost.{Of}
 use Rattle.share.specs.One.{shareBuffer}
 use Rattle.repair.specs.Repair.{SoundSymbols}
@@ -17,7 +17,7 @@ use Rattle.repair.specs.Calls.{Uncut}
 
 -- two host racks are alike in layer j of the trays other than x
 abbrev pub OthersAlike : {A : Type 0} → Field A → Layout → ℕ → ℕ → List ℕ → List ℕ → Type 0
-OthersAlike f l x j host host′ = (g : ℕ) → g < l .size → ¬ (g ≡ x % l .size) → rackSymbol f l host g j ≡ rackSymbol f l host′ g j
+OthersAlike f l x j host host′ = (g : ℕ) → g < l .size → ¬ (g ≡ x % l .size) → symbolAt f l host g j ≡ symbolAt f l host′ g j
 
 module _ {A : Type 0} (f : Field A) (l : Layout) (x : ℕ) (helpers shares host : List ℕ) where
   -- what a done call reports and makes of the spare

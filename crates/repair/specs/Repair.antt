@@ -14,6 +14,7 @@ use Rattle.rule.specs.Lost.{firstLost, lostPlace, Piece}
 use Rattle.grounds.specs.Grounds.{oneRack}
 use Rattle.seen.specs.Seen.{pieceSymbols}
 use Rattle.repair.specs.declared.Repaired.{Repaired}
+use Rattle.repair.specs.declared.RepairNumbers.{RepairNumbers}
 use Rattle.repair.specs.declared.Repaired.the-variants.{Done, Refused}
 
 -- the numbers of the host rack's sound trays are symbols, as the claims over whole repairs ask
@@ -34,32 +35,20 @@ repairRefusal f l lost helpers shares host spare first budget =
     0)))))))
 
 -- document 01's numbers for each answer: the refusal (0 for none), the groups done, the symbols crossed and those still to come
-pub record Report : Type 0 where
-  pub refusal : ℕ
-  pub groupsDone : ℕ
-  pub crossed : ℕ
-  pub remaining : ℕ
-
-abbrev pub report : Repaired → Report
-report (Done g c t) = record { refusal = 0; groupsDone = g; crossed = c; remaining = t }
-report (Refused e) = record { refusal = e; groupsDone = 0; crossed = 0; remaining = 0 }
+abbrev pub report : Repaired → RepairNumbers
+report (Done g c t) = record { refusal = 0; groups = g; crossed = c; remaining = t }
+report (Refused e) = record { refusal = e; groups = 0; crossed = 0; remaining = 0 }
 
 module _ {A : Type 0} (f : Field A) (l : Layout) (lost helpers shares host : List ℕ) (first budget : ℕ) (old new : List ℕ) where
   -- a call that is done: the smaller of the budget and the groups left, and nothing else written
-  pub record RepairDone (n : Report) : Type 0 where
+  pub record RepairDone (n : RepairNumbers) : Type 0 where
     pub accepted : repairRefusal f l lost helpers shares host (length old) first budget ≡ 0
-    pub done-is : n .groupsDone ≡ min budget (groups l - first)
-    pub crossed-is : n .crossed ≡ length lost * (l .helpers * n .groupsDone)
-    pub remaining-is : n .remaining ≡ length lost * (l .helpers * (groups l - (first + n .groupsDone)))
-    pub piece : Piece f l lost helpers shares host first (n .groupsDone) old new
+    pub done-is : n .groups ≡ min budget (groups l - first)
+    pub crossed-is : n .crossed ≡ length lost * (l .helpers * n .groups)
+    pub remaining-is : n .remaining ≡ length lost * (l .helpers * (groups l - (first + n .groups)))
+    pub piece : Piece f l lost helpers shares host first (n .groups) old new
 
-  -- a call that is refused: no symbol changed
-  pub record RepairRefused (n : Report) : Type 0 where
-    pub refused : n .refusal ≡ repairRefusal f l lost helpers shares host (length old) first budget
-    pub ground : 0 < n .refusal
-    pub kept : new ≡ old
-
--- the contract of the repair call
-abbrev pub RepairAnswer : {A : Type 0} → Field A → Layout → List ℕ → List ℕ → List ℕ → List ℕ → ℕ → ℕ → List ℕ → List ℕ → Repaired → Type 0
-RepairAnswer f l lost helpers shares host first budget old new (Done g c t) = RepairDone f l lost helpers shares host first budget old new (report (Done g c t))
-RepairAnswer f l lost helpers shares host first budget old new (Refused e) = RepairRefused f l lost helpers shares host first budget old new (report (Refused e))
+  -- the contract of the repair call; one that is refused changes no symbol
+  abbrev pub RepairAnswer : Repaired → Type 0
+  RepairAnswer (Done g c t) = RepairDone (report (Done g c t))
+  RepairAnswer (Refused e) = (e ≡ repairRefusal f l lost helpers shares host (length old) first budget) × (0 < e) × (new ≡ old)

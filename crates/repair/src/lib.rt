@@ -23,6 +23,15 @@ pub enum Repaired {
     Refused(u8),
 }
 
+// The numbers of such an answer, as they cross to C; those that it does not have are 0.
+#[repr(C)]
+pub struct RepairNumbers {
+    pub refusal: u32,
+    pub groups: u64,
+    pub crossed: u64,
+    pub remaining: u64,
+}
+
 // The first ground that the numbers in the lists and the symbols give: 3 or 4, 0 for none.
 fn number_refusal(
     l: Layout,

@@ -20,7 +20,7 @@ use Rattle.kernel.specs.Inner.{Run, copied}
 use Rattle.kernel.proofs.Rows.{row-end, row-before, row-in, cell-is}
 use Rattle.layout.specs.declared.Layout.{Layout}
 use Rattle.layout.specs.Layout.{trays, checks, layers}
-use Rattle.blocks.specs.Blocks.{Block}
+use Rattle.blocks.specs.Inner.{Block}
 use Rattle.codeword.specs.Codeword.{symbolAt, pointAt}
 use Rattle.syndrome.specs.Inner.{entryOf, Listed, Sums}
 use Rattle.restore.specs.Restored.{restoredAt, Erasing, RestoredTo}

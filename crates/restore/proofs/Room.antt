@@ -11,7 +11,7 @@ use lib.ListN.{length}
 use Rattle.lists.proofs.Numbers.{mul-below}
 use Rattle.layout.specs.declared.Layout.{Layout}
 use Rattle.layout.specs.Layout.{checks, digits, trayLimit, layerLimit}
-use Rattle.blocks.specs.Blocks.{blockLimit, roomLimit, Block}
+use Rattle.blocks.specs.Inner.{blockLimit, roomLimit, Block}
 use Rattle.syndrome.specs.Inner.{Listed, Room}
 use Rattle.blocks.proofs.Room.{roomOf, rowOf, room-long, row-long}
 use Rattle.restore.specs.Restored.{Erasing}

@@ -20,8 +20,7 @@ use Rattle.kernel.proofs.Rows.{row-before, row-in, cell-is, cell-other}
 use Rattle.layout.specs.declared.Layout.{Layout}
 use Rattle.layout.specs.Layout.{trays, digits}
 use Rattle.codeword.specs.Codeword.{pointAt}
-use Rattle.blocks.specs.Blocks.{Block}
-use Rattle.blocks.specs.Cycles.{Steady}
+use Rattle.blocks.specs.Inner.{Block, Steady}
 use Rattle.blocks.proofs.Digits.{same-block}
 use Rattle.blocks.proofs.Cycles.{run-low, columns-low, turns-low, period-is, whole, width-is, period-in, columns-in}
 use Rattle.syndrome.specs.Inner.{Listed, TrayPoints}

@@ -21,8 +21,7 @@ use Rattle.columns.specs.Inner.{column, Systems, Solved}
 use Rattle.layout.specs.declared.Layout.{Layout}
 use Rattle.layout.specs.Layout.{trays, digits, Cabinet}
 use Rattle.codeword.specs.Codeword.{symbolAt, pointAt}
-use Rattle.blocks.specs.Blocks.{roomLimit, Block}
-use Rattle.blocks.specs.Cycles.{Steady}
+use Rattle.blocks.specs.Inner.{roomLimit, Block, Steady}
 use Rattle.blocks.proofs.Cycles.{run-low, columns-low, turns-low, width-is, columns-in}
 use Rattle.syndrome.specs.Inner.{entryOf, Listed, survivorAt, Sums}
 use Rattle.restore.specs.Inner.{erasedAt, ListedPoints, Workspace, FoundBlock}

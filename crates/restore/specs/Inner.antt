@@ -13,7 +13,7 @@ use Rattle.kernel.specs.Inner.{cell}
 use Rattle.layout.specs.declared.Layout.{Layout}
 use Rattle.layout.specs.Layout.{trays, checks, layers}
 use Rattle.codeword.specs.Codeword.{symbolAt, pointAt}
-use Rattle.blocks.specs.Blocks.{roomLimit, Block}
+use Rattle.blocks.specs.Inner.{roomLimit, Block}
 use Rattle.syndrome.specs.Inner.{entryOf, Listed}
 use Rattle.restore.specs.Restored.{restoredAt, LayerFits}
 

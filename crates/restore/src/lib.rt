@@ -10,7 +10,7 @@ ghost use lib.ListN.{length};
 ghost use Rattle.symbol.specs.Elem.{gf256};
 ghost use Rattle.kernel.specs.Inner.{Inverses};
 ghost use Rattle.layout.specs.Layout.{digits, layers, Admissible};
-ghost use Rattle.blocks.specs.Blocks.{Block};
+ghost use Rattle.blocks.specs.Inner.{Block};
 ghost use Rattle.syndrome.specs.Inner.{Listed, Room};
 ghost use Rattle.restore.specs.Restored.{LayerFits, Says, Erasing, RestoredTo};
 ghost use Rattle.restore.specs.Inner.{Columns, ListedPoints, Workspace, FoundBlock, Cells, PutBlock, BlockRestored, FoundTerms, BlockFits};

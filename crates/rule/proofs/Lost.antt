@@ -24,8 +24,8 @@ use Rattle.algebra.proofs.Repair.{rising-places, host-congr}
 use Rattle.algebra.proofs.Cabinet.{lost-meets, lost-only}
 use Rattle.layout.specs.declared.Layout.{Layout}
 use Rattle.layout.specs.Layout.{trays, digits, layers, groups, parityRacks}
-use Rattle.codeword.specs.Codeword.{shapeOf, Solvable}
-use Rattle.rule.specs.Rule.{groupAt, rackSymbol}
+use Rattle.codeword.specs.Codeword.{shapeOf, Solvable, symbolAt}
+use Rattle.rule.specs.Rule.{groupAt}
 use Rattle.rule.specs.Lost.{firstLost, lostPlace, Losses, sentSymbol, withSpare, Ruled, One, SoundAlike}
 use Rattle.rule.specs.Inner.{layerSum, lostSymbol}
 use Rattle.rule.proofs.Rule.{host-in, helping, solution-sums, witness-sums, witness-solves}
@@ -63,7 +63,7 @@ module _ {A : Type 0} (f : Field A) (l : Layout) (ok : Solvable f l) (lost helpe
   module _ (shares host : List ℕ) where
     -- the host rack's symbols in layer j as the formula gives them
     whole : ℕ → ℕ → A
-    whole j = recover (f .ops) (place (shapeOf f l)) (l .size) (lostPlace l lost) (length lost) (layerSum f l lost helpers shares j) (λ g. rackSymbol f l host g j)
+    whole j = recover (f .ops) (place (shapeOf f l)) (l .size) (lostPlace l lost) (length lost) (layerSum f l lost helpers shares j) (λ g. symbolAt f l host g j)
 
     whole-lost : (j i : ℕ) → i < length lost → f .coding .val (whole j (lostPlace l lost i)) ≡ lostSymbol f l lost helpers shares host i j
     unfolding whole recover lostSymbol
@@ -88,7 +88,7 @@ module _ {A : Type 0} (f : Field A) (l : Layout) (ok : Solvable f l) (lost helpe
           sym (ok .usable .field .coded .val-elem _ (r .symbols i k j hj e))
           ∙ ap (f .coding .val) (sym (fill-at (lostPlace l lost) _ _ (length lost) (l .size) lost-places i k)
           ∙ lost-only (shapeOf f l) (ok .usable .fits) (lostPlace l lost) (length lost) lost-places (layerSum f l lost helpers shares j)
-          (λ g. rackSymbol f l host g j) (withSpare f l lost spare host j)
+          (λ g. symbolAt f l host g j) (withSpare f l lost spare host j)
           (record { at = λ g hg out. sym (fill-outside (lostPlace l lost) _ _ (length lost) g out) })
           (record { at = λ m hm. r .holds j hj e m hm ∙ sums-are m j e (r .sums m) (r .solution m hm) })
           (lostPlace l lost i) (lost-places .inside i k))
@@ -105,7 +105,7 @@ module _ {A : Type 0} (f : Field A) (l : Layout) (ok : Solvable f l) (lost helpe
         holds = λ j hj e m hm.
             check-congr (f .ops) (ok .usable .field .laws) (place (shapeOf f l)) (l .size) (lostPlace l lost) _ _ m
             (λ g hg. fill-values (lostPlace l lost) _ _ _ (length lost) g (λ i k. ap (f .coding .elem) (at i k j hj e) ∙ ok .usable .field .coded .elem-val _))
-            ∙ lost-meets (shapeOf f l) (ok .usable .fits) (lostPlace l lost) (length lost) lost-places (layerSum f l lost helpers shares j) (λ g. rackSymbol f l host g j) .at m hm
+            ∙ lost-meets (shapeOf f l) (ok .usable .fits) (lostPlace l lost) (length lost) lost-places (layerSum f l lost helpers shares j) (λ g. symbolAt f l host g j) .at m hm
             ∙ sym (sums-are m j e _ (witness-solves f l ok (firstLost l lost) helpers (given .help) p inside m (sentSymbol f l (length lost) shares m p)));
         symbols = λ i k j hj e. subst (λ n. n < f .coding .size) (sym (at i k j hj e)) (ok .usable .field .coded .val-below _);
       }

@@ -24,7 +24,7 @@ use Rattle.algebra.proofs.Cabinet.{choose-same, choose-other}
 use Rattle.layout.specs.declared.Layout.{Layout}
 use Rattle.layout.specs.Layout.{trays, digits, layers}
 use Rattle.codeword.specs.Codeword.{shapeOf, symbolAt}
-use Rattle.rule.specs.Rule.{rackPart, trayPart, rackSymbol, weightedSum, shareSymbol}
+use Rattle.rule.specs.Rule.{rackPart, trayPart, weightedSum, shareSymbol}
 
 cells : (i u n g j : ℕ) → i * (u * n) + (g * n + j) ≡ (i * u + g) * n + j
 cells i u n g j = ap (λ y. y + (g * n + j)) (sym (mul-assoc i u n)) ∙ sym (plus-assoc (i * u * n) (g * n) j) ∙ ap (λ y. y + j) (sym (add-mul (i * u) g n))
@@ -69,7 +69,7 @@ module _ {A : Type 0} (f : Field A) (l : Layout) where
   open Ops (f .ops) using (mul, zero)
 
   -- a symbol of a codeword's rack
-  pub rack-at : (c : List ℕ) (i g j : ℕ) → g < l .size → j < layers l → rackSymbol f l (rackPart l c i) g j ≡ symbolAt f l c (i * l .size + g) j
+  pub rack-at : (c : List ℕ) (i g j : ℕ) → g < l .size → j < layers l → symbolAt f l (rackPart l c i) g j ≡ symbolAt f l c (i * l .size + g) j
   unfolding symbolAt rackPart
   rack-at c i g j hg hj =
       ap (f .coding .elem)
@@ -78,7 +78,7 @@ module _ {A : Type 0} (f : Field A) (l : Layout) where
       ∙ ap (λ n. getD c n 0) (cells i (l .size) (layers l) g j))
 
   -- with m = 0 the weighted sum is the plain sum of the rack's symbols
-  pub plain-sum : FieldLaws f → (rack : List ℕ) (j : ℕ) → weightedSum f l 0 rack j ≡ sum (f .ops) (l .size) (λ g. rackSymbol f l rack g j)
+  pub plain-sum : FieldLaws f → (rack : List ℕ) (j : ℕ) → weightedSum f l 0 rack j ≡ sum (f .ops) (l .size) (λ g. symbolAt f l rack g j)
   unfolding weightedSum
   plain-sum k rack j = sum-congr (f .ops) (l .size) _ _ (λ g h. no-weight (f .ops) (k .laws) _ _)
 

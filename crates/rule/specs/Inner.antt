@@ -10,8 +10,8 @@ use Rattle.algebra.specs.Layers.{digit, layerOf}
 use Rattle.algebra.specs.Repair.{hostSum}
 use Rattle.layout.specs.declared.Layout.{Layout}
 use Rattle.layout.specs.Layout.{digits, parityRacks}
-use Rattle.codeword.specs.Codeword.{shapeOf}
-use Rattle.rule.specs.Rule.{groupAt, rackSymbol}
+use Rattle.codeword.specs.Codeword.{shapeOf, symbolAt}
+use Rattle.rule.specs.Rule.{groupAt}
 use Rattle.rule.specs.Lost.{firstLost, lostPlace, sentSymbol}
 
 -- the host's rack sum of weight m in layer j, and the number of the i-th lost tray there
@@ -23,4 +23,4 @@ module _ {A : Type 0} (f : Field A) (l : Layout) (lost helpers shares : List ℕ
 
   unfoldable pub lostSymbol : List ℕ → ℕ → ℕ → ℕ
   lostSymbol host i j =
-      f .coding .val (erased (f .ops) (place (shapeOf f l)) (l .size) (lostPlace l lost) (length lost) (layerSum j) (λ g. rackSymbol f l host g j) i)
+      f .coding .val (erased (f .ops) (place (shapeOf f l)) (l .size) (lostPlace l lost) (length lost) (layerSum j) (λ g. symbolAt f l host g j) i)

@@ -14,8 +14,8 @@ use Rattle.algebra.specs.Points.{place}
 use Rattle.algebra.specs.Cabinet.{Solution}
 use Rattle.layout.specs.declared.Layout.{Layout}
 use Rattle.layout.specs.Layout.{layers, groups, parityRacks}
-use Rattle.codeword.specs.Codeword.{shapeOf, Codeword}
-use Rattle.rule.specs.Rule.{rackPart, Helpers, groupAt, Outside, rackSymbol, shareSymbol}
+use Rattle.codeword.specs.Codeword.{shapeOf, Codeword, symbolAt}
+use Rattle.rule.specs.Rule.{rackPart, Helpers, groupAt, Outside, shareSymbol}
 
 module _ (l : Layout) (lost : List ℕ) where
   -- the first tray listed, whose rack is the host
@@ -45,7 +45,7 @@ sentSymbol f l e shares m p k = f .coding .elem (getD shares ((k * e + m) * grou
 module _ {A : Type 0} (f : Field A) (l : Layout) (lost : List ℕ) where
   -- the host rack's symbols in layer j, by place, with the spare's at the lost places
   unfoldable pub withSpare : List ℕ → List ℕ → ℕ → ℕ → A
-  withSpare spare host j = fill (lostPlace l lost) (λ i. f .coding .elem (getD spare (i * layers l + j) 0)) (length lost) (λ g. rackSymbol f l host g j)
+  withSpare spare host j = fill (lostPlace l lost) (λ i. f .coding .elem (getD spare (i * layers l + j) 0)) (length lost) (λ g. symbolAt f l host g j)
 
   -- the layers of group p in the spare hold what the rule fixes: for each m below e there are rack sums, by rack and layer, that solve the R checks
   -- t = u·w + m summed over the group and agree with the shares of weight m, and in each layer the host rack's symbols, each times the m-th power of its
@@ -74,7 +74,7 @@ module _ {A : Type 0} (f : Field A) (l : Layout) (lost : List ℕ) where
 
   -- two host racks are alike in the symbols of the sound trays in layer j
   abbrev pub SoundAlike : ℕ → List ℕ → List ℕ → Type 0
-  SoundAlike j host host′ = (g : ℕ) → g < l .size → ((i : ℕ) → i < length lost → ¬ (g ≡ lostPlace l lost i)) → rackSymbol f l host g j ≡ rackSymbol f l host′ g j
+  SoundAlike j host host′ = (g : ℕ) → g < l .size → ((i : ℕ) → i < length lost → ¬ (g ≡ lostPlace l lost i)) → symbolAt f l host g j ≡ symbolAt f l host′ g j
 
   -- the shares and the sound trays of the host rack are those of the codeword c
   pub record Of (helpers shares host c : List ℕ) : Type 0 where

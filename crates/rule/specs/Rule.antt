@@ -1,4 +1,5 @@
--- Shares, groups and document 01's rule of repair for one lost tray, over any field. A rack's u·L numbers lie tray after tray.
+-- Shares, groups and document 01's rule of repair for one lost tray, over any field. A rack's u·L numbers lie tray after tray, as a
+-- codeword's do: `symbolAt` is the symbol of the tray at a place.
 -- The rule for several lost trays, which the calls promise, is in Lost.antt; for one tray the two are the same (proofs/Single.antt), and the claims for one tray
 -- (repair/specs/One.antt) are stated by this one.
 -- Assumes nothing.
@@ -44,13 +45,9 @@ Outside l x first count j = ¬ ((first ≤ groupAt l x j) × (groupAt l x j < fi
 module _ {A : Type 0} (f : Field A) (l : Layout) where
   open Ops (f .ops) using (add, mul, neg, zero)
 
-  -- symbol j of the tray at place g of a rack
-  abbrev pub rackSymbol : List ℕ → ℕ → ℕ → A
-  rackSymbol rack g j = symbolAt f l rack g j
-
   -- the sum of a rack's symbols in layer j, each times the m-th power of its place's factor; document 01's rack sum has m = 0, where each factor is 1
   unfoldable pub weightedSum : ℕ → List ℕ → ℕ → A
-  weightedSum m rack j = sum (f .ops) (l .size) (λ g. mul (pow (f .ops) (place (shapeOf f l) g) m) (rackSymbol rack g j))
+  weightedSum m rack j = sum (f .ops) (l .size) (λ g. mul (pow (f .ops) (place (shapeOf f l) g) m) (symbolAt f l rack g j))
 
   -- symbol p of a helper's share for the host rack h: the sum of its rack sums over the layers of group p
   unfoldable pub shareSymbol : ℕ → ℕ → List ℕ → ℕ → A
@@ -62,7 +59,7 @@ module _ {A : Type 0} (f : Field A) (l : Layout) where
 
   -- the sum in layer j of the host rack's trays other than the lost tray x
   unfoldable pub soundSum : ℕ → List ℕ → ℕ → A
-  soundSum x host j = sum (f .ops) (l .size) (λ g. choose (eqb g (x % l .size)) zero (rackSymbol host g j))
+  soundSum x host j = sum (f .ops) (l .size) (λ g. choose (eqb g (x % l .size)) zero (symbolAt f l host g j))
 
   -- the layers of group p in the spare hold what the rule fixes for the lost tray x: there are rack sums, by rack and layer, that solve the R checks
   -- t = u·w summed over the group and agree with the shares, and each symbol is the host rack's sum less the rack's other symbols

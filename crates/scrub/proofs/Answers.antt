@@ -16,7 +16,8 @@ use Rattle.codeword.specs.Codeword.{checkAt}
 use Rattle.scrub.specs.declared.Walk.{Walk}
 use Rattle.scrub.specs.declared.Report.{Report}
 use Rattle.scrub.specs.declared.Report.the-variants.{Begun, Unfinished, Sound, Bad, Refused}
-use Rattle.scrub.specs.Scrub.{badLayer, after, plausible, stepLayers, stepSymbols, reportOf, scrubRefusal, stepped, scrubbed, fresh, begun}
+use Rattle.scrub.specs.Scrub.{badLayer, after, plausible, stepLayers, stepSymbols, reported, scrubRefusal, scrubbed, begun}
+use Rattle.scrub.specs.Inner.{reportOf, stepped}
 
 module _ {A : Type 0} (f : Field A) (ok : Coded (f .coding)) (l : Layout) (c : List ℕ) (j : ℕ) where
   -- elements with the same number are the same
@@ -75,7 +76,7 @@ module _ (N : ℕ) (l : Layout) (w : Walk) where
   not-begun e = simp e
 
   pub is-begun : (n : ℕ) → admissible N l ≡ true → n ≡ layers l → record { report = Begun; walk = record { next = 0; bad = 0; first = n } } ≡ begun N l w
-  unfolding begun fresh
+  unfolding begun
   is-begun n e k = simp (e, k)
 
 module _ {A : Type 0} (f : Field A) (l : Layout) (c : List ℕ) (w : Walk) (budget : ℕ) where
@@ -123,7 +124,7 @@ module _ {A : Type 0} (f : Field A) (l : Layout) (c : List ℕ) (w : Walk) (budg
 
   pub step-taken : scrubRefusal f l c w budget ≡ 0 →
       record { report = reportOf (layers l) (stepped f l c w budget); walk = stepped f l c w budget } ≡ scrubbed f l c w budget
-  unfolding scrubbed
+  unfolding scrubbed reported reportOf stepped
   step-taken e = simp (eq-eqb _ _ e)
 
   -- the answer of a call, from its parts

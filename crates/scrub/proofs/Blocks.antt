@@ -8,7 +8,7 @@ use lib.ListN.{length}
 use Rattle.algebra.specs.Shape.{Field}
 use Rattle.layout.specs.declared.Layout.{Layout}
 use Rattle.layout.specs.Layout.{checks}
-use Rattle.blocks.specs.Blocks.{blockLimit, roomLimit, Allowed}
+use Rattle.blocks.specs.Inner.{blockLimit, roomLimit, Allowed}
 use Rattle.syndrome.specs.Inner.{Room}
 use Rattle.scrub.specs.declared.Walk.{Walk}
 use Rattle.scrub.specs.Scrub.{badLayer, after}

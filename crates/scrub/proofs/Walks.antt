@@ -18,7 +18,8 @@ use Rattle.scrub.specs.declared.Walk.{Walk}
 use Rattle.scrub.specs.declared.Scrubbed.{Scrubbed}
 use Rattle.scrub.specs.declared.Report.{Report}
 use Rattle.scrub.specs.declared.Report.the-variants.{Begun, Unfinished, Sound, Bad, Refused}
-use Rattle.scrub.specs.Scrub.{badLayer, badCount, leastBad, after, plausible, stepLayers, scrubRefusal, reportOf, stepped, scrubbed, fresh, begun, numbersOf}
+use Rattle.scrub.specs.Scrub.{badLayer, badCount, leastBad, after, plausible, stepLayers, scrubRefusal, scrubbed, begun}
+use Rattle.scrub.specs.Inner.{reportOf, stepped, fresh}
 use Rattle.scrub.specs.Calls.{Calls, reset, step, refused-step, refused-reset, Tells, Says, Walked}
 use Rattle.scrub.proofs.Layers.{count-on, least-on, count-high, least-none, least-some, none-bad, all-good}
 use Rattle.scrub.proofs.Seen.{Seen, seen-none, seen-more, seen-all}
@@ -32,6 +33,13 @@ isRefused Unfinished = false
 isRefused Sound = false
 isRefused Bad = false
 isRefused (Refused e) = true
+
+abbrev groundOf : Report → ℕ
+groundOf Begun = 0
+groundOf Unfinished = 0
+groundOf Sound = 0
+groundOf Bad = 0
+groundOf (Refused e) = e
 
 isBegun : Report → Bool
 isBegun Begun = true
@@ -65,7 +73,7 @@ reset-refused N l w e h = go (admissible N l) refl
     go : (t : Bool) → admissible N l ≡ t → (begun N l w .walk ≡ w) × (0 < e)
     go true a = absurd (false≢true (ap isRefused (ap (λ (s : Scrubbed). s .report) (is-begun N l w (layers l) a refl) ∙ h)))
     go false a =
-        let q = ap (λ (r : Report). numbersOf r .refusal) (ap (λ (s : Scrubbed). s .report) (not-begun N l w a) ∙ h) in
+        let q = ap groundOf (ap (λ (s : Scrubbed). s .report) (not-begun N l w a) ∙ h) in
         (sym (ap (λ (s : Scrubbed). s .walk) (not-begun N l w a)), omega arith)
 
 module _ {A : Type 0} (f : Field A) where
@@ -79,7 +87,7 @@ module _ {A : Type 0} (f : Field A) where
           ∙ ap isRefused (ap (λ (s : Scrubbed). s .report) (step-taken f l c w budget z) ∙ h)))
       go (no d) =
           let s = step-refused f l c w budget (scrubRefusal f l c w budget) refl d in
-          let q = ap (λ (r : Report). numbersOf r .refusal) (ap (λ (s : Scrubbed). s .report) s ∙ h) in
+          let q = ap groundOf (ap (λ (s : Scrubbed). s .report) s ∙ h) in
           (sym (ap (λ (s : Scrubbed). s .walk) s), omega arith)
 
 module _ {A : Type 0} (f : Field A) (l : Layout) (c : List ℕ) where

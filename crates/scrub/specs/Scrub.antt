@@ -13,7 +13,6 @@ use Rattle.range.specs.Range.{symbolRows}
 use Rattle.codeword.specs.Codeword.{checkAt}
 use Rattle.scrub.specs.declared.Walk.{Walk}
 use Rattle.scrub.specs.declared.Scrubbed.{Scrubbed}
-use Rattle.scrub.specs.declared.Report.{Report}
 use Rattle.scrub.specs.declared.Report.the-variants.{Begun, Unfinished, Sound, Bad, Refused}
 
 -- whether layer j is bad: some check of it is not zero
@@ -58,37 +57,17 @@ scrubRefusal f l c w budget =
     (unless (plausible (layers l) w && stepSymbols f l c w budget) 3
     0))
 
--- the report at a record
-unfoldable pub reportOf : ℕ → Walk → Report
-reportOf L w = cond (ltb (w .next) L) Unfinished (cond (eqb (w .bad) 0) Sound Bad)
-
--- what a call that is not refused makes of the record
-unfoldable pub stepped : {A : Type 0} → Field A → Layout → List ℕ → Walk → ℕ → Walk
-stepped f l c w budget = after (badLayer f l c) w (stepLayers (layers l) w budget)
+-- a record with the report at it
+unfoldable pub reported : ℕ → Walk → Scrubbed
+reported L w = record { report = cond (ltb (w .next) L) Unfinished (cond (eqb (w .bad) 0) Sound Bad); walk = w }
 
 -- a call; a refused one hands back the record as it came
 unfoldable pub scrubbed : {A : Type 0} → Field A → Layout → List ℕ → Walk → ℕ → Scrubbed
 scrubbed f l c w budget =
     cond (eqb (scrubRefusal f l c w budget) 0)
-    (record { report = reportOf (layers l) (stepped f l c w budget); walk = stepped f l c w budget })
+    (reported (layers l) (after (badLayer f l c) w (stepLayers (layers l) w budget)))
     (record { report = Refused (scrubRefusal f l c w budget); walk = w })
 
--- the record that a walk begins with
-unfoldable pub fresh : Layout → Walk
-fresh l = record { next = 0; bad = 0; first = layers l }
-
--- a reset of any record, over a field whose root has N powers; it looks at no symbol
+-- a reset of any record to the one that a walk begins with, over a field whose root has N powers; it looks at no symbol
 unfoldable pub begun : ℕ → Layout → Walk → Scrubbed
-begun N l w = cond (admissible N l) (record { report = Begun; walk = fresh l }) (record { report = Refused 1; walk = w })
-
--- the numbers for each report: the refusal (0 for none), and 1 unfinished, 2 sound, 3 bad, 0 where nothing is said of the codeword
-pub record Numbers : Type 0 where
-  pub refusal : ℕ
-  pub report : ℕ
-
-abbrev pub numbersOf : Report → Numbers
-numbersOf Begun = record { refusal = 0; report = 0 }
-numbersOf Unfinished = record { refusal = 0; report = 1 }
-numbersOf Sound = record { refusal = 0; report = 2 }
-numbersOf Bad = record { refusal = 0; report = 3 }
-numbersOf (Refused e) = record { refusal = e; report = 0 }
+begun N l w = cond (admissible N l) (record { report = Begun; walk = record { next = 0; bad = 0; first = layers l } }) (record { report = Refused 1; walk = w })

@@ -9,7 +9,8 @@ use layout::Layout;
 use symbol::plain::ORDER;
 ghost use mathlib.Core.Path.{_≡_};
 ghost use Rattle.symbol.specs.Elem.{gf256};
-ghost use Rattle.scrub.specs.Scrub.{reportOf, scrubbed, begun};
+ghost use Rattle.scrub.specs.Scrub.{scrubbed, begun};
+ghost use Rattle.scrub.specs.Inner.{reportOf};
 
 // The record of a walk: the next layer, how many layers below it are bad, and the first bad one; L for none.
 #[repr(C)]

@@ -13,7 +13,8 @@ use scrub::Walk;
 use symbol257::plain::ORDER;
 ghost use mathlib.Core.Path.{_≡_};
 ghost use Rattle.symbol257.specs.Elem.{gf257};
-ghost use Rattle.scrub.specs.Scrub.{reportOf, scrubbed, begun};
+ghost use Rattle.scrub.specs.Scrub.{scrubbed, begun};
+ghost use Rattle.scrub.specs.Inner.{reportOf};
 
 // What a record says of a walk over so many layers.
 fn report_of(total: u32, walk: Walk) -> Report

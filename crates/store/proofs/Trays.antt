@@ -21,7 +21,8 @@ use Rattle.layout.proofs.Facts.{dimension-in}
 use Rattle.codeword.specs.Codeword.{Codeword, Usable}
 use Rattle.codeword.proofs.Usable.{usable}
 use Rattle.codeword.proofs.Buffers.{layers-pos}
-use Rattle.recover.specs.Recover.{Kept, Survivors, Restores}
+use Rattle.recover.specs.Recover.{Survivors, Restores}
+use Rattle.recover.specs.Inner.{Kept}
 use Rattle.syndrome.specs.Inner.{Listed}
 use Rattle.restore.specs.Restored.{LayerFits, Erasing, RestoredTo}
 use Rattle.recover.proofs.Restored.{low-checks, restores, restores-exists, restored-range}

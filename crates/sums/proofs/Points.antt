@@ -27,7 +27,7 @@ use Rattle.layout.specs.Layout.{digits, parityRacks, trayLimit, Cabinet}
 use Rattle.layout.proofs.Facts.{bounds}
 use Rattle.layout.proofs.Numbers.{total-plain}
 use Rattle.codeword.specs.Codeword.{shapeOf, pointAt}
-use Rattle.blocks.specs.Blocks.{Block}
+use Rattle.blocks.specs.Inner.{Block}
 use Rattle.sums.specs.Inner.{helperAt, placePoint, unknownPoint, Chosen, Groups, Choosing, RackPowers, Cycle, Pointed, PointsTo, PointRow, Workspace}
 use Rattle.sums.proofs.Steps.{rack-point, other-in, unknowns-high}
 use Rattle.sums.proofs.Sides.{width-pos}

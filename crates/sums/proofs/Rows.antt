@@ -27,7 +27,7 @@ use Rattle.layout.specs.declared.Layout.{Layout}
 use Rattle.layout.specs.Layout.{digits, parityRacks, trayLimit, Cabinet}
 use Rattle.layout.proofs.Facts.{bounds}
 use Rattle.codeword.specs.Codeword.{shapeOf}
-use Rattle.blocks.specs.Blocks.{roomLimit}
+use Rattle.blocks.specs.Inner.{roomLimit}
 use Rattle.sums.specs.Inner.{unknownPoint, rightSide, sumAt, Chosen, Cycle, PointsTo, Workspace, FoundSums, RowTimes, Weighing, Weighed, SidesTo, SumsTo, Summing}
 use Rattle.sums.proofs.Steps.{digits-under, sums-high}
 use Rattle.sums.proofs.Points.{columns-in}

@@ -25,7 +25,7 @@ use Rattle.layout.specs.declared.Layout.{Layout}
 use Rattle.layout.specs.Layout.{digits, groups, parityRacks, trayLimit, layerLimit, Cabinet}
 use Rattle.layout.proofs.Facts.{bounds}
 use Rattle.codeword.specs.Codeword.{pointAt}
-use Rattle.blocks.specs.Blocks.{Block}
+use Rattle.blocks.specs.Inner.{Block}
 use Rattle.blocks.proofs.Digits.{run-pos}
 use Rattle.syndrome.specs.Inner.{Room, Terms}
 use Rattle.rule.specs.Lost.{sentSymbol}

@@ -32,7 +32,7 @@ use Rattle.layout.specs.Layout.{digits, groups, parityRacks, trayLimit, Cabinet
 use Rattle.layout.proofs.Facts.{bounds}
 use Rattle.layout.proofs.Numbers.{total, digits-small}
 use Rattle.codeword.specs.Codeword.{shapeOf, pointAt}
-use Rattle.blocks.specs.Blocks.{Block}
+use Rattle.blocks.specs.Inner.{Block}
 use Rattle.blocks.proofs.Digits.{digit-low}
 use Rattle.syndrome.specs.Inner.{DigitPowers}
 use Rattle.sums.specs.Inner.{RackPowers}

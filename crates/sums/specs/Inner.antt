@@ -18,7 +18,7 @@ use Rattle.kernel.specs.Inner.{cell}
 use Rattle.layout.specs.declared.Layout.{Layout}
 use Rattle.layout.specs.Layout.{digits, groups, parityRacks, trayLimit, Cabinet}
 use Rattle.codeword.specs.Codeword.{shapeOf, pointAt}
-use Rattle.blocks.specs.Blocks.{roomLimit, Block}
+use Rattle.blocks.specs.Inner.{roomLimit, Block}
 use Rattle.rule.specs.Lost.{sentSymbol}
 
 abbrev pub helperAt : List ℕ → ℕ → ℕ

@@ -36,13 +36,14 @@ ops = record {
   one = elem 1;
 }
 
+-- the field of document 01
+abbrev pub gf256 : Field Elem
+gf256 = record { ops = ops; root = elem root; order = order; coding = record { size = 256; elem = elem; val = λ x. x .val } }
+
+-- ---- what only code and proofs need
 -- the root z
 abbrev pub z : Elem
 z = elem root
 
 abbrev pub coding : Coding Elem
-coding = record { size = 256; elem = elem; val = λ x. x .val }
-
--- the field of document 01
-abbrev pub gf256 : Field Elem
-gf256 = record { ops = ops; root = z; order = order; coding = coding }
+coding = gf256 .coding

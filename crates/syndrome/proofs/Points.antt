@@ -26,7 +26,7 @@ use Rattle.layout.specs.declared.Layout.{Layout}
 use Rattle.layout.specs.Layout.{trays, digits, layerLimit}
 use Rattle.layout.proofs.Facts.{bounds, size-pos, rack-in, power-in}
 use Rattle.codeword.specs.Codeword.{pointAt}
-use Rattle.blocks.specs.Blocks.{Block}
+use Rattle.blocks.specs.Inner.{Block}
 use Rattle.blocks.proofs.Digits.{run-pos, digit-stays, digit-repeats, count-whole, count-pos, period-in}
 use Rattle.syndrome.specs.Inner.{timesPower, powerRun, DigitPowers, TrayPoints}
 use Rattle.syndrome.proofs.Digits.{point-digit}

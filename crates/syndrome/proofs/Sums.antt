@@ -25,7 +25,7 @@ use Rattle.kernel.specs.Inner.{cell, Run, filled, copied}
 use Rattle.kernel.proofs.Rows.{row-before, cell-is}
 use Rattle.layout.specs.declared.Layout.{Layout}
 use Rattle.layout.specs.Layout.{trays, layers}
-use Rattle.blocks.specs.Blocks.{Block}
+use Rattle.blocks.specs.Inner.{Block}
 use Rattle.codeword.specs.Codeword.{symbolAt, pointAt}
 use Rattle.syndrome.specs.Inner.{entryOf, Listed, survivorAt, Room, TrayPoints, Terms, TrayTerms, KeptTerms, Sums}
 

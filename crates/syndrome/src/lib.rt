@@ -10,7 +10,7 @@ ghost use lib.ListN.{length};
 ghost use Rattle.kernel.specs.Inner.{Run};
 ghost use Rattle.symbol.specs.Elem.{gf256};
 ghost use Rattle.layout.specs.Layout.{trays, digits, layers};
-ghost use Rattle.blocks.specs.Blocks.{Block};
+ghost use Rattle.blocks.specs.Inner.{Block};
 ghost use Rattle.syndrome.specs.Inner.{Listed, Room, powerRun, DigitPowers, TrayPoints, Terms, Later, TrayTerms, KeptTerms, Sums};
 
 // s runs of equal symbols, each run z times the one before.

@@ -12,7 +12,7 @@ use Rattle.algebra.specs.Shape.{Field}
 use Rattle.layout.specs.declared.Layout.{Layout}
 use Rattle.layout.specs.Layout.{checks, digits, layers}
 use Rattle.codeword.specs.Inner.{Scannable}
-use Rattle.blocks.specs.Blocks.{blockLimit, roomLimit, Block}
+use Rattle.blocks.specs.Inner.{blockLimit, roomLimit, Block}
 use Rattle.syndrome.specs.Inner.{Room}
 use Rattle.testing.specs.Inner.{FirstBroken}
 use Rattle.blocks.proofs.Room.{roomOf, rowOf, room-long, row-long}

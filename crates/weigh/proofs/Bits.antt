@@ -13,7 +13,7 @@ use Rattle.symbol.proofs.Laws.{⊕-⊗, ⊗-⊕, ⊗-zero, ⊗-assoc, ⊗-lt}
 use Rattle.symbol.proofs.Halves.{twice-times, masked-times, half}
 use Rattle.kernel.specs.Inner.{Run}
 use Rattle.kernel.proofs.Runs.{run-more}
-use Rattle.weigh.specs.Weigh.{mix, three, five}
+use Rattle.weigh.specs.Inner.{mix, three, five}
 
 -- a symbol times a factor's higher bits, doubled, and times the next bit
 next : (a p k : ℕ) → p < 256 → 0 < k → a ⊗ (p / 2 ^ k) ⊗ 2 ⊕ a ⊗ (p / 2 ^ (k - 1) % 2) ≡ a ⊗ (p / 2 ^ (k - 1))

@@ -18,7 +18,7 @@ use Rattle.symbol.proofs.Tables.{log, logs, zpow-log}
 use Rattle.symbol.proofs.Elem.{laws, elem-zero, elem-one, elem-⊕, elem-⊗, elem-power, elem-zpow}
 use Rattle.symbol.proofs.Working.{working}
 use Rattle.kernel.specs.Inner.{Run, added}
-use Rattle.weigh.specs.Weigh.{mix, three, five, weight, weightedTerm, Weighed}
+use Rattle.weigh.specs.Inner.{mix, three, five, weight, weightedTerm, Weighed}
 
 -- ---- the factors
 weight-is : (u b m g v : ℕ) → zpow (255 / u) ≡ b → T (eqb (power (power b g) m) v) → elem v ≡ weight gf256 u m g

@@ -8,7 +8,7 @@ ghost use Prim.Native.Nat.{_+_, _<_, _≤_};
 ghost use lib.ListN.{length};
 ghost use Rattle.symbol.specs.Elem.{gf256};
 ghost use Rattle.kernel.specs.Inner.{Run};
-ghost use Rattle.weigh.specs.Weigh.{mix, three, five, Weighed};
+ghost use Rattle.weigh.specs.Inner.{mix, three, five, Weighed};
 
 // Four symbols times their factors.
 fn mixed(a: u8, b: u8, c: u8, d: u8, p: u8, q: u8, r: u8, s: u8) -> u8

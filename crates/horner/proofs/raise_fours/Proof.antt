@@ -5,7 +5,7 @@ use lib.ListN.{length}
 use borrow.Author.Needs.{needs}
 use Rattle.symbol.specs.Elem.{gf256}
 use Rattle.symbol.proofs.Working.{working}
-use Rattle.horner.specs.Horner.{Scaled}
+use Rattle.horner.specs.Inner.{Scaled}
 use Rattle.horner.proofs.Loops.{fours-none, fours-more}
 use Rattle.horner.proofs.raise_fours.Statement.{statement}
 use Rattle.horner.proofs.raise_fours.Tie as tie

@@ -7,7 +7,7 @@ use Rattle.symbol.specs.Elem.{gf256}
 use Rattle.symbol.proofs.Working.{working}
 use Rattle.kernel.specs.Inner.{Run}
 use Rattle.kernel.proofs.Runs.{run-none, run-end}
-use Rattle.horner.specs.Horner.{scaledRun}
+use Rattle.horner.specs.Inner.{scaledRun}
 use Rattle.horner.proofs.Loops.{raise-more}
 use Rattle.horner.proofs.raise_run.Statement.{statement}
 use Rattle.horner.proofs.raise_run.Tie as tie

@@ -4,7 +4,7 @@ use native.Mathlib.Omega.{arith}
 use borrow.Author.Needs.{needs}
 use Rattle.symbol.specs.Elem.{gf256}
 use Rattle.symbol.proofs.Working.{working}
-use Rattle.horner.specs.Horner.{scaled}
+use Rattle.horner.specs.Inner.{scaled}
 use Rattle.horner.proofs.Loops.{scaled-none}
 use Rattle.horner.proofs.Doublings.{double-more, double-end}
 use Rattle.horner.proofs.raised.Statement.{statement}

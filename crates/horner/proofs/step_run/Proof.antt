@@ -7,7 +7,7 @@ use Rattle.symbol.specs.Elem.{gf256}
 use Rattle.symbol.proofs.Working.{working}
 use Rattle.kernel.specs.Inner.{Run}
 use Rattle.kernel.proofs.Runs.{run-none, run-end}
-use Rattle.horner.specs.Horner.{steppedRun}
+use Rattle.horner.specs.Inner.{steppedRun}
 use Rattle.horner.proofs.Loops.{step-more}
 use Rattle.horner.proofs.step_run.Statement.{statement}
 use Rattle.horner.proofs.step_run.Tie as tie

@@ -5,7 +5,7 @@ use lib.ListN.{length}
 use borrow.Author.Needs.{needs}
 use Rattle.symbol.specs.Elem.{gf256}
 use Rattle.symbol.proofs.Working.{working}
-use Rattle.horner.specs.Horner.{Left}
+use Rattle.horner.specs.Inner.{Left}
 use Rattle.horner.proofs.Loops.{steps-none, steps-end}
 use Rattle.horner.proofs.Doublings.{steps-more}
 use Rattle.horner.proofs.steps.Statement.{statement}

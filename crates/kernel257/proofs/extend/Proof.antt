@@ -20,7 +20,7 @@ extend-spec =
     tie.close (tie.spec Inv-loop μ-loop
     (λ c. (omega arith, omega arith, refl, repeated-one _ _))
     (λ c. omega arith)
-    (λ c κs. (omega arith, omega arith))
+    (λ c κs. search needs)
     (λ c. search repeat-fits)
     (λ c. search repeat-fits-2)
     (λ c κs. (search repeat-before, search repeat-room))

@@ -3,7 +3,7 @@ use Prim.Native.Nat.{_-_, _≤_}
 use native.Mathlib.Omega.{arith}
 use lib.ListN.{length}
 use borrow.Author.Needs.{needs}
-use Rattle.planes.specs.Planes.{Plane}
+use Rattle.planes.specs.Inner.{Plane}
 use Rattle.planes.proofs.Planes.{plane-none, plane-more, plane-end, bit-small, coef-fits, coef-in}
 use Rattle.planes.proofs.add_plane.Statement.{statement}
 use Rattle.planes.proofs.add_plane.Tie as tie

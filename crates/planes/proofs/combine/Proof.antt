@@ -3,7 +3,7 @@ use Prim.Native.Nat.{_-_, _≤_}
 use native.Mathlib.Omega.{arith}
 use lib.ListN.{length}
 use borrow.Author.Needs.{needs}
-use Rattle.planes.specs.Planes.{Upper}
+use Rattle.planes.specs.Inner.{Upper}
 use Rattle.planes.proofs.Planes.{upper-none, upper-more, summed-end, whole-in, whole-fits, whole-next, rows-after}
 use Rattle.planes.proofs.combine.Statement.{statement}
 use Rattle.planes.proofs.combine.Tie as tie

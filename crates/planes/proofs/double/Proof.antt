@@ -5,7 +5,7 @@ use lib.ListN.{length, length-set}
 use borrow.Author.Needs.{needs}
 use Rattle.kernel.specs.Inner.{Run}
 use Rattle.kernel.proofs.Runs.{run-none, run-end}
-use Rattle.planes.specs.Planes.{doubled}
+use Rattle.planes.specs.Inner.{doubled}
 use Rattle.planes.proofs.Planes.{double-more}
 use Rattle.planes.proofs.double.Statement.{statement}
 use Rattle.planes.proofs.double.Tie as tie

@@ -5,7 +5,7 @@ use lib.ListN.{length}
 use borrow.Author.Needs.{needs}
 use Rattle.symbol257.specs.Elem.{gf257}
 use Rattle.symbol257.proofs.Working.{working}
-use Rattle.planes.specs.Planes.{Summed}
+use Rattle.planes.specs.Inner.{Summed}
 use Rattle.planes257.proofs.Sums.{summed-none, summed-more, summed-end, found-in, found-next, found-fits, sums-in, sums-fits, coef-in, coef-fits}
 use Rattle.planes257.proofs.combine.Statement.{statement}
 use Rattle.planes257.proofs.combine.Tie as tie

@@ -2,7 +2,7 @@ use mathlib.Core.Bool.{false≢true}
 use Prim.Native.Nat.{_-_, _≤_}
 use native.Mathlib.Omega.{arith}
 use borrow.Author.Needs.{needs}
-use Rattle.rack_checks.specs.Racks.{Kept}
+use Rattle.rack_checks.specs.Inner.{Kept}
 use Rattle.rack_checks.proofs.Numbers.{kept-none, kept-more, kept-end, kept-fits}
 use Rattle.rack_checks.proofs.all_kept.Statement.{statement}
 use Rattle.rack_checks.proofs.all_kept.Tie as tie

@@ -1,7 +1,7 @@
 use Prim.Native.Nat.{_≤_}
 use native.Mathlib.Omega.{arith}
 use borrow.Author.Needs.{needs}
-use Rattle.rack_checks.specs.Racks.{ListedFrom}
+use Rattle.rack_checks.specs.Inner.{ListedFrom}
 use Rattle.rack_checks.proofs.Numbers.{from-none, from-more}
 use Rattle.rack_checks.proofs.listed_from.Statement.{statement}
 use Rattle.rack_checks.proofs.listed_from.Tie as tie

@@ -5,7 +5,7 @@ use lib.ListN.{length}
 use borrow.Author.Needs.{needs}
 use Rattle.symbol.specs.Elem.{gf256}
 use Rattle.symbol.proofs.Working.{working}
-use Rattle.rack_checks.specs.Racks.{Weights, LastSums}
+use Rattle.rack_checks.specs.Inner.{Weights, LastSums}
 use Rattle.rack_checks.proofs.Places.{last-none, last-next}
 use Rattle.rack_checks.proofs.Raising.{weights-none, weights-more, weights-end}
 use Rattle.rack_checks.proofs.raise_rack.Statement.{statement}

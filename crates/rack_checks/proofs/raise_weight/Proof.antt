@@ -4,7 +4,7 @@ use native.Mathlib.Omega.{arith}
 use lib.ListN.{length}
 use borrow.Author.Needs.{needs}
 use Rattle.symbol.specs.Elem.{gf256}
-use Rattle.rack_checks.specs.Racks.{Weighed}
+use Rattle.rack_checks.specs.Inner.{Weighed}
 use Rattle.rack_checks.proofs.Numbers.{row-there, next-check, next-fits, next-less, next-count}
 use Rattle.rack_checks.proofs.Raising.{weighed-none, weighed-more, weighed-end}
 use Rattle.rack_checks.proofs.raise_weight.Statement.{statement}

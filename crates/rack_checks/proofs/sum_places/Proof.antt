@@ -5,7 +5,7 @@ use lib.ListN.{length}
 use borrow.Author.Needs.{needs}
 use Rattle.symbol.specs.Elem.{gf256}
 use Rattle.symbol.proofs.Working.{working}
-use Rattle.rack_checks.specs.Racks.{PlaceSums}
+use Rattle.rack_checks.specs.Inner.{PlaceSums}
 use Rattle.rack_checks.proofs.Places.{places-none, places-more, places-end}
 use Rattle.rack_checks.proofs.sum_places.Statement.{statement}
 use Rattle.rack_checks.proofs.sum_places.Tie as tie

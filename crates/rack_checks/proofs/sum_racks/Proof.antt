@@ -6,7 +6,7 @@ use borrow.Author.Needs.{needs}
 use Rattle.symbol.specs.Elem.{gf256}
 use Rattle.symbol.proofs.Working.{working}
 use Rattle.syndrome.proofs.Sums.{sums-fits, sums-in}
-use Rattle.rack_checks.specs.Racks.{Above}
+use Rattle.rack_checks.specs.Inner.{Above}
 use Rattle.rack_checks.proofs.Numbers.{readable}
 use Rattle.rack_checks.proofs.Above.{above-none, above-more, above-end}
 use Rattle.rack_checks.proofs.sum_racks.Statement.{statement}

@@ -2,7 +2,7 @@
 use Prim.Native.Nat.{_-_, _≤_}
 use native.Mathlib.Omega.{arith}
 use borrow.Author.Needs.{needs}
-use Rattle.range.specs.Range.{Highest}
+use Rattle.range.specs.Inner.{Highest}
 use Rattle.range.proofs.Symbols.{highest-none, highest-more, highest-end}
 use Rattle.range257.proofs.highest.Statement.{statement}
 use Rattle.range257.proofs.highest.Tie as tie

@@ -6,7 +6,7 @@ use native.Mathlib.Omega.{arith}
 use borrow.Author.Needs.{needs}
 use borrow.Author.Count.{below-none, below-more}
 use Rattle.symbol257.specs.Elem.{gf257}
-use Rattle.recover.specs.Recover.{keptTray}
+use Rattle.recover.specs.Inner.{keptTray}
 use Rattle.recover.proofs.Grounds.{tray-so, tray-in, kept-false, kept-true}
 use Rattle.recover257.proofs.kept_symbols.Statement.{statement}
 use Rattle.recover257.proofs.kept_symbols.Tie as tie

@@ -5,7 +5,7 @@ use lib.ListN.{length, length-set}
 use borrow.Author.Needs.{needs}
 use Rattle.kernel.specs.Inner.{Run}
 use Rattle.kernel.proofs.Runs.{run-none, run-end}
-use Rattle.weigh.specs.Weigh.{five}
+use Rattle.weigh.specs.Inner.{five}
 use Rattle.weigh.proofs.Bits.{five-more}
 use Rattle.weigh.proofs.sum_five.Statement.{statement}
 use Rattle.weigh.proofs.sum_five.Tie as tie

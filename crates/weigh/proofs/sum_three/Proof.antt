@@ -5,7 +5,7 @@ use lib.ListN.{length, length-set}
 use borrow.Author.Needs.{needs}
 use Rattle.kernel.specs.Inner.{Run}
 use Rattle.kernel.proofs.Runs.{run-none, run-end}
-use Rattle.weigh.specs.Weigh.{three}
+use Rattle.weigh.specs.Inner.{three}
 use Rattle.weigh.proofs.Bits.{three-more}
 use Rattle.weigh.proofs.sum_three.Statement.{statement}
 use Rattle.weigh.proofs.sum_three.Tie as tie

@@ -1,6 +1,6 @@
 use mathlib.Core.Path.{ap, sym}
 use borrow.Author.Needs.{needs}
-use Rattle.gesarumbo.specs.Boundary.{correctedNumbers}
+use Rattle.correcting.specs.Correcting.{report as corrected}
 use Rattle.gesarumbo.proofs.numbers.corrected_numbers.Statement.{statement}
 use Rattle.gesarumbo.proofs.numbers.corrected_numbers.Tie as tie
 
@@ -10,5 +10,5 @@ corrected-numbers-spec =
     (λ c. search needs)
     (λ c. search needs)
     (λ c. search needs)
-    (λ c. ap correctedNumbers (sym (c .before .answer .given .1)))
-    (λ c. ap correctedNumbers (sym (c .before .answer2 .given .1))))
+    (λ c. ap corrected (sym (c .before .answer .given .1)))
+    (λ c. ap corrected (sym (c .before .answer2 .given .1))))

@@ -1,6 +1,6 @@
 use mathlib.Core.Path.{ap, sym}
 use borrow.Author.Needs.{needs}
-use Rattle.gesarumbo.specs.Boundary.{repairNumbers}
+use Rattle.repair.specs.Repair.{report}
 use Rattle.gesarumbo.proofs.numbers.repair_numbers.Statement.{statement}
 use Rattle.gesarumbo.proofs.numbers.repair_numbers.Tie as tie
 
@@ -10,5 +10,5 @@ repair-numbers-spec =
     (λ c. search needs)
     (λ c. search needs)
     (λ c. search needs)
-    (λ c. ap repairNumbers (sym (c .before .answer .given .1)))
-    (λ c. ap repairNumbers (sym (c .before .answer2 .given .1))))
+    (λ c. ap report (sym (c .before .answer .given .1)))
+    (λ c. ap report (sym (c .before .answer2 .given .1))))
