@@ -20,6 +20,7 @@ TWINS = {
     'kernel': ['at', 'gather_apart', 'gather_grid'],
     'columns': [],
     'syndrome': [],
+    'solving': [],
     'restore': [],
     'range': ['higher', 'highest', 'highest_apart', 'highest_of_four'],
     'testing': [],
@@ -40,7 +41,7 @@ TWINS = {
     'points': ['point_power', 'place_power'],
 }
 # crates without a twin, and those whose functions a twin calls in their place: the names and the contracts are the same
-PLAIN = {'rack_checks': 'syndrome'}
+PLAIN = {'rack_checks': 'syndrome', 'rack_solving': 'solving'}
 # crates that the other field has its own of, written by hand
 OWN = ['symbol', 'planes']
 # types of a crate that its twin takes from it

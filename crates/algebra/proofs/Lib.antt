@@ -21,3 +21,5 @@ pub mod Restore
 pub mod Numbers
 pub mod Residue
 pub mod Locate
+pub mod Inverse
+pub mod Racks

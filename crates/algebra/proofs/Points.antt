@@ -5,15 +5,14 @@ use Prim.Native.Nat.{ℕ, zero, _+_, _*_, _/_, _%_, _<_}
 use native.Mathlib.Nat.{add-comm as plus-comm, mul-comm as times-comm, zero-mul as zero-times, add-zero as plus-zero, mul-le-mul-left, mod-lt, div-add-mod', div-lt-iff-lt-mul}
 use native.Mathlib.Omega.{arith}
 use lib.Arith.{digits-lt, digits-div, digits-mod}
-use Rattle.algebra.specs.Field.{Ops, Laws}
+use Rattle.algebra.specs.Field.{Ops}
 use Rattle.algebra.specs.Sum.{pow}
 use Rattle.algebra.specs.Lagrange.{Distinct, check}
-use Rattle.algebra.specs.Shape.{Shape, Root, Fits}
+use Rattle.algebra.specs.Shape.{Shape, Fits}
 use Rattle.algebra.specs.Points.{point, trayPoint, rackPoint, place, rackSum, rackCheck}
-use Rattle.algebra.proofs.Ring.{ring, mul-one, mul-assoc}
-use Rattle.algebra.proofs.Sum.{sum-congr, sum-blocks, sum-mul-left}
+use Rattle.algebra.proofs.Ring.{mul-one}
 use Rattle.algebra.proofs.Pow.{pow-add, pow-mul, one-pow}
-use Rattle.algebra.proofs.Weighted.{place-split}
+use Rattle.algebra.proofs.Weighted.{check-split, placeSum, racks-check}
 
 -- a number is written in one way as a quotient and a remainder
 pub digits-same : (m p q a b : ℕ) → a < m → b < m → p * m + a ≡ q * m + b → (p ≡ q) × (a ≡ b)
@@ -94,30 +93,13 @@ module _ {A : Type 0} (sh : Shape A) (fits : Fits sh) where
   unfolding trayPoint place
   tray-at a i g h = ap₂ (λ r p. point sh r (a r) p) (digits-div i h) (digits-mod i h) ∙ point-split i (a i) g
 
-  regroup : (p x y c : A) → p ⊗ (x ⊗ y) ⊗ c ≡ p ⊗ x ⊗ (y ⊗ c)
-  regroup p x y c = simp (ring, L)
-
-  place-split-at : (x : A) (w m g : ℕ) → pow o (x ⊗ place sh g) (u * w + m) ≡ pow o (pow o x u) w ⊗ (pow o x m ⊗ pow o (place sh g) m)
-  unfolding place
-  place-split-at x w m g = place-split o L x (pow o z (N / u)) u w m g root-one
-
   -- a check of the number u·w + m speaks only of rack sums
   pub rack-check : (a : ℕ → ℕ) (c : ℕ → A) (w m : ℕ) →
       check o (trayPoint sh a) (B * u) c (u * w + m) ≡ rackCheck sh a m (rackSum sh c m) w
-  unfolding check rackPoint rackSum rackCheck
+  unfolding rackPoint rackSum rackCheck place placeSum
   rack-check a c w m =
-      sum-blocks o L B u _
-      ∙ sum-congr o B _ _ (λ i h.
-      sum-congr o u _ (λ g. pow o (pow o (point sh i (a i) 0) u) w ⊗ pow o (point sh i (a i) 0) m ⊗ (pow o (place sh g) m ⊗ c (i * u + g))) (λ g k.
-      ap (λ x. pow o x (u * w + m) ⊗ c (i * u + g)) (tray-at a i g k)
-      ∙ ap (λ x. x ⊗ c (i * u + g)) (split i g)
-      ∙ regroup (pow o (pow o (point sh i (a i) 0) u) w) (pow o (point sh i (a i) 0) m) (pow o (place sh g) m) (c (i * u + g)))
-      ∙ sum-mul-left o L u (pow o (pow o (point sh i (a i) 0) u) w ⊗ pow o (point sh i (a i) 0) m) (λ g. pow o (place sh g) m ⊗ c (i * u + g))
-      ∙ mul-assoc o L (pow o (pow o (point sh i (a i) 0) u) w) (pow o (point sh i (a i) 0) m) _)
-    where
-      split : (i g : ℕ) → pow o (point sh i (a i) 0 ⊗ place sh g) (u * w + m)
-          ≡ pow o (pow o (point sh i (a i) 0) u) w ⊗ (pow o (point sh i (a i) 0) m ⊗ pow o (place sh g) m)
-      split i g = place-split-at (point sh i (a i) 0) w m g
+      racks-check o L (pow o z (N / u)) u root-one (trayPoint sh a) (λ i. point sh i (a i) 0) B (λ i g h k. tray-at a i g k) c w m
+      ∙ check-split o L (λ i. point sh i (a i) 0) B u m (rackSum sh c m) w
 
   -- the factors of the places differ
   pub places-distinct : Distinct (place sh) u

@@ -1,6 +1,6 @@
 -- The points of racks, digits and places: powers of the root.
 -- Assumes nothing.
-use Prim.Native.Nat.{ℕ, _+_, _*_, _/_, _%_}
+use Prim.Native.Nat.{ℕ, zero, suc, _+_, _-_, _*_, _/_, _%_}
 use Rattle.algebra.specs.Field.{Ops}
 use Rattle.algebra.specs.Sum.{sum, pow}
 use Rattle.algebra.specs.Lagrange.{check}
@@ -33,3 +33,8 @@ module _ {A : Type 0} (sh : Shape A) where
   -- the sum over the trays of rack i, each times the m-th power of its place's factor; with m = 0 document 01's rack sum
   unfoldable pub rackSum : (ℕ → A) → ℕ → ℕ → A
   rackSum c m i = sum o u (λ g. o .mul (pow o (place g) m) (c (i * u + g)))
+
+-- the place that is so many from the last as m is from the first: u - m, and 0 for 0
+unfoldable pub opposite : ℕ → ℕ → ℕ
+opposite u zero = 0
+opposite u (suc m) = u - suc m

@@ -2,7 +2,7 @@
 // for each system; right sides and solutions have a row for each check and unknown, `run` places for each column, whose points are alike there, and the columns
 // come `turns` times over.
 // Promises the algebra's solution (`solve` in algebra/specs/Lagrange.antt) at every place, for any points and right sides.
-mod runs;
+pub mod runs;
 
 use crate::runs::divide;
 use crate::runs::negate;

@@ -135,7 +135,8 @@ module _ {A : Type 0} {f : Field A} (W : Working f) where
         low i b j hi hb hj (yes e) = subst (λ b. getD new (i * layers l + layerOf (digits l) h (first + j) b) 0 < size) (sym e) (d .small i j hi hj)
         low i b j hi hb hj (no n) = rw (stays i b j hb hj n) (g .small i b j hi (omega arith) hj)
 
-    pub repaired-end : (a s : ℕ) (old new : List ℕ) → s ≡ digits l → BlockRepaired f l h lost host w first sums a old new → a ≤ s → s ≤ a → BlockRepaired f l h lost host w first sums (digits l) old new
+    pub repaired-end : (a s : ℕ) (old new : List ℕ) → s ≡ digits l → BlockRepaired f l h lost host w first sums a old new → a ≤ s → s ≤ a →
+        BlockRepaired f l h lost host w first sums (digits l) old new
     repaired-end a s old new es g p q = let e : a ≡ digits l = omega arith in subst (λ n. BlockRepaired f l h lost host w first sums n old new) e g
 
   -- a block written whole, by the host's own sums, is as the rule fixes it

@@ -3,14 +3,16 @@
 use mathlib.Core.Path.{_≡_, refl, sym, ap, _∙_}
 use mathlib.Core.List.{List}
 use Prim.Native.Nat.{ℕ, _+_, _*_, _<_, _≤_}
-use native.Mathlib.Nat.{not-suc-le-zero}
+use native.Mathlib.Nat.{not-suc-le-zero, mul-le-mul}
 use native.Mathlib.Decide.{ℕ-discrete}
 use native.Mathlib.Omega.{arith}
 use lib.ListN.{length, getD, set, length-set}
 use lib.Seq.{getD-set-same, getD-set-other}
+use Rattle.algebra.specs.Field.{Ops}
+use Rattle.algebra.specs.Coding.{Coding}
 use Rattle.algebra.specs.Shape.{Field}
-use Rattle.algebra.specs.Plain.{plus}
-use Rattle.kernel.specs.Inner.{Spaced, addedSpaced}
+use Rattle.algebra.specs.Plain.{reduced}
+use Rattle.kernel.specs.Inner.{Spaced, Spacing, addedSpaced, grid}
 use Rattle.kernel.proofs.Rows.{row-before}
 
 -- the place of turn j is in the buffer
@@ -40,13 +42,23 @@ spaced-more f was is to step j v p r h e = record {
     go i l (no d) = getD-set-other is (to + j * step) (to + i * step) v 0 (λ q. places-apart to step i j p (omega arith) q) ∙ r .done i (omega arith)
 
 -- a turn: the place was not written yet
-pub add-spaced-more : {A : Type 0} (f : Field A) (was is src : List ℕ) (to step from stride j len p : ℕ) → Spaced (addedSpaced f was to step src from stride) was is to step j → j < len →
-    0 < step → to + len * step < length was + step → p ≡ plus f (getD is (to + j * step) 0) (getD src (from + j * stride) 0) →
-    Spaced (addedSpaced f was to step src from stride) was (set is (to + j * step) p) to step (j + 1)
-unfolding addedSpaced
-add-spaced-more f was is src to step from stride j len p r h q l e =
-    spaced-more (addedSpaced f was to step src from stride) was is to step j p q r (place-in was to step j len l h)
-    (e ∙ ap (λ (x : ℕ). plus f x (getD src (from + j * stride) 0)) (r .other (to + j * step) (λ k b d. places-apart to step k j q b (sym d))))
+pub add-spaced-more : {A : Type 0} (f : Field A) (was is src : List ℕ) (to step from stride gap n far m j len p q : ℕ) →
+    Spaced (addedSpaced f was to step src from stride gap n far m) was is to step j → j < len → Spacing f was to step len src from stride gap n far m →
+    f .coding .elem p ≡ f .ops .add (f .coding .elem (getD is (to + j * step) 0)) (grid f src (from + j * stride) gap n far m) → q ≡ reduced f p →
+    Spaced (addedSpaced f was to step src from stride gap n far m) was (set is (to + j * step) q) to step (j + 1)
+unfolding addedSpaced reduced
+add-spaced-more f was is src to step from stride gap n far m j len p q r h t e d =
+    spaced-more (addedSpaced f was to step src from stride gap n far m) was is to step j q (t .some) r (place-in was to step j len (t .room) h)
+    (d ∙ ap (f .coding .val) (e ∙ ap (λ (x : ℕ). f .ops .add (f .coding .elem x) (grid f src (from + j * stride) gap n far m)) (still j is r)))
+  where
+    still : (j : ℕ) (is : List ℕ) → Spaced (addedSpaced f was to step src from stride gap n far m) was is to step j → getD is (to + j * step) 0 ≡ getD was (to + j * step) 0
+    still j is r = r .other (to + j * step) (λ k b d. places-apart to step k j (t .some) b (sym d))
+
+-- the sum of a turn fits
+pub spaced-fits : {A : Type 0} (f : Field A) (was is src : List ℕ) (to step len from stride gap n far m j : ℕ) → f .coding .size ≤ 257 → Spacing f was to step len src from stride gap n far m →
+    Spaced (addedSpaced f was to step src from stride gap n far m) was is to step j → j < len → getD is (to + j * step) 0 + m * n * f .coding .size < 65536
+spaced-fits f was is src to step len from stride gap n far m j small p r h =
+    rw (r .other (to + j * step) (λ k b d. places-apart to step k j (p .some) b (sym d))) (omega (arith, p .held j h, mul-le-mul (p .few) small))
 
 -- at the end of the loop
 pub spaced-end : (f : ℕ → ℕ) (was is : List ℕ) (to step j len : ℕ) → Spaced f was is to step j → j ≤ len → len ≤ j → Spaced f was is to step len

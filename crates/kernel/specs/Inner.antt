@@ -31,6 +31,11 @@ pub record Grid (src : List ℕ) (at gap n far m : ℕ) : Type 0 where
   pub some : 0 < n
   pub rows : (g : ℕ) → g < m → at + g * far + n * gap < length src + gap
 
+-- a run is cut into blocks of a width, or, with the width 0, not cut
+pub record Parts (len width : ℕ) : Type 0 where
+  pub narrow : width ≤ 16
+  pub whole : 0 < width → len % width ≡ 0
+
 unfoldable pub filled : ℕ → ℕ → ℕ
 filled v j = v
 
@@ -82,8 +87,18 @@ module _ {A : Type 0} (f : Field A) where
   unfoldable pub addedGrid : List ℕ → ℕ → List ℕ → ℕ → ℕ → ℕ → ℕ → ℕ → ℕ → ℕ
   addedGrid out to src from gap n far m j = val (ops .add (elem (getD out (to + j) 0)) (grid src (from + j) gap n far m))
 
-  unfoldable pub addedSpaced : List ℕ → ℕ → ℕ → List ℕ → ℕ → ℕ → ℕ → ℕ
-  addedSpaced out to step src from stride j = plus f (getD out (to + j * step) 0) (getD src (from + j * stride) 0)
+  -- the same for every step-th symbol
+  pub record Spacing (out : List ℕ) (to step len : ℕ) (src : List ℕ) (from stride gap n far m : ℕ) : Type 0 where
+    pub given : InRange (f .coding) src
+    pub held : (j : ℕ) → j < len → getD out (to + j * step) 0 < size
+    pub some : 0 < step
+    pub room : to + len * step < length out + step
+    pub long : from + len * stride < length src + stride
+    pub lies : (j : ℕ) → j < len → Grid src (from + j * stride) gap n far m
+    pub few : m * n ≤ 240
+
+  unfoldable pub addedSpaced : List ℕ → ℕ → ℕ → List ℕ → ℕ → ℕ → ℕ → ℕ → ℕ → ℕ → ℕ → ℕ
+  addedSpaced out to step src from stride gap n far m j = val (ops .add (elem (getD out (to + j * step) 0)) (grid src (from + j * stride) gap n far m))
 
   unfoldable pub addedProduct : List ℕ → ℕ → List ℕ → ℕ → List ℕ → ℕ → ℕ → ℕ
   addedProduct out to src from by at j = plus f (getD out (to + j) 0) (times f (getD src (from + j) 0) (getD by (at + j) 0))

@@ -13,13 +13,16 @@ use symbol::plain::settle;
 use symbol::plain::sum;
 use symbol::plain::sum_product;
 ghost use mathlib.Core.Path.{_≡_};
-ghost use Prim.Native.Nat.{_+_, _*_, _<_, _≤_};
+ghost use Prim.Native.Nat.{_+_, _*_, _%_, _<_, _≤_};
 ghost use lib.ListN.{length, getD};
 ghost use Rattle.algebra.specs.Field.{Ops};
 ghost use Rattle.algebra.specs.Coding.{InRange};
 ghost use Rattle.symbol.specs.Elem.{gf256};
 ghost use Rattle.kernel.specs.Inner.{Run, Standing, filled, copied, repeated, added, addedProduct, addedMultiple, stepped, accrued, shifted, parted, lookedUp, sampled};
-ghost use Rattle.kernel.specs.Inner.{Spaced, addedSpaced, apart, Grid, grid, Gridding, addedGrid, allZero, Inverses};
+ghost use Rattle.kernel.specs.Inner.{Spaced, addedSpaced, Spacing, apart, Grid, grid, Gridding, addedGrid, Parts, allZero, Inverses};
+
+// The most symbols of a block.
+pub const BLOCK: usize = 16;
 
 // The symbol at a place.
 pub fn at(xs: &[u8], i: usize) -> u8
@@ -131,7 +134,7 @@ fn gather_grid(v: u8, src: &[u8], at: usize, gap: usize, n: usize, far: usize, m
 }
 
 // A run plus m times n runs of another buffer, all of symbols, with one reduction a symbol.
-pub fn add_grid(
+fn add_grid(
     out: &mut [u8],
     to: usize,
     len: usize,
@@ -152,7 +155,96 @@ pub fn add_grid(
     }
 }
 
-// Every step-th symbol plus every stride-th one of another buffer.
+// The same, written to a buffer of its own.
+fn gather_block(
+    block: &mut [u8],
+    len: usize,
+    out: &[u8],
+    to: usize,
+    src: &[u8],
+    from: usize,
+    gap: usize,
+    n: usize,
+    far: usize,
+    m: usize,
+)
+    requires { ⌜ Gridding gf256 (now out) to len (now src) from gap n far m × (len ≤ length (now block)) ⌝ }
+    ensures { λ _. ⌜ Run (addedGrid gf256 (now (out .entry)) to (now (src .entry)) from gap n far m) (now (block .entry)) (now (block .exit)) 0 len ⌝ }
+{
+    let mut j = 0usize;
+    while j < len {
+        block[j] = settle(gather_grid(out[to + j], src, from + j, gap, n, far, m));
+        j += 1;
+    }
+}
+
+// The same by way of a block of its own, which no other buffer can overlap, so that the compiler need not ask whether they do.
+fn add_block(
+    out: &mut [u8],
+    to: usize,
+    len: usize,
+    src: &[u8],
+    from: usize,
+    gap: usize,
+    n: usize,
+    far: usize,
+    m: usize,
+)
+    requires { ⌜ Gridding gf256 (now out) to len (now src) from gap n far m × (len ≤ 16) ⌝ }
+    ensures { λ _. ⌜ Run (addedGrid gf256 (now (out .entry)) to (now (src .entry)) from gap n far m) (now (out .entry)) (now (out .exit)) to len ⌝ }
+{
+    let mut block = [0u8; BLOCK];
+    gather_block(&mut block, len, out, to, src, from, gap, n, far, m);
+    copy(out, to, len, &block, 0);
+}
+
+// The same, block after block.
+fn add_blocks(
+    out: &mut [u8],
+    to: usize,
+    len: usize,
+    src: &[u8],
+    from: usize,
+    gap: usize,
+    n: usize,
+    far: usize,
+    m: usize,
+    width: usize,
+)
+    requires { ⌜ Gridding gf256 (now out) to len (now src) from gap n far m × Parts len width × (0 < width) ⌝ }
+    ensures { λ _. ⌜ Run (addedGrid gf256 (now (out .entry)) to (now (src .entry)) from gap n far m) (now (out .entry)) (now (out .exit)) to len ⌝ }
+{
+    let mut j = 0usize;
+    while j < len {
+        add_block(out, to + j, width, src, from + j, gap, n, far, m);
+        j += width;
+    }
+}
+
+// The same in blocks of a width, or, with the width 0, all at once. The compiler makes the most of a width that is written out where this is called.
+pub fn add_row(
+    out: &mut [u8],
+    to: usize,
+    len: usize,
+    src: &[u8],
+    from: usize,
+    gap: usize,
+    n: usize,
+    far: usize,
+    m: usize,
+    width: usize,
+)
+    requires { ⌜ Gridding gf256 (now out) to len (now src) from gap n far m × Parts len width ⌝ }
+    ensures { λ _. ⌜ Run (addedGrid gf256 (now (out .entry)) to (now (src .entry)) from gap n far m) (now (out .entry)) (now (out .exit)) to len ⌝ }
+{
+    if width == 0 {
+        add_grid(out, to, len, src, from, gap, n, far, m);
+        return;
+    }
+    add_blocks(out, to, len, src, from, gap, n, far, m, width);
+}
+
+// Every step-th symbol plus m times n symbols of another buffer; those for the next one begin `stride` places later.
 pub fn add_spaced(
     out: &mut [u8],
     to: usize,
@@ -161,13 +253,25 @@ pub fn add_spaced(
     src: &[u8],
     from: usize,
     stride: usize,
+    gap: usize,
+    n: usize,
+    far: usize,
+    m: usize,
 )
-    requires { ⌜ (to + len * step < length (now out) + step) × (from + len * stride < length (now src) + stride) × (0 < step) ⌝ }
-    ensures { λ _. ⌜ Spaced (addedSpaced gf256 (now (out .entry)) to step (now (src .entry)) from stride) (now (out .entry)) (now (out .exit)) to step len ⌝ }
+    requires { ⌜ Spacing gf256 (now out) to step len (now src) from stride gap n far m ⌝ }
+    ensures { λ _. ⌜ Spaced (addedSpaced gf256 (now (out .entry)) to step (now (src .entry)) from stride gap n far m) (now (out .entry)) (now (out .exit)) to step len ⌝ }
 {
     let mut j = 0usize;
     while j < len {
-        out[to + j * step] = sum(out[to + j * step], src[from + j * stride]);
+        out[to + j * step] = settle(gather_grid(
+            out[to + j * step],
+            src,
+            from + j * stride,
+            gap,
+            n,
+            far,
+            m,
+        ));
         j += 1;
     }
 }

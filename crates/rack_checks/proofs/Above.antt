@@ -109,7 +109,7 @@ module _ {A : Type 0} {f : Field A} (W : Working f) (l : Layout) (w first r : �
       ∙ mul-assoc ops laws _ _ _
 
   -- what the algebra asks, where racks of that size divide the powers of the root
-  fits-of : Cabinet l → l .size * (order / l .size) ≡ order → Fits (shapeOf f l)
+  pub fits-of : Cabinet l → l .size * (order / l .size) ≡ order → Fits (shapeOf f l)
   fits-of a e = record {
     laws = laws;
     root = W .field .root;

@@ -21,7 +21,7 @@ use Rattle.layout.proofs.Numbers.{digits-small}
 use Rattle.blocks.specs.Inner.{Block}
 use Rattle.syndrome.specs.Inner.{Listed}
 use Rattle.syndrome.proofs.Sums.{tray-in}
-use Rattle.rack_checks.specs.Inner.{ListedFrom, Kept, Readable}
+use Rattle.rack_checks.specs.Inner.{ListedFrom, Kept, Small, Readable}
 
 -- ---- trays that are all listed
 pub from-none : (es : List ℕ) (n : ℕ) → ListedFrom es n n
@@ -167,14 +167,21 @@ pub next-count : (l : Layout) (w first p t : ℕ) → Block l w first → p ≤ 
 next-count l w first p t b k = let q = bounds l (b .adm) .size-low in omega arith
 
 -- ---- the choice
-pub divides-three : (u : ℕ) → u ≡ 3 → u * (255 / u) ≡ 255
-divides-three u e = rw e refl
+pub three-small : (u : ℕ) → u ≡ 3 → Small u
+three-small u e = record { other = λ d. absurd (d e) }
 
-pub divides-five : (u : ℕ) → eqb u 5 ≡ true → u * (255 / u) ≡ 255
-divides-five u t = rw (eqb-true u 5 t) refl
+pub five-small : (u : ℕ) → eqb u 5 ≡ true → Small u
+five-small u t = record { other = λ d. eqb-true u 5 t }
 
-pub divides-small : (u : ℕ) (b : Bool) → (b ≡ true → u * (255 / u) ≡ 255) → not b ≡ false → u * (255 / u) ≡ 255
-divides-small u b f t = f (not-false b t)
+pub divides-small : (u : ℕ) → Small u → u * (255 / u) ≡ 255
+divides-small u s = go (ℕ-discrete u 3)
+  where
+    go : Dec (u ≡ 3) → u * (255 / u) ≡ 255
+    go (yes e) = rw e refl
+    go (no d) = rw (s .other d) refl
+
+pub small-divides : (u : ℕ) (b : Bool) → (b ≡ true → Small u) → not b ≡ false → u * (255 / u) ≡ 255
+small-divides u b f t = divides-small u (f (not-false b t))
 
 pub listed-few : (l : Layout) (w first : ℕ) (es : List ℕ) → Block l w first → Listed l es → length es ≤ trays l
 listed-few l w first es b h = let q = h .few in omega arith

@@ -26,6 +26,10 @@ pub record ListedFrom (es : List ℕ) (x n : ℕ) : Type 0 where
 pub record Kept (es : List ℕ) (x n : ℕ) : Type 0 where
   pub at : (g : ℕ) → g < n → absent es (x + g) ≡ true
 
+-- racks of three trays or five
+pub record Small (u : ℕ) : Type 0 where
+  pub other : ¬ (u ≡ 3) → u ≡ 5
+
 -- a buffer of all trays, of so many layers each
 pub record Readable (l : Layout) (total : ℕ) (c : List ℕ) : Type 0 where
   pub total-is : total ≡ layers l

@@ -11,7 +11,7 @@ ghost use Rattle.symbol.specs.Elem.{gf256};
 ghost use Rattle.layout.specs.Layout.{Cabinet, trays, layers, trayLimit};
 ghost use Rattle.blocks.specs.Inner.{Block};
 ghost use Rattle.syndrome.specs.Inner.{Listed, Room, DigitPowers, Sums};
-ghost use Rattle.rack_checks.specs.Inner.{ListedFrom, Kept, Readable, ByRacks, PlaceAdded, PlaceSums, LastSums, Raised, WeightRaised, RackRaised};
+ghost use Rattle.rack_checks.specs.Inner.{ListedFrom, Kept, Small, Readable, ByRacks, PlaceAdded, PlaceSums, LastSums, Raised, WeightRaised, RackRaised};
 
 // The least tray from which on all are listed.
 fn listed_from(es: &[u32], n: u32) -> u32
@@ -238,8 +238,8 @@ fn sum_racks(
 }
 
 // Whether racks have three trays or five.
-fn small(u: u32) -> bool
-    ensures { λ b. ⌜ (b ≡ true → u * (gf256 .order / u) ≡ gf256 .order) ⌝ }
+pub fn small(u: u32) -> bool
+    ensures { λ b. ⌜ (b ≡ true → Small u) ⌝ }
 {
     if u == 3 {
         return true;

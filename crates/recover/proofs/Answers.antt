@@ -19,7 +19,7 @@ use Rattle.codeword.proofs.Usable.{usable}
 use Rattle.codeword.proofs.Buffers.{layers-pos}
 use Rattle.recover.specs.Recover.{keptSymbols, recoverRefusal, RecoverAnswer}
 use Rattle.recover.specs.Inner.{Kept}
-use Rattle.restore.specs.Restored.{LayerFits, Erasing, RestoredTo}
+use Rattle.restore.specs.Inner.{LayerFits, Erasing, RestoredTo}
 use Rattle.recover.proofs.Restored.{survivors-fit, restores, restored-range}
 use Rattle.recover.proofs.Grounds.{Recoverable, recoverable, kept-all}
 

@@ -26,7 +26,7 @@ use Rattle.codeword.proofs.Buffers.{to-word, from-word, buffers-same}
 use Rattle.recover.specs.Recover.{Survivors, Restores}
 use Rattle.recover.specs.Inner.{Kept}
 use Rattle.syndrome.specs.Inner.{entryOf, Listed}
-use Rattle.restore.specs.Restored.{restoredAt, LayerFits, RestoredTo}
+use Rattle.restore.specs.Inner.{restoredAt, LayerFits, RestoredTo}
 
 module _ {A : Type 0} (f : Field A) (l : Layout) (ok : Usable f l) (es c : List ℕ) (listed : Listed l es) where
   alike : (e : List ℕ) → Survivors l es c e → (x j : ℕ) → x < trays l → j < layers l → Kept es x → symbolAt f l c x j ≡ symbolAt f l e x j

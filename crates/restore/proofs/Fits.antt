@@ -30,8 +30,8 @@ use Rattle.layout.specs.Layout.{trays, checks, layers, Admissible}
 use Rattle.codeword.specs.Codeword.{shapeOf, symbolAt, pointAt}
 use Rattle.codeword.proofs.Usable.{usable}
 use Rattle.syndrome.specs.Inner.{entryOf, Listed, survivorAt, Room, TrayPoints, Terms, Sums}
-use Rattle.restore.specs.Restored.{restoredAt, LayerFits, Says, Erasing}
-use Rattle.restore.specs.Inner.{erasedAt, FoundBlock, FoundTerms, BlockFits}
+use Rattle.restore.specs.Inner.{restoredAt, LayerFits, Says, Erasing, erasedAt, FoundTerms, BlockFits}
+use Rattle.solving.specs.Inner.{FoundBlock}
 use Rattle.restore.proofs.Solve.{sums-check, found-erased}
 
 pub term-tray : (l : Layout) (es : List ℕ) (k : ℕ) → Listed l es → k < length es → getD es k 0 < trays l

@@ -1,5 +1,4 @@
 pub mod Says
-pub mod Runs
 pub mod Solve
 pub mod Put
 pub mod Fits

@@ -23,8 +23,8 @@ use Rattle.layout.specs.Layout.{trays, checks, layers}
 use Rattle.blocks.specs.Inner.{Block}
 use Rattle.codeword.specs.Codeword.{symbolAt, pointAt}
 use Rattle.syndrome.specs.Inner.{entryOf, Listed, Sums}
-use Rattle.restore.specs.Restored.{restoredAt, Erasing, RestoredTo}
-use Rattle.restore.specs.Inner.{erasedAt, FoundBlock, Cells, PutBlock, BlockRestored, Workspace}
+use Rattle.restore.specs.Inner.{restoredAt, Erasing, RestoredTo, erasedAt, Cells, PutBlock, BlockRestored}
+use Rattle.solving.specs.Inner.{FoundBlock, Workspace}
 use Rattle.restore.proofs.Solve.{found-erased}
 
 -- ---- a row of what was found

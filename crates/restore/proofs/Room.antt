@@ -14,8 +14,8 @@ use Rattle.layout.specs.Layout.{checks, digits, trayLimit, layerLimit}
 use Rattle.blocks.specs.Inner.{blockLimit, roomLimit, Block}
 use Rattle.syndrome.specs.Inner.{Listed, Room}
 use Rattle.blocks.proofs.Room.{roomOf, rowOf, room-long, row-long}
-use Rattle.restore.specs.Restored.{Erasing}
-use Rattle.restore.specs.Inner.{Workspace}
+use Rattle.restore.specs.Inner.{Erasing}
+use Rattle.solving.specs.Inner.{Workspace}
 
 pub space-next : (l : Layout) (w : ℕ) (sums found points coefs row sums′ found′ points′ coefs′ row′ : List ℕ) → Workspace l w sums found points coefs row →
     length sums′ ≡ length sums → length found′ ≡ length found → length points′ ≡ length points → length coefs′ ≡ length coefs → length row′ ≡ length row →

@@ -1,39 +1,49 @@
--- What the functions of this crate are told and give, over any field. Nothing here has to be believed.
+-- What the functions of this crate are told and give, over any field: the symbols that the checks determine, which recovering and storing rest on. Nothing here has to be believed.
 -- Assumes nothing.
 use mathlib.Core.Path.{_≡_}
+use mathlib.Core.Bool.{Bool, true, false}
 use mathlib.Core.List.{List}
 use Prim.Native.Nat.{ℕ, _+_, _*_, _<_, _≤_}
 use lib.ListN.{length, getD}
-use Rattle.algebra.specs.Field.{Ops}
-use Rattle.algebra.specs.Lagrange.{check, solve}
-use Rattle.algebra.specs.Erasure.{Places, zeros, erased}
 use Rattle.algebra.specs.Coding.{Coding}
 use Rattle.algebra.specs.Shape.{Field}
-use Rattle.kernel.specs.Inner.{cell}
+use Rattle.algebra.specs.Lagrange.{check}
+use Rattle.algebra.specs.Repair.{restored}
 use Rattle.layout.specs.declared.Layout.{Layout}
-use Rattle.layout.specs.Layout.{trays, checks, layers}
-use Rattle.codeword.specs.Codeword.{symbolAt, pointAt}
-use Rattle.blocks.specs.Inner.{roomLimit, Block}
+use Rattle.layout.specs.Layout.{trays, checks, layers, Cabinet}
+use Rattle.codeword.specs.Codeword.{shapeOf, symbolAt, pointAt}
 use Rattle.syndrome.specs.Inner.{entryOf, Listed}
-use Rattle.restore.specs.Restored.{restoredAt, LayerFits}
+use Rattle.algebra.specs.Field.{Ops}
+use Rattle.algebra.specs.Erasure.{zeros, erased}
+use Rattle.kernel.specs.Inner.{cell}
 
--- room for the points of the trays listed, v of each
-pub record Columns (l : Layout) (w first : ℕ) (es : List ℕ) (v run : ℕ) (points row : List ℕ) : Type 0 where
-  pub block : Block l w first
+-- the symbols of c with those of the trays listed as the checks determine them
+abbrev pub restoredAt : {A : Type 0} → Field A → Layout → List ℕ → List ℕ → ℕ → ℕ → A
+restoredAt f l es c = restored (shapeOf f l) (entryOf es) (length es) (symbolAt f l c)
+
+-- layer j of these meets all checks
+abbrev pub LayerFits : {A : Type 0} → Field A → Layout → List ℕ → List ℕ → ℕ → Type 0
+LayerFits f l es c j = (t : ℕ) → t < checks l → check (f .ops) (pointAt f l j) (trays l) (λ x. restoredAt f l es c x j) t ≡ f .ops .zero
+
+-- what a test answers: true where it holds, false where it does not
+abbrev pub Says : Bool → Type 0 → Type 0
+Says true P = P
+Says false P = ¬ P
+
+-- a cabinet's layout, its number of layers, a list of trays and a buffer of the right length
+pub record Erasing (l : Layout) (total : ℕ) (es c : List ℕ) : Type 0 where
+  pub adm : Cabinet l
+  pub total-is : total ≡ layers l
+  pub long : length c ≡ trays l * layers l
   pub listed : Listed l es
-  pub width : v * run ≤ w
-  pub run-low : 0 < run
-  pub points-long : length es * v ≤ length points
-  pub row-long : w ≤ length row
 
--- room for the checks of w layers, and for as many rows more
-pub record Workspace (l : Layout) (w : ℕ) (sums found points coefs row : List ℕ) : Type 0 where
-  pub few : checks l * w ≤ roomLimit
-  pub sums-long : checks l * w ≤ length sums
-  pub found-long : checks l * w ≤ length found
-  pub points-long : checks l * w ≤ length points
-  pub coefs-long : checks l * w ≤ length coefs
-  pub row-long : w ≤ length row
+-- the layers below i of the trays listed restored, and everything else as it was
+pub record RestoredTo {A : Type 0} (f : Field A) (l : Layout) (es c : List ℕ) (i : ℕ) (d : List ℕ) : Type 0 where
+  pub long : length d ≡ length c
+  pub done : (x j : ℕ) → x < trays l → j < i → symbolAt f l d x j ≡ restoredAt f l es c x j
+  pub small : (k j : ℕ) → k < length es → j < i → getD d (getD es k 0 * layers l + j) 0 < f .coding .size
+  pub kept : (x j : ℕ) → j < layers l → ((k : ℕ) → k < length es → ¬ (x ≡ getD es k 0)) → getD d (x * layers l + j) 0 ≡ getD c (x * layers l + j) 0
+  pub rest : (x j : ℕ) → j < layers l → i ≤ j → getD d (x * layers l + j) 0 ≡ getD c (x * layers l + j) 0
 
 -- the layers of a block of the trays listed lie in the buffer
 pub record Cells (total w first : ℕ) (es c found : List ℕ) : Type 0 where
@@ -57,16 +67,6 @@ module _ {A : Type 0} (f : Field A) where
   -- the symbol of entry k of the list in layer j
   unfoldable pub erasedAt : Layout → List ℕ → List ℕ → ℕ → ℕ → A
   erasedAt l es c j = erased ops (pointAt f l j) (trays l) (entryOf es) (length es) (zeros ops) (λ y. symbolAt f l c y j)
-
-  -- the points of the first n trays listed, one for each run
-  pub record ListedPoints (l : Layout) (first : ℕ) (es : List ℕ) (v run n : ℕ) (points : List ℕ) : Type 0 where
-    pub at : (k c : ℕ) → k < n → c < v → cell f v points k c ≡ pointAt f l (first + c * run) (getD es k 0)
-
-  -- the symbols of the trays listed that make up for the sums
-  pub record FoundBlock (l : Layout) (w first : ℕ) (es sums found : List ℕ) : Type 0 where
-    pub at : (k j : ℕ) → k < length es → j < w →
-        cell f w found k j ≡ solve ops (λ i. pointAt f l (first + j) (getD es i 0)) (length es) (λ t. ops .neg (cell f w sums t j)) k
-    pub small : (k j : ℕ) → k < length es → j < w → getD found (k * w + j) 0 < size
 
   -- a block restored, the other layers and trays as they were
   pub record BlockRestored (l : Layout) (w first : ℕ) (es c d : List ℕ) : Type 0 where

@@ -1,6 +1,6 @@
 // Erased trays worked out from the others, whole blocks of layers at a time, by the products of differences: the symbols that the checks determine, and
 // whether these meet the checks that were not needed to solve. Never looks at the old symbols of the trays listed. What is promised here is what recovering
-// and storing rest on (specs/Restored.antt).
+// and storing rest on (specs/Inner.antt).
 use layout::Layout;
 use symbol::plain::SIZE;
 ghost use mathlib.Core.Path.{_≡_};
@@ -12,67 +12,8 @@ ghost use Rattle.kernel.specs.Inner.{Inverses};
 ghost use Rattle.layout.specs.Layout.{digits, layers, Admissible};
 ghost use Rattle.blocks.specs.Inner.{Block};
 ghost use Rattle.syndrome.specs.Inner.{Listed, Room};
-ghost use Rattle.restore.specs.Restored.{LayerFits, Says, Erasing, RestoredTo};
-ghost use Rattle.restore.specs.Inner.{Columns, ListedPoints, Workspace, FoundBlock, Cells, PutBlock, BlockRestored, FoundTerms, BlockFits};
-
-// The points of the trays listed, one for each run of layers.
-fn listed_points(
-    points: &mut [u8],
-    l: Layout,
-    w: usize,
-    first: usize,
-    es: &[u32],
-    v: usize,
-    run: usize,
-    row: &mut [u8],
-)
-    requires { ⌜ Columns l w first (now es) v run (now points) (now row) ⌝ }
-    ensures { λ _. ⌜ ListedPoints gf256 l first (now (es .entry)) v run (length (now (es .entry))) (now (points .exit)) ⌝ }
-{
-    let mut k = 0usize;
-    while k < es.len() {
-        syndrome::tray_points(row, l, w, first, es[k]);
-        kernel::sample(points, k * v, v, row, run);
-        k += 1;
-    }
-}
-
-// The symbols of the trays listed that make up for the sums of a block.
-fn solve_block(
-    found: &mut [u8],
-    l: Layout,
-    e: u32,
-    w: usize,
-    first: usize,
-    es: &[u32],
-    sums: &[u8],
-    points: &mut [u8],
-    coefs: &mut [u8],
-    row: &mut [u8],
-    table: &[u8],
-)
-    requires { ⌜ Block l w first × (e ≤ l .racks) × (w ≡ digits l ^ e) × Listed l (now es) × Workspace l w (now sums) (now found) (now points) (now coefs) (now row) × Inverses gf256 (now table) ⌝ }
-    ensures { λ _. ⌜ FoundBlock gf256 l w first (now (es .entry)) (now (sums .entry)) (now (found .exit)) ⌝ }
-{
-    let p = blocks::cycle_of(l, e, es);
-    let run = p.run;
-    let v = p.columns;
-    let turns = p.turns;
-    listed_points(points, l, w, first, es, v, run, row);
-    columns::solve(
-        found,
-        w,
-        v,
-        run,
-        turns,
-        es.len(),
-        sums,
-        points,
-        coefs,
-        row,
-        table,
-    );
-}
+ghost use Rattle.restore.specs.Inner.{LayerFits, Says, Erasing, RestoredTo, Cells, PutBlock, BlockRestored, FoundTerms, BlockFits};
+ghost use Rattle.solving.specs.Inner.{Workspace};
 
 // Writes them.
 fn put_block(c: &mut [u8], total: usize, w: usize, first: usize, es: &[u32], found: &[u8])
@@ -108,7 +49,7 @@ fn restore_block(
     ensures { λ _. ⌜ BlockRestored gf256 l w first (now (es .entry)) (now (c .entry)) (now (c .exit)) ⌝ }
 {
     rack_checks::sum_kept(sums, l, w, first, es.len(), c, es, cur, row);
-    solve_block(found, l, e, w, first, es, sums, points, coefs, row, table);
+    rack_solving::solve_block(found, l, e, w, first, es, sums, points, coefs, row, table);
     put_block(c, total, w, first, es, found);
 }
 
@@ -232,7 +173,7 @@ fn block_fits(
 {
     let r = layout::check_count(l) as usize;
     rack_checks::sum_kept(sums, l, w, first, r, c, es, cur, row);
-    solve_block(found, l, e, w, first, es, sums, points, coefs, row, table);
+    rack_solving::solve_block(found, l, e, w, first, es, sums, points, coefs, row, table);
     found_terms(sums, l, w, first, r, es, found, row, cur);
     kernel::all_zero(sums, r * w)
 }

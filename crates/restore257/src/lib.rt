@@ -1,7 +1,7 @@
 // Made by tools/twin.py from crates/restore/src/lib.rt.
 // Erased trays worked out from the others, whole blocks of layers at a time, by the products of differences: the symbols that the checks determine, and
 // whether these meet the checks that were not needed to solve. Never looks at the old symbols of the trays listed. What is promised here is what recovering
-// and storing rest on (specs/Restored.antt).
+// and storing rest on (specs/Inner.antt).
 use layout::Layout;
 use symbol257::plain::SIZE;
 ghost use mathlib.Core.Path.{_≡_};
@@ -13,67 +13,8 @@ ghost use Rattle.kernel.specs.Inner.{Inverses};
 ghost use Rattle.layout.specs.Layout.{digits, layers, Admissible};
 ghost use Rattle.blocks.specs.Inner.{Block};
 ghost use Rattle.syndrome.specs.Inner.{Listed, Room};
-ghost use Rattle.restore.specs.Restored.{LayerFits, Says, Erasing, RestoredTo};
-ghost use Rattle.restore.specs.Inner.{Columns, ListedPoints, Workspace, FoundBlock, Cells, PutBlock, BlockRestored, FoundTerms, BlockFits};
-
-// The points of the trays listed, one for each run of layers.
-fn listed_points(
-    points: &mut [u16],
-    l: Layout,
-    w: usize,
-    first: usize,
-    es: &[u32],
-    v: usize,
-    run: usize,
-    row: &mut [u16],
-)
-    requires { ⌜ Columns l w first (now es) v run (now points) (now row) ⌝ }
-    ensures { λ _. ⌜ ListedPoints gf257 l first (now (es .entry)) v run (length (now (es .entry))) (now (points .exit)) ⌝ }
-{
-    let mut k = 0usize;
-    while k < es.len() {
-        syndrome257::tray_points(row, l, w, first, es[k]);
-        kernel257::sample(points, k * v, v, row, run);
-        k += 1;
-    }
-}
-
-// The symbols of the trays listed that make up for the sums of a block.
-fn solve_block(
-    found: &mut [u16],
-    l: Layout,
-    e: u32,
-    w: usize,
-    first: usize,
-    es: &[u32],
-    sums: &[u16],
-    points: &mut [u16],
-    coefs: &mut [u16],
-    row: &mut [u16],
-    table: &[u16],
-)
-    requires { ⌜ Block l w first × (e ≤ l .racks) × (w ≡ digits l ^ e) × Listed l (now es) × Workspace l w (now sums) (now found) (now points) (now coefs) (now row) × Inverses gf257 (now table) ⌝ }
-    ensures { λ _. ⌜ FoundBlock gf257 l w first (now (es .entry)) (now (sums .entry)) (now (found .exit)) ⌝ }
-{
-    let p = blocks::cycle_of(l, e, es);
-    let run = p.run;
-    let v = p.columns;
-    let turns = p.turns;
-    listed_points(points, l, w, first, es, v, run, row);
-    columns257::solve(
-        found,
-        w,
-        v,
-        run,
-        turns,
-        es.len(),
-        sums,
-        points,
-        coefs,
-        row,
-        table,
-    );
-}
+ghost use Rattle.restore.specs.Inner.{LayerFits, Says, Erasing, RestoredTo, Cells, PutBlock, BlockRestored, FoundTerms, BlockFits};
+ghost use Rattle.solving.specs.Inner.{Workspace};
 
 // Writes them.
 fn put_block(c: &mut [u16], total: usize, w: usize, first: usize, es: &[u32], found: &[u16])
@@ -109,7 +50,7 @@ fn restore_block(
     ensures { λ _. ⌜ BlockRestored gf257 l w first (now (es .entry)) (now (c .entry)) (now (c .exit)) ⌝ }
 {
     syndrome257::sum_kept(sums, l, w, first, es.len(), c, es, cur, row);
-    solve_block(found, l, e, w, first, es, sums, points, coefs, row, table);
+    solving257::solve_block(found, l, e, w, first, es, sums, points, coefs, row, table);
     put_block(c, total, w, first, es, found);
 }
 
@@ -233,7 +174,7 @@ fn block_fits(
 {
     let r = layout::check_count(l) as usize;
     syndrome257::sum_kept(sums, l, w, first, r, c, es, cur, row);
-    solve_block(found, l, e, w, first, es, sums, points, coefs, row, table);
+    solving257::solve_block(found, l, e, w, first, es, sums, points, coefs, row, table);
     found_terms(sums, l, w, first, r, es, found, row, cur);
     kernel257::all_zero(sums, r * w)
 }

@@ -148,6 +148,10 @@ module _ {A : Type 0} {f : Field A} (W : Working f) (l : Layout) where
     unfolding grounds sharesRefusal
     rack-grounds = refl
 
+    pub rack-ground-1 : admissible (f .order) l ≡ false → 1 ≡ sharesRefusal f l e host helper rack room
+    unfolding sharesRefusal
+    rack-ground-1 h = simp h
+
     pub rack-shareable : sharesRefusal f l e host helper rack room ≡ 0 →
         Shareable (f .order) l e (l .size) host helper (length rack) room (symbolsFrom f rack 0 (length rack))
     rack-shareable h = shareable (f .order) l e (l .size) host helper (length rack) room _ (rack-grounds ∙ h)

@@ -23,7 +23,7 @@ use Rattle.layout.proofs.Facts.{bounds, power-in}
 use Rattle.layout.proofs.Numbers.{groups-are}
 use Rattle.codeword.specs.Codeword.{shapeOf}
 use Rattle.codeword.proofs.Usable.{usable}
-use Rattle.share.specs.Inner.{RunsOf, InTrays, cut, layered, TraysAdded, sumAt, Summing, Summed}
+use Rattle.share.specs.Inner.{CountsOf, RunsOf, InTrays, cut, layered, TraysAdded, sumAt, Summing, Summed}
 
 pub groups-pos : (l : Layout) → Cabinet l → 0 < groups l
 groups-pos l a = rw (groups-are l a) (power-pos (digits l) (l .racks - 1) (bounds l a .digits-low))
@@ -33,38 +33,30 @@ pub cut-at : (l : Layout) (symbols : List ℕ) (from j : ℕ) → j < layers l �
 unfolding cut
 cut-at l symbols from j h = getD-take (layers l) (drop from symbols) j 0 h ∙ getD-drop from symbols j 0
 
-pub runs-are : (l : Layout) (h s run total : ℕ) → Cabinet l → h < l .racks → s ≡ digits l → run ≡ min (s ^ h) (layerLimit + 1) → total ≡ layers l → RunsOf l h s run (total / (s * run))
-runs-are l h s run total a host es er et = record { digits-are = es; run-is = run-is; count-is = ap₂ _/_ (et ∙ whole) (ap₂ _*_ es run-is) ∙ mul-div-cancel (digits l ^ (l .racks - 1 - h)) some }
+-- the length of a run
+run-of : (l : Layout) (h s run : ℕ) → Cabinet l → h < l .racks → s ≡ digits l → run ≡ min (s ^ h) (layerLimit + 1) → run ≡ digits l ^ h
+run-of l h s run a host es er = er ∙ ap (λ b. min (b ^ h) (layerLimit + 1)) es ∙ omega (arith, power-in l a h (le-of-lt host))
+
+-- it is not zero
+pub run-some : (l : Layout) (h s run : ℕ) → Cabinet l → h < l .racks → s ≡ digits l → run ≡ min (s ^ h) (layerLimit + 1) → 0 < run
+run-some l h s run a host es er = rw (run-of l h s run a host es er) (power-pos (digits l) h (bounds l a .digits-low))
+
+pub runs-are : (l : Layout) (h s total many run : ℕ) → Cabinet l → h < l .racks → CountsOf l s total many → run ≡ min (s ^ h) (layerLimit + 1) → RunsOf l h s run (many / run) total
+runs-are l h s total many run a host n er = record {
+  digits-are = n .digits-are;
+  run-is = run-is;
+  count-is = ap₂ _/_ (n .groups-are ∙ groups-are l a ∙ whole) run-is ∙ mul-div-cancel (digits l ^ (l .racks - 1 - h)) (power-pos (digits l) h (bounds l a .digits-low));
+  layers-are = n .layers-are;
+}
   where
     run-is : run ≡ digits l ^ h
-    run-is = er ∙ ap (λ b. min (b ^ h) (layerLimit + 1)) es ∙ omega (arith, power-in l a h (le-of-lt host))
+    run-is = run-of l h s run a host (n .digits-are) er
 
-    some : 0 < digits l * digits l ^ h
-    some = mul-pos (bounds l a .digits-low) (power-pos (digits l) h (bounds l a .digits-low))
+    -- L/s is a power of s, of which the run is a factor
+    whole : digits l ^ (l .racks - 1) ≡ digits l ^ (l .racks - 1 - h) * digits l ^ h
+    whole = (let e : l .racks - 1 ≡ l .racks - 1 - h + h = omega arith in ap (λ n. digits l ^ n) e) ∙ pow-add (digits l) (l .racks - 1 - h) h
 
-    -- L is a power of s, of which s and the run are factors
-    whole : layers l ≡ digits l ^ (l .racks - 1 - h) * (digits l * digits l ^ h)
-    whole =
-        (let e : l .racks ≡ l .racks - 1 - h + suc h = omega arith in ap (λ n. digits l ^ n) e)
-        ∙ pow-add (digits l) (l .racks - 1 - h) (suc h)
-        ∙ ap (λ n. digits l ^ (l .racks - 1 - h) * n) (pow-suc (digits l) h ∙ mul-comm (digits l ^ h) (digits l))
-
--- what is divided by is not zero, and a number
-pub block-some : (l : Layout) (h s run : ℕ) → Cabinet l → s ≡ digits l → run ≡ min (s ^ h) (layerLimit + 1) → 0 < s * run
-block-some l h s run a es er = mul-pos (omega (arith, bounds l a .digits-low)) (omega (arith, power-pos s h (omega (arith, bounds l a .digits-low))))
-
-pub block-low : (l : Layout) (h s run : ℕ) → Cabinet l → s ≡ digits l → run ≡ min (s ^ h) (layerLimit + 1) → s * run ≤ 60 * 4097
-block-low l h s run a es er =
-    let b = bounds l a in
-    let x : s ≤ 60 = omega arith in
-    let y : run ≤ 4097 = omega arith in
-    mul-le-mul x y
-
--- a rack's trays are as long as the layout has layers
-pub rack-layers : (l : Layout) (rack : List ℕ) → Cabinet l → length rack ≡ l .size * layers l → length rack / l .size ≡ layers l
-rack-layers l rack a e = ap (λ n. n / l .size) (e ∙ mul-comm (l .size) (layers l)) ∙ mul-div-cancel (layers l) (bounds l a .size-low)
-
-module _ (l : Layout) (h s run count : ℕ) (a : Cabinet l) (host : h < l .racks) (r : RunsOf l h s run count) where
+module _ (l : Layout) (h s run count far : ℕ) (a : Cabinet l) (host : h < l .racks) (r : RunsOf l h s run count far) where
   run-pos : 0 < run
   run-pos = rw (r .run-is) (power-pos (digits l) h (bounds l a .digits-low))
 
@@ -83,31 +75,27 @@ module _ (l : Layout) (h s run count : ℕ) (a : Cabinet l) (host : h < l .racks
       ∙ ap₂ _*_ (sym (groups-are l a) ∙ sym count-whole) (sym (r .digits-are))
       ∙ mul-assoc count run s ∙ ap (λ n. count * n) (mul-comm run s) ∙ sym (mul-assoc count s run)
 
-  pub runs-of : {A : Type 0} (f : Field A) (far : ℕ) (symbols : List ℕ) (at m : ℕ) (sums : List ℕ) → far ≡ count * s * run → Summing f l h symbols at m sums →
-      InTrays f s run count symbols at far m sums
-  runs-of f far symbols at m sums e t = record {
+  far-is : far ≡ count * s * run
+  far-is = r .layers-are ∙ layers-whole
+
+  pub runs-of : {A : Type 0} (f : Field A) (symbols : List ℕ) (at m : ℕ) (sums : List ℕ) → Summing f l h symbols at m sums → InTrays f s run count symbols at far m sums
+  runs-of f symbols at m sums t = record {
     some = run-pos;
     some-runs = rw (r .count-is) (power-pos (digits l) (l .racks - 1 - h) (bounds l a .digits-low));
     some-digits = omega (arith, r .digits-are, bounds l a .digits-low);
     some-trays = t .some-trays;
-    whole = e;
-    long = rw (e ∙ sym layers-whole) (t .long);
+    whole = far-is;
+    long = rw (r .layers-are) (t .long);
     room = rw count-whole (t .room);
     given = t .given;
     held = λ n k. t .held n (rw count-whole at k);
     few = let b = bounds l a in let d : s ≤ 60 = omega (arith, r .digits-are, b .digits-high, b .racks-high) in omega (arith, mul-le-mul (t .at-once) d);
   }
 
-  -- the length of a tray is a number
-  pub far-in : {A : Type 0} (f : Field A) (symbols : List ℕ) (at m : ℕ) (sums : List ℕ) → Summing f l h symbols at m sums → (count * s ≤ layerLimit) × (count * s * run ≤ layerLimit)
-  far-in f symbols at m sums t =
-      let w : count * s * run ≤ layerLimit = rw (sym layers-whole) (a .layers-high) in
-      (omega (arith, w, le-mul-of-pos-right (count * s) run-pos), w)
-
   -- number i of run q is group q·s^h + i, and its layers are those added
-  pub summed : {A : Type 0} {f : Field A} (W : Working f) → Admissible (f .order) l → (far : ℕ) (symbols : List ℕ) (at m : ℕ) (was is : List ℕ) → far ≡ count * s * run → 0 < m →
+  pub summed : {A : Type 0} {f : Field A} (W : Working f) → Admissible (f .order) l → (symbols : List ℕ) (at m : ℕ) (was is : List ℕ) → 0 < m →
       TraysAdded f s run count symbols at far m was is → Summed f l h symbols at m was is
-  summed {A} {f} W adm far symbols at m was is e-far pos d = record { same = d .same; done = done; small = low; rest = λ p k. d .rest p (rw count-whole k) }
+  summed {A} {f} W adm symbols at m was is pos d = record { same = d .same; done = done; small = low; rest = λ p k. d .rest p (rw count-whole k) }
     where
       low : (p : ℕ) → p < groups l → getD is p 0 < f .coding .size
       low p k =
@@ -120,7 +108,7 @@ module _ (l : Layout) (h s run count : ℕ) (a : Cabinet l) (host : h < l .racks
           subst (λ n. f .coding .elem (getD is n 0) ≡ f .ops .add (f .coding .elem (getD was n 0))
           (sum (f .ops) m (λ g. sum (f .ops) s (layered f s run symbols (at + g * far) (p / run) (p % run))))) (div-add-mod' p run)
           (d .done (p / run) (p % run) within (mod-lt p run-pos))
-          ∙ ap (f .ops .add (f .coding .elem (getD was p 0))) (sum-congr (f .ops) m _ _ (λ g n. tray (at + g * far) ∙ ap (λ z. sumAt f l h (cut l symbols (at + g * z)) p) (e-far ∙ sym layers-whole)))
+          ∙ ap (f .ops .add (f .coding .elem (getD was p 0))) (sum-congr (f .ops) m _ _ (λ g n. tray (at + g * far) ∙ ap (λ z. sumAt f l h (cut l symbols (at + g * z)) p) (r .layers-are)))
         where
           within : p / run < count
           within = div-lt-iff-lt-mul run-pos .1 (rw count-whole k)

@@ -12,7 +12,6 @@ use Rattle.algebra.specs.Sum.{sum}
 use Rattle.algebra.specs.Cabinet.{groupSum}
 use Rattle.algebra.specs.Coding.{Coding, InRange}
 use Rattle.algebra.specs.Shape.{Field}
-use Rattle.algebra.specs.Plain.{plus}
 use Rattle.layout.specs.declared.Layout.{Layout}
 use Rattle.layout.specs.Layout.{digits, layers, groups, admissible, Cabinet, Admissible}
 use Rattle.codeword.specs.Codeword.{shapeOf}
@@ -23,19 +22,18 @@ unfoldable pub grounds : ℕ → Layout → ℕ → ℕ → ℕ → ℕ → ℕ 
 grounds N l e lent host helper given room symbols =
     manyGrounds (admissible N l) l e (eqb given (lent * layers l) && eqb room (e * groups l)) (ltb host (l .racks) && ltb helper (l .racks)) symbols (not (eqb host helper))
 
+-- the numbers of a layout
+pub record CountsOf (l : Layout) (s total many : ℕ) : Type 0 where
+  pub digits-are : s ≡ digits l
+  pub layers-are : total ≡ layers l
+  pub groups-are : many ≡ groups l
+
 -- the runs of a layout for host h
-pub record RunsOf (l : Layout) (h s run count : ℕ) : Type 0 where
+pub record RunsOf (l : Layout) (h s run count far : ℕ) : Type 0 where
   pub digits-are : s ≡ digits l
   pub run-is : run ≡ digits l ^ h
   pub count-is : count ≡ digits l ^ (l .racks - 1 - h)
-
--- `count` runs of the sums, and for each of them s runs of the tray at the place at, one for each digit a
-pub record InTray (s run count a : ℕ) (symbols : List ℕ) (at : ℕ) (sums : List ℕ) : Type 0 where
-  pub some : 0 < run
-  pub some-runs : 0 < count
-  pub digit-in : a < s
-  pub long : at + count * s * run ≤ length symbols
-  pub room : count * run ≤ length sums
+  pub layers-are : far ≡ layers l
 
 -- what `add_weighted` is told
 pub record Weighing (l : Layout) (e : ℕ) (sums shares : List ℕ) : Type 0 where
@@ -53,7 +51,7 @@ module _ {A : Type 0} (f : Field A) where
   open Field f using (ops)
   open Coding (f .coding) using (elem, val, size)
 
-  -- the same for m trays, one after another, all of symbols
+  -- `count` runs of the sums, and for each of them s runs of each of m trays, one tray after another from the place at on, all of symbols
   pub record InTrays (s run count : ℕ) (symbols : List ℕ) (at far m : ℕ) (sums : List ℕ) : Type 0 where
     pub some : 0 < run
     pub some-runs : 0 < count
@@ -101,36 +99,25 @@ module _ {A : Type 0} (f : Field A) where
     pub few : e + l .dimension % l .size ≤ l .size
     pub given : InRange (f .coding) rack
 
-  -- to number i of run q of the sums the tray's with digit a is added
-  pub record DigitAdded (s run count a : ℕ) (symbols : List ℕ) (at : ℕ) (was is : List ℕ) : Type 0 where
-    pub same : length is ≡ length was
-    pub done : (q i : ℕ) → q < count → i < run → getD is (q * run + i) 0 ≡ plus f (getD was (q * run + i) 0) (getD symbols (at + ((q * s + a) * run + i)) 0)
-    pub rest : (n : ℕ) → count * run ≤ n → getD is n 0 ≡ getD was n 0
-
-  -- the same where that was done to the first n numbers of each run
-  pub record AcrossAdded (s run count a n : ℕ) (symbols : List ℕ) (at : ℕ) (was is : List ℕ) : Type 0 where
-    pub same : length is ≡ length was
-    pub done : (q i : ℕ) → q < count → i < n → i < run → getD is (q * run + i) 0 ≡ plus f (getD was (q * run + i) 0) (getD symbols (at + ((q * s + a) * run + i)) 0)
-    pub later : (q i : ℕ) → n ≤ i → i < run → getD is (q * run + i) 0 ≡ getD was (q * run + i) 0
-    pub rest : (k : ℕ) → count * run ≤ k → getD is k 0 ≡ getD was k 0
-
   -- number i of run q of the tray at a place, with digit b
   unfoldable pub layered : ℕ → ℕ → List ℕ → ℕ → ℕ → ℕ → ℕ → A
   layered s run symbols at q i b = elem (getD symbols (at + ((q * s + b) * run + i)) 0)
 
-  -- those with the digits below n are added
-  pub record DigitsAdded (s run count n : ℕ) (symbols : List ℕ) (at : ℕ) (was is : List ℕ) : Type 0 where
-    pub same : length is ≡ length was
-    pub done : (q i : ℕ) → q < count → i < run → elem (getD is (q * run + i) 0) ≡ ops .add (elem (getD was (q * run + i) 0)) (sum ops n (layered s run symbols at q i))
-    pub small : 0 < n → (q i : ℕ) → q < count → i < run → getD is (q * run + i) 0 < size
-    pub rest : (k : ℕ) → count * run ≤ k → getD is k 0 ≡ getD was k 0
-
-  -- those of m trays with all digits
+  -- to number i of run q of the sums those of m trays with all digits are added
   pub record TraysAdded (s run count : ℕ) (symbols : List ℕ) (at far m : ℕ) (was is : List ℕ) : Type 0 where
     pub same : length is ≡ length was
     pub done : (q i : ℕ) → q < count → i < run →
         elem (getD is (q * run + i) 0) ≡ ops .add (elem (getD was (q * run + i) 0)) (sum ops m (λ g. sum ops s (layered s run symbols (at + g * far) q i)))
     pub small : 0 < m → (q i : ℕ) → q < count → i < run → getD is (q * run + i) 0 < size
+    pub rest : (k : ℕ) → count * run ≤ k → getD is k 0 ≡ getD was k 0
+
+  -- the same where that was done to the first n numbers of each run
+  pub record AcrossAdded (s run count n : ℕ) (symbols : List ℕ) (at far m : ℕ) (was is : List ℕ) : Type 0 where
+    pub same : length is ≡ length was
+    pub done : (q i : ℕ) → q < count → i < n → i < run →
+        elem (getD is (q * run + i) 0) ≡ ops .add (elem (getD was (q * run + i) 0)) (sum ops m (λ g. sum ops s (layered s run symbols (at + g * far) q i)))
+    pub small : (q i : ℕ) → q < count → i < n → i < run → getD is (q * run + i) 0 < size
+    pub later : (q i : ℕ) → n ≤ i → i < run → getD is (q * run + i) 0 ≡ getD was (q * run + i) 0
     pub rest : (k : ℕ) → count * run ≤ k → getD is k 0 ≡ getD was k 0
 
   -- the sum of a tray's symbols over group p

@@ -10,44 +10,71 @@ use symbol::plain::ORDER;
 ghost use mathlib.Core.Path.{_≡_};
 ghost use mathlib.Core.Bool.{true, cond, _&&_};
 ghost use mathlib.Core.List.{List};
-ghost use Prim.Native.Nat.{ℕ, _+_, _<_, _≤_};
+ghost use Prim.Native.Nat.{ℕ, _+_, _%_, _<_, _≤_};
 ghost use lib.Dec.{eqb};
 ghost use lib.ListN.{length, getD};
 ghost use Rattle.symbol.specs.Elem.{gf256};
-ghost use Rattle.layout.specs.Layout.{trays, layers, groups, Cabinet};
+ghost use Rattle.layout.specs.Layout.{trays, groups, admissible, Cabinet};
 ghost use Rattle.range.specs.Range.{symbolsFrom};
 ghost use Rattle.share.specs.Many.{sharesOf, sharesRefusal, sharesBuffer, fedRefusal, fedBuffer, manyRefusal, manyBuffer, addManyRefusal, addManyBuffer};
-ghost use Rattle.share.specs.Inner.{grounds, RunsOf, InTray, InTrays, DigitAdded, DigitsAdded, TraysAdded};
+ghost use Rattle.kernel.specs.Inner.{Parts};
+ghost use Rattle.share.specs.Inner.{grounds, CountsOf, RunsOf, InTrays, TraysAdded};
 ghost use Rattle.share.specs.Inner.{cut, sumAt, Summing, Summed, Weighing, Added, Feeding, Rested, fedTrays, Gathering};
 
-// Runs shorter than this are added across.
+// Runs shorter than this are added across. Longer ones are added in blocks, of kernel::BLOCK symbols or of so many, where the run is a multiple of that.
 const SHORT: usize = 4;
 
 // The most trays that are fed at once.
 const AT_ONCE: u32 = 4;
 
-// How a tray's layers lie for a host rack: for each of so many runs of consecutive groups one run of layers for each digit of that rack, one after another.
+// The numbers of a layout that a call needs again and again, worked out once.
+struct Counts {
+    digits: u32,
+    layers: u32,
+    groups: u32,
+}
+
+fn counts_of(l: Layout) -> Counts
+    requires { ⌜ Cabinet l ⌝ }
+    ensures { λ n. ⌜ CountsOf l (n .digits) (n .layers) (n .groups) ⌝ }
+{
+    let s = layout::digit_count(l);
+    let total = layout::layer_count(l);
+    Counts {
+        digits: s,
+        layers: total,
+        groups: total / s,
+    }
+}
+
+// How a tray's layers lie for a host rack: for each of so many runs of consecutive groups one run of layers for each digit of that rack, one after another; and how
+// many layers there are.
 struct HostRuns {
     digits: usize,
     length: usize,
     count: usize,
+    layers: usize,
 }
 
-// The layers of s^h consecutive groups with the same digit are consecutive; there are `total` layers.
-fn runs_of(l: Layout, h: u32, total: usize) -> HostRuns
-    requires { ⌜ Cabinet l × (h < l .racks) × (total ≡ layers l) ⌝ }
-    ensures { λ r. ⌜ RunsOf l h (r .digits) (r .length) (r .count) ⌝ }
+// The layers of s^h consecutive groups with the same digit are consecutive.
+fn runs_of(l: Layout, n: Counts, h: u32) -> HostRuns
+    requires { ⌜ Cabinet l × (h < l .racks) × CountsOf l (n .digits) (n .layers) (n .groups) ⌝ }
+    ensures { λ r. ⌜ RunsOf l h (r .digits) (r .length) (r .count) (r .layers) ⌝ }
 {
-    let s = layout::digit_count(l);
+    let s = n.digits;
+    let total = n.layers;
+    let groups = n.groups;
     let length = capped_power(s, h);
     HostRuns {
         digits: s as usize,
         length: length as usize,
-        count: total / (s as usize * length as usize),
+        count: (groups / length) as usize,
+        layers: total as usize,
     }
 }
 
-// Adds the symbols of m trays, which lie one after another from the place `at` on: run after run of the sums, all digits and trays at once.
+// Adds the symbols of m trays, which lie one after another from the place `at` on: run after run of the sums, all digits and trays at once, in blocks of a width or,
+// with the width 0, whole runs.
 fn add_runs(
     s: usize,
     run: usize,
@@ -56,14 +83,15 @@ fn add_runs(
     at: usize,
     far: usize,
     m: usize,
+    width: usize,
     sums: &mut [u8],
 )
-    requires { ⌜ InTrays gf256 s run count (now symbols) at far m (now sums) ⌝ }
+    requires { ⌜ InTrays gf256 s run count (now symbols) at far m (now sums) × Parts run width ⌝ }
     ensures { λ _. ⌜ TraysAdded gf256 s run count (now (symbols .entry)) at far m (now (sums .entry)) (now (sums .exit)) ⌝ }
 {
     let mut q = 0usize;
     while q < count {
-        kernel::add_grid(
+        kernel::add_row(
             sums,
             q * run,
             run,
@@ -73,12 +101,45 @@ fn add_runs(
             s,
             far,
             m,
+            width,
         );
         q += 1;
     }
 }
 
-// The same for two digits, with the number of trays written out: for each the compiler makes a loop in which all their symbols are added at once.
+// The same for two digits and short blocks, with the number of trays written out: for each the compiler makes a loop in which all their symbols are added at once.
+fn add_two_short(
+    run: usize,
+    count: usize,
+    symbols: &[u8],
+    at: usize,
+    far: usize,
+    m: usize,
+    sums: &mut [u8],
+)
+    requires { ⌜ InTrays gf256 2 run count (now symbols) at far m (now sums) × (run % 4 ≡ 0) ⌝ }
+    ensures { λ _. ⌜ TraysAdded gf256 2 run count (now (symbols .entry)) at far m (now (sums .entry)) (now (sums .exit)) ⌝ }
+{
+    if m == 1 {
+        add_runs(2, run, count, symbols, at, far, 1, SHORT, sums);
+        return;
+    }
+    if m == 2 {
+        add_runs(2, run, count, symbols, at, far, 2, SHORT, sums);
+        return;
+    }
+    if m == 3 {
+        add_runs(2, run, count, symbols, at, far, 3, SHORT, sums);
+        return;
+    }
+    if m == 4 {
+        add_runs(2, run, count, symbols, at, far, 4, SHORT, sums);
+        return;
+    }
+    add_runs(2, run, count, symbols, at, far, m, SHORT, sums);
+}
+
+// The same for two digits.
 fn add_two(
     run: usize,
     count: usize,
@@ -88,29 +149,33 @@ fn add_two(
     m: usize,
     sums: &mut [u8],
 )
-    requires { ⌜ InTrays gf256 2 run count (now symbols) at far m (now sums) ⌝ }
+    requires { ⌜ InTrays gf256 2 run count (now symbols) at far m (now sums) × (run % 4 ≡ 0) ⌝ }
     ensures { λ _. ⌜ TraysAdded gf256 2 run count (now (symbols .entry)) at far m (now (sums .entry)) (now (sums .exit)) ⌝ }
 {
+    if run % kernel::BLOCK != 0 {
+        add_two_short(run, count, symbols, at, far, m, sums);
+        return;
+    }
     if m == 1 {
-        add_runs(2, run, count, symbols, at, far, 1, sums);
+        add_runs(2, run, count, symbols, at, far, 1, kernel::BLOCK, sums);
         return;
     }
     if m == 2 {
-        add_runs(2, run, count, symbols, at, far, 2, sums);
+        add_runs(2, run, count, symbols, at, far, 2, kernel::BLOCK, sums);
         return;
     }
     if m == 3 {
-        add_runs(2, run, count, symbols, at, far, 3, sums);
+        add_runs(2, run, count, symbols, at, far, 3, kernel::BLOCK, sums);
         return;
     }
     if m == 4 {
-        add_runs(2, run, count, symbols, at, far, 4, sums);
+        add_runs(2, run, count, symbols, at, far, 4, kernel::BLOCK, sums);
         return;
     }
-    add_runs(2, run, count, symbols, at, far, m, sums);
+    add_runs(2, run, count, symbols, at, far, m, kernel::BLOCK, sums);
 }
 
-// The same for three digits.
+// The same for three digits, where runs are no multiples of a block.
 fn add_three(
     run: usize,
     count: usize,
@@ -124,22 +189,22 @@ fn add_three(
     ensures { λ _. ⌜ TraysAdded gf256 3 run count (now (symbols .entry)) at far m (now (sums .entry)) (now (sums .exit)) ⌝ }
 {
     if m == 1 {
-        add_runs(3, run, count, symbols, at, far, 1, sums);
+        add_runs(3, run, count, symbols, at, far, 1, 0, sums);
         return;
     }
     if m == 2 {
-        add_runs(3, run, count, symbols, at, far, 2, sums);
+        add_runs(3, run, count, symbols, at, far, 2, 0, sums);
         return;
     }
     if m == 3 {
-        add_runs(3, run, count, symbols, at, far, 3, sums);
+        add_runs(3, run, count, symbols, at, far, 3, 0, sums);
         return;
     }
     if m == 4 {
-        add_runs(3, run, count, symbols, at, far, 4, sums);
+        add_runs(3, run, count, symbols, at, far, 4, 0, sums);
         return;
     }
-    add_runs(3, run, count, symbols, at, far, m, sums);
+    add_runs(3, run, count, symbols, at, far, m, 0, sums);
 }
 
 // The same for four digits.
@@ -152,26 +217,55 @@ fn add_four(
     m: usize,
     sums: &mut [u8],
 )
-    requires { ⌜ InTrays gf256 4 run count (now symbols) at far m (now sums) ⌝ }
+    requires { ⌜ InTrays gf256 4 run count (now symbols) at far m (now sums) × (run % 4 ≡ 0) ⌝ }
     ensures { λ _. ⌜ TraysAdded gf256 4 run count (now (symbols .entry)) at far m (now (sums .entry)) (now (sums .exit)) ⌝ }
 {
+    if run % kernel::BLOCK != 0 {
+        add_runs(4, run, count, symbols, at, far, m, SHORT, sums);
+        return;
+    }
     if m == 1 {
-        add_runs(4, run, count, symbols, at, far, 1, sums);
+        add_runs(4, run, count, symbols, at, far, 1, kernel::BLOCK, sums);
         return;
     }
     if m == 2 {
-        add_runs(4, run, count, symbols, at, far, 2, sums);
+        add_runs(4, run, count, symbols, at, far, 2, kernel::BLOCK, sums);
         return;
     }
     if m == 3 {
-        add_runs(4, run, count, symbols, at, far, 3, sums);
+        add_runs(4, run, count, symbols, at, far, 3, kernel::BLOCK, sums);
         return;
     }
     if m == 4 {
-        add_runs(4, run, count, symbols, at, far, 4, sums);
+        add_runs(4, run, count, symbols, at, far, 4, kernel::BLOCK, sums);
         return;
     }
-    add_runs(4, run, count, symbols, at, far, m, sums);
+    add_runs(4, run, count, symbols, at, far, m, kernel::BLOCK, sums);
+}
+
+// The same for any number of digits, where the run is a multiple of a short block.
+fn add_even(
+    s: usize,
+    run: usize,
+    count: usize,
+    symbols: &[u8],
+    at: usize,
+    far: usize,
+    m: usize,
+    sums: &mut [u8],
+)
+    requires { ⌜ InTrays gf256 s run count (now symbols) at far m (now sums) × (run % 4 ≡ 0) ⌝ }
+    ensures { λ _. ⌜ TraysAdded gf256 s run count (now (symbols .entry)) at far m (now (sums .entry)) (now (sums .exit)) ⌝ }
+{
+    if s == 2 {
+        add_two(run, count, symbols, at, far, m, sums);
+        return;
+    }
+    if s == 4 {
+        add_four(run, count, symbols, at, far, m, sums);
+        return;
+    }
+    add_runs(s, run, count, symbols, at, far, m, SHORT, sums);
 }
 
 // The same for any number of digits; layouts have at most four.
@@ -188,55 +282,19 @@ fn add_long(
     requires { ⌜ InTrays gf256 s run count (now symbols) at far m (now sums) ⌝ }
     ensures { λ _. ⌜ TraysAdded gf256 s run count (now (symbols .entry)) at far m (now (sums .entry)) (now (sums .exit)) ⌝ }
 {
-    if s == 2 {
-        add_two(run, count, symbols, at, far, m, sums);
-        return;
-    }
     if s == 3 {
         add_three(run, count, symbols, at, far, m, sums);
         return;
     }
-    if s == 4 {
-        add_four(run, count, symbols, at, far, m, sums);
+    if run % SHORT == 0 {
+        add_even(s, run, count, symbols, at, far, m, sums);
         return;
     }
-    add_runs(s, run, count, symbols, at, far, m, sums);
+    add_runs(s, run, count, symbols, at, far, m, 0, sums);
 }
 
-// Adds a tray's symbols with digit a across the runs: what stands first in each of them, then what stands second, and so on.
-fn add_digit(
-    s: usize,
-    run: usize,
-    count: usize,
-    a: usize,
-    symbols: &[u8],
-    at: usize,
-    sums: &mut [u8],
-)
-    requires { ⌜ InTray s run count a (now symbols) at (now sums) ⌝ }
-    ensures { λ _. ⌜ DigitAdded gf256 s run count a (now (symbols .entry)) at (now (sums .entry)) (now (sums .exit)) ⌝ }
-{
-    let mut i = 0usize;
-    while i < run {
-        kernel::add_spaced(sums, i, run, count, symbols, at + (a * run + i), s * run);
-        i += 1;
-    }
-}
-
-// The digits 0 .. s - 1, across the runs.
-fn add_across(s: usize, run: usize, count: usize, symbols: &[u8], at: usize, sums: &mut [u8])
-    requires { ⌜ InTray s run count 0 (now symbols) at (now sums) ⌝ }
-    ensures { λ _. ⌜ DigitsAdded gf256 s run count s (now (symbols .entry)) at (now (sums .entry)) (now (sums .exit)) ⌝ }
-{
-    let mut a = 0usize;
-    while a < s {
-        add_digit(s, run, count, a, symbols, at, sums);
-        a += 1;
-    }
-}
-
-// Tray after tray, across the runs.
-fn add_each(
+// The same across the runs: what stands first in each of them, then what stands second, and so on.
+fn add_across(
     s: usize,
     run: usize,
     count: usize,
@@ -249,24 +307,61 @@ fn add_each(
     requires { ⌜ InTrays gf256 s run count (now symbols) at far m (now sums) ⌝ }
     ensures { λ _. ⌜ TraysAdded gf256 s run count (now (symbols .entry)) at far m (now (sums .entry)) (now (sums .exit)) ⌝ }
 {
-    let mut g = 0usize;
-    while g < m {
-        add_across(s, run, count, symbols, at + g * far, sums);
-        g += 1;
+    let mut i = 0usize;
+    while i < run {
+        kernel::add_spaced(
+            sums,
+            i,
+            run,
+            count,
+            symbols,
+            at + i,
+            s * run,
+            run,
+            s,
+            far,
+            m,
+        );
+        i += 1;
     }
+}
+
+// The same with the number of digits written out.
+fn add_short(
+    s: usize,
+    run: usize,
+    count: usize,
+    symbols: &[u8],
+    at: usize,
+    far: usize,
+    m: usize,
+    sums: &mut [u8],
+)
+    requires { ⌜ InTrays gf256 s run count (now symbols) at far m (now sums) ⌝ }
+    ensures { λ _. ⌜ TraysAdded gf256 s run count (now (symbols .entry)) at far m (now (sums .entry)) (now (sums .exit)) ⌝ }
+{
+    if s == 2 {
+        add_across(2, run, count, symbols, at, far, m, sums);
+        return;
+    }
+    if s == 3 {
+        add_across(3, run, count, symbols, at, far, m, sums);
+        return;
+    }
+    add_across(s, run, count, symbols, at, far, m, sums);
 }
 
 // Adds the sums over the groups of the symbols of m trays.
 fn add_sums(l: Layout, h: u32, r: HostRuns, symbols: &[u8], at: usize, m: usize, sums: &mut [u8])
-    requires { ⌜ Summing gf256 l h (now symbols) at m (now sums) × RunsOf l h (r .digits) (r .length) (r .count) ⌝ }
+    requires { ⌜ Summing gf256 l h (now symbols) at m (now sums) × RunsOf l h (r .digits) (r .length) (r .count) (r .layers) ⌝ }
     ensures { λ _. ⌜ Summed gf256 l h (now (symbols .entry)) at m (now (sums .entry)) (now (sums .exit)) ⌝ }
 {
     let s = r.digits;
     let run = r.length;
     let count = r.count;
-    let far = count * s * run;
+    let far = r.layers;
     if run < SHORT {
-        add_each(s, run, count, symbols, at, far, m, sums);
+        add_short(s, run, count, symbols, at, far, m, sums);
         return;
     }
     add_long(s, run, count, symbols, at, far, m, sums);
@@ -300,7 +395,7 @@ fn add_later(
     at: usize,
     shares: &mut [u8],
 )
-    requires { ⌜ Feeding gf256 l count h (now symbols) at 1 (now shares) × RunsOf l h (r .digits) (r .length) (r .count) ⌝ }
+    requires { ⌜ Feeding gf256 l count h (now symbols) at 1 (now shares) × RunsOf l h (r .digits) (r .length) (r .count) (r .layers) ⌝ }
     ensures { λ _. ⌜ Added gf256 l h x (cut l (now (symbols .entry)) at) (now (shares .entry)) (now (shares .exit)) count ⌝ }
 {
     let mut sums = [0u8; layout::LAYERS as usize];
@@ -320,7 +415,7 @@ fn add_rest(
     m: u32,
     shares: &mut [u8],
 )
-    requires { ⌜ Feeding gf256 l count h (now symbols) at m (now shares) × RunsOf l h (r .digits) (r .length) (r .count) × (x + m ≤ trays l) ⌝ }
+    requires { ⌜ Feeding gf256 l count h (now symbols) at m (now shares) × RunsOf l h (r .digits) (r .length) (r .count) (r .layers) × (x + m ≤ trays l) ⌝ }
     ensures { λ _. ⌜ Rested gf256 l count h x (now (symbols .entry)) at m (now (shares .entry)) (now (shares .exit)) ⌝ }
 {
     let total = layout::layer_count(l);
@@ -344,7 +439,7 @@ fn feed(
     m: u32,
     shares: &mut [u8],
 )
-    requires { ⌜ Feeding gf256 l count h (now symbols) at m (now shares) × RunsOf l h (r .digits) (r .length) (r .count) × (x + m ≤ trays l) ⌝ }
+    requires { ⌜ Feeding gf256 l count h (now symbols) at m (now shares) × RunsOf l h (r .digits) (r .length) (r .count) (r .layers) × (x + m ≤ trays l) ⌝ }
     ensures { λ _. ⌜ now (shares .exit) ≡ fedTrays gf256 l count h x (now (symbols .entry)) at m (now (shares .entry)) ⌝ }
 {
     add_sums(l, h, r, symbols, at, m as usize, shares);
@@ -374,9 +469,11 @@ fn looked(count: u32, symbols: bool) -> bool
     symbols
 }
 
-// The first ground for refusing so many shares where so many trays of the helper's rack are lent, 0 for none; `symbols` says whether what is lent are symbols.
+// The first ground for refusing so many shares where so many trays of the helper's rack are lent, 0 for none, with an admissible layout; `symbols` says whether what is
+// lent are symbols.
 fn refusal(
     l: Layout,
+    n: Counts,
     count: u32,
     lent: u32,
     host: u32,
@@ -385,16 +482,14 @@ fn refusal(
     room: usize,
     symbols: bool,
 ) -> u8
+    requires { ⌜ (admissible (gf256 .order) l ≡ true) × CountsOf l (n .digits) (n .layers) (n .groups) ⌝ }
     ensures { λ r. ⌜ r ≡ grounds (gf256 .order) l count lent host helper given room symbols ⌝ }
 {
     let b = l.racks;
-    if !layout::admitted(ORDER as u32, l) {
-        return 1;
-    }
-    if given != lent as usize * layout::layer_count(l) as usize {
+    if given != lent as usize * n.layers as usize {
         return 2;
     }
-    if room != count as usize * layout::group_count(l) as usize {
+    if room != count as usize * n.groups as usize {
         return 2;
     }
     if b <= host {
@@ -424,7 +519,18 @@ fn tray_refusal(l: Layout, count: u32, host: u32, x: u32, symbols: &[u8], shares
         return 1;
     }
     let both = both_symbols(symbols, shares);
-    refusal(l, count, 1, host, x / u, symbols.len(), shares.len(), both)
+    let n = counts_of(l);
+    refusal(
+        l,
+        n,
+        count,
+        1,
+        host,
+        x / u,
+        symbols.len(),
+        shares.len(),
+        both,
+    )
 }
 
 // Adds this tray's parts to what so many shares, in order of m, hold, or refuses and writes nothing, with either E. Answers the ground, 0 for done. Whoever calls
@@ -439,7 +545,8 @@ fn feed_tray(l: Layout, count: u32, host: Rack, tray: Tray, symbols: &[u8], shar
     if ground != 0 {
         return ground;
     }
-    let r = runs_of(l, h, symbols.len());
+    let n = counts_of(l);
+    let r = runs_of(l, n, h);
     feed(l, count, h, x, r, symbols, 0, 1, shares);
     0
 }
@@ -480,13 +587,13 @@ fn at_once(left: u32) -> u32
 }
 
 // Clears the shares and feeds the trays of the helper's rack.
-fn gather(l: Layout, count: u32, h: u32, helper: u32, rack: &[u8], out: &mut [u8])
-    requires { ⌜ Gathering gf256 l count h helper (now rack) (now out) ⌝ }
+fn gather(l: Layout, n: Counts, count: u32, h: u32, helper: u32, rack: &[u8], out: &mut [u8])
+    requires { ⌜ Gathering gf256 l count h helper (now rack) (now out) × CountsOf l (n .digits) (n .layers) (n .groups) ⌝ }
     ensures { λ _. ⌜ now (out .exit) ≡ sharesOf gf256 l count h (now (rack .entry)) ⌝ }
 {
     let u = l.size;
-    let total = rack.len() / u as usize;
-    let r = runs_of(l, h, total);
+    let r = runs_of(l, n, h);
+    let total = r.layers;
     kernel::fill(out, 0, out.len(), 0);
     let mut g = 0u32;
     while g < u {
@@ -515,11 +622,15 @@ fn make_shares(l: Layout, count: u32, host: Rack, helper: Rack, rack: &[u8], out
     let h = host.number();
     let i = helper.number();
     let symbols = range::are_symbols(rack, 0, rack.len());
-    let ground = refusal(l, count, l.size, h, i, rack.len(), out.len(), symbols);
+    if !layout::admitted(ORDER as u32, l) {
+        return 1;
+    }
+    let n = counts_of(l);
+    let ground = refusal(l, n, count, l.size, h, i, rack.len(), out.len(), symbols);
     if ground != 0 {
         return ground;
     }
-    gather(l, count, h, i, rack, out);
+    gather(l, n, count, h, i, rack, out);
     0
 }
 

@@ -24,7 +24,7 @@ use Rattle.codeword.proofs.Buffers.{layers-pos}
 use Rattle.recover.specs.Recover.{Survivors, Restores}
 use Rattle.recover.specs.Inner.{Kept}
 use Rattle.syndrome.specs.Inner.{Listed}
-use Rattle.restore.specs.Restored.{LayerFits, Erasing, RestoredTo}
+use Rattle.restore.specs.Inner.{LayerFits, Erasing, RestoredTo}
 use Rattle.recover.proofs.Restored.{low-checks, restores, restores-exists, restored-range}
 use Rattle.store.specs.Store.{Begins, Stores}
 use Rattle.store.specs.Inner.{parityTrays, Writable}

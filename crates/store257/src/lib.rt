@@ -10,7 +10,7 @@ ghost use Rattle.lists.specs.Lists.{table};
 ghost use Rattle.symbol257.specs.Elem.{gf257};
 ghost use Rattle.layout.specs.Layout.{checks, layers, trayLimit};
 ghost use Rattle.kernel.specs.Inner.{Run, copied};
-ghost use Rattle.restore.specs.Restored.{RestoredTo};
+ghost use Rattle.restore.specs.Inner.{RestoredTo};
 ghost use Rattle.store.specs.Store.{storeRefusal, StoreAnswer};
 ghost use Rattle.store.specs.Inner.{parityTrays, Writable};
 

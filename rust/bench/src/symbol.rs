@@ -40,7 +40,7 @@ impl Symbol for u8 {
         Layout::with_errors(10, 3, 18, 9, 1),
         Layout::with_errors(6, 3, 5, 4, 1),
     ];
-    const STORE_LIMIT: Option<u64> = Some(400_000);
+    const STORE_LIMIT: Option<u64> = Some(380_000);
     const LIBRARY: &'static dyn Version<u8> = &Library;
 
     fn of(number: u64) -> u8 {

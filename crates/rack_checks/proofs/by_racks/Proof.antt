@@ -1,7 +1,7 @@
 use mathlib.Core.Bool.{false≢true}
 use native.Mathlib.Omega.{arith}
 use borrow.Author.Needs.{needs}
-use Rattle.rack_checks.proofs.Numbers.{racks-fit, cost-fits, divides-small}
+use Rattle.rack_checks.proofs.Numbers.{racks-fit, cost-fits, small-divides}
 use Rattle.rack_checks.proofs.by_racks.Statement.{statement}
 use Rattle.rack_checks.proofs.by_racks.Tie as tie
 
@@ -21,4 +21,4 @@ by-racks-spec =
     (λ c. omega arith)
     (λ c. search cost-fits)
     (λ c. omega arith)
-    (λ c e. (omega arith, search divides-small)))
+    (λ c e. (omega arith, search small-divides)))

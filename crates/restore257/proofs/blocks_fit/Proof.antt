@@ -7,7 +7,7 @@ use borrow.Author.Needs.{needs}
 use borrow.Author.Tests.{not-true, not-false}
 use Rattle.symbol257.proofs.Working.{working}
 use Rattle.symbol257.specs.Elem.{gf257}
-use Rattle.restore.specs.Restored.{LayerFits}
+use Rattle.restore.specs.Inner.{LayerFits}
 use Rattle.restore.proofs.Says.{says-true, says-false}
 use Rattle.blocks.proofs.Whole.{start-fits, width-pos, count-whole, block-of}
 use Rattle.restore.proofs.Room.{space-next, space-as, count-fits}

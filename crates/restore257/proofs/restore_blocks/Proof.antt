@@ -6,7 +6,7 @@ use lib.ListN.{length}
 use borrow.Author.Needs.{needs}
 use Rattle.symbol257.specs.Elem.{gf257}
 use Rattle.symbol257.proofs.Working.{working}
-use Rattle.restore.specs.Restored.{RestoredTo}
+use Rattle.restore.specs.Inner.{RestoredTo}
 use Rattle.blocks.proofs.Whole.{start-fits, width-pos, count-whole, block-of}
 use Rattle.restore.proofs.Put.{restored-none, restored-more, restored-end}
 use Rattle.restore.proofs.Room.{space-next, space-as, erasing-next, count-fits}

@@ -1,6 +1,6 @@
 use borrow.Author.Needs.{needs}
 use Rattle.symbol.specs.Elem.{gf256}
-use Rattle.share.proofs.Runs.{same-digits, digits-back}
+use Rattle.share.proofs.Runs.{same-digits, digits-back, parts-none}
 use Rattle.share.proofs.add_long.Statement.{statement}
 use Rattle.share.proofs.add_long.Tie as tie
 
@@ -10,12 +10,9 @@ add-long-spec =
     (λ c κs. search (same-digits gf256))
     (λ c. search needs)
     (λ c. search (digits-back gf256))
-    (λ c κs. search (same-digits gf256))
-    (λ c. search needs)
-    (λ c. search (digits-back gf256))
-    (λ c κs. search (same-digits gf256))
-    (λ c. search needs)
-    (λ c. search (digits-back gf256))
     (λ c κs. search needs)
+    (λ c. search needs)
+    (λ c. search needs)
+    (λ c κs. (search needs, parts-none _))
     (λ c. search needs)
     (λ c. search needs))

@@ -77,9 +77,10 @@ feed-tray-spec =
     (λ c.
     let a = c .before .before .before .before .before .before .before .args in
     (found (c .before), add-refused gf257 (a .l) (a .count) (a .host .0) (a .tray .0) (a .symbols .now) (a .shares .now) (λ e. c .if1 .taken (found (c .before) ∙ e))))
-    (λ c κs. let p = fed c in (p .adm .cabinet, p .host-in, tray-shareable working _ _ _ _ _ _ (none c) .long ∙ one-mul _))
-    (λ c κs. (fed (c .before .before), c .before .runs-of .ensures, inside (c .before .before)))
+    (λ c κs. fed c .adm .cabinet)
+    (λ c κs. let p = fed (c .before) in (p .adm .cabinet, p .host-in, c .counts-of .ensures))
+    (λ c κs. (fed (c .before .before .before), c .before .runs-of .ensures, inside (c .before .before .before)))
     (λ c. search needs)
     (λ c.
-    let n = none (c .before .before .before .before .before) in
-    (sym n, c .before .before .feed .ensures ∙ fed-alone working _ _ _ _ _ _ (tray-shareable working _ _ _ _ _ _ n .long ∙ one-mul _) ∙ done (c .before .before .before .before .before))))
+    let n = none (c .before .before .before .before .before .before) in
+    (sym n, c .before .before .feed .ensures ∙ fed-alone working _ _ _ _ _ _ (tray-shareable working _ _ _ _ _ _ n .long ∙ one-mul _) ∙ done (c .before .before .before .before .before .before))))

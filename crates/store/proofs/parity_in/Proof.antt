@@ -6,7 +6,7 @@ use Rattle.symbol.specs.Elem.{gf256}
 use Rattle.lists.specs.Lists.{table}
 use Rattle.layout.specs.Layout.{layers}
 use Rattle.layout.proofs.Facts.{dimension-in}
-use Rattle.restore.specs.Restored.{Erasing, RestoredTo}
+use Rattle.restore.specs.Inner.{Erasing, RestoredTo}
 use Rattle.store.specs.Inner.{parityTrays}
 use Rattle.store.proofs.Trays.{parity-told}
 use Rattle.store.proofs.parity_in.Statement.{statement}

@@ -1,0 +1,5 @@
+pub mod Lists
+pub mod Points
+pub mod Wide
+pub mod Room
+pub mod Symbols
