@@ -25,7 +25,8 @@
  *    0   done
  *    1   layout not admissible, or E not the one that the call is for
  *    2   a lent buffer is not exactly the length its rule gives (symbols, shares, spare, states, an
- *        image being written; not lists, not an image being read)
+ *        image being written, the images and the list of missing trays that a gathering is lent;
+ *        not other lists, not an image being read)
  *    3   a tray or rack number outside the layout, a state outside its values, an image to be
  *        written with volume number 0, a scrub record that breaks a rule named at gesarumbo_scrub,
  *        a run of layers outside 0 .. L or one that ends before it begins, more groups done than
@@ -40,7 +41,7 @@
  *    9   image malformed: under 24 bytes, a header rule broken, its own layout not admissible, its
  *        tray not below n, or its length not 24 + L
  *   10   image marked demonstration
- *   11   image of another layout or volume
+ *   11   image of another layout or volume; where a rack is gathered, or of another place
  *   13   a layer asked for of the lost tray is not in a group that is done
  *   14   the shares do not meet the checks, and no change of one helper's share makes them
  *   15   the card is not right
@@ -52,8 +53,13 @@
  * that is written must not overlap another one of the call; buffers that are only read may. A call
  * keeps no pointer, allocates nothing and remembers nothing, so calls may run side by side.
  *
- * The second field. Each call has a twin over the numbers modulo 257, for racks of 2, 4, 8 or 16
- * trays: see "The second field" below.
+ * From trays to records. Which trays are good is no question for the caller: gesarumbo_gather takes
+ * what stands at all places of a cabinet, anything at all, and gives the symbols of the trays that
+ * are there and the list of those that are not. gesarumbo_test_kept and gesarumbo_recover_correcting
+ * go on from there, and say how many checks were left to find a wrong tray with.
+ *
+ * The second field. Each call over a layout has a twin over the numbers modulo 257, for racks of 1,
+ * 2, 4, 8 or 16 trays: see "The second field" below.
  */
 #ifndef GESARUMBO_H
 #define GESARUMBO_H
@@ -108,6 +114,24 @@ typedef struct {
     uint32_t layer;   /* the first bad layer; 0 where it is sound */
     uint32_t check;   /* the least check broken there; 0 where it is sound */
 } gesarumbo_tested;
+
+typedef struct {
+    uint32_t refusal;
+    uint32_t tray;   /* the tray that was wrong; n where none was; 0 with a refusal */
+    uint32_t checks; /* the checks of a layer left to test with: r less the erased trays */
+} gesarumbo_recovered;
+
+typedef struct {
+    uint32_t refusal;
+    uint32_t verdict; /* 1 sound, 2 bad */
+    uint32_t layer;   /* the first layer that does not fit; 0 where it is sound */
+    uint32_t checks;  /* the checks of a layer left to test with: r less the erased trays */
+} gesarumbo_kept;
+
+typedef struct {
+    uint32_t refusal;
+    uint32_t count; /* the missing trays */
+} gesarumbo_gathered;
 
 typedef struct {
     uint32_t refusal;
@@ -194,6 +218,40 @@ uint32_t gesarumbo_store(gesarumbo_layout layout,
 uint32_t gesarumbo_recover(gesarumbo_layout layout,
                            uint8_t *codeword, size_t codeword_length,
                            const uint32_t *erased, size_t erased_count);
+
+/*
+ * Fills the erased trays of a codeword of n*L bytes from all the others, of which one may be wrong
+ * in any of its symbols: errors and erasures.
+ * Grounds: 1; 2, the codeword; 3, a tray listed; 4; 5; 8, exactly when no codeword has the trays
+ * that are not listed, nor has one with one of these trays changed where at least two checks are
+ * left, that is, where at most r - 2 trays are listed.
+ * Done: codeword is a codeword. Where one has the trays that are not listed, it is the only one, and
+ * tray is n: answer and bytes are those of gesarumbo_recover. Else tray is the one that had to be
+ * changed, and codeword is the only one that has the others; at most one tray and one change of it
+ * make a codeword. The erased trays and the one named alone are written, and the old bytes of the
+ * erased ones are not looked at. checks is r less the number of erased trays: with 0 nothing could
+ * be tested, with 1 a wrong tray is seen but not found.
+ * If at most one tray that is not listed differs from a codeword, in any of its symbols, and at
+ * least two checks are left, codeword becomes that one, and tray is the one that differs, n for
+ * none. With at least three left, two wrong trays are never taken for another one.
+ */
+gesarumbo_recovered gesarumbo_recover_correcting(gesarumbo_layout layout,
+                                                 uint8_t *codeword, size_t codeword_length,
+                                                 const uint32_t *erased, size_t erased_count);
+
+/*
+ * Tests the trays of a codeword of n*L bytes that are not listed as erased. A bad codeword is an
+ * answer and no refusal.
+ * Grounds: 1; 2, the codeword; 3, a tray listed; 4; 5.
+ * Done: sound exactly when a codeword has the trays that are not listed, which is when
+ * gesarumbo_recover is done; else the first layer in which no symbols of the erased trays meet the
+ * checks. With none listed verdict and layer are those of gesarumbo_test. checks is r less the
+ * number of erased trays: with 0 the answer is sound whatever the trays hold, since nothing could
+ * be tested. Erased trays are not looked at, and nothing is written.
+ */
+gesarumbo_kept gesarumbo_test_kept(gesarumbo_layout layout,
+                                   const uint8_t *codeword, size_t codeword_length,
+                                   const uint32_t *erased, size_t erased_count);
 
 /*
  * Works out a helper rack's share of L/s bytes for a host rack, from the helper's u*L bytes.
@@ -328,7 +386,8 @@ uint32_t gesarumbo_card(gesarumbo_layout layout, uint32_t lost,
                         uint8_t *card, size_t card_length);
 
 /*
- * Tests a card, whoever has printed it.
+ * Tests a card, whoever has printed it. Here, and in the repair by card, the card comes before the
+ * group; gesarumbo_card has the group first.
  * Grounds: 1, also for E = 1; 2, card; 3, the tray, a helper, or a group not below L/s; 4; 5; 6; 15,
  * exactly when the card is not right.
  * Done: the card is right. Nothing is written.
@@ -414,6 +473,52 @@ gesarumbo_margin_result gesarumbo_margin(gesarumbo_layout layout,
                                          const uint8_t *states, size_t states_length);
 
 /*
+ * Gathering. images is what stands at the places of some trays, one after another in the order of
+ * their numbers, 24 + L bytes each, and may hold anything. A tray is there where its place holds a
+ * live image of the layout and volume expected, written for this tray: gesarumbo_read_image is done
+ * and answers this place's number. Nothing else that stands at a place is ever handed out or has
+ * any effect on what is.
+ *
+ * Says what stands at each of the n places, as gesarumbo_margin asks for it.
+ * Grounds: 1; 2, images n*(24 + L) or states n.
+ * Done: every byte of states is written, whatever it held: 1 where the tray is there, 2 where
+ * gesarumbo_read_image answers 10, and 0 for anything else.
+ */
+uint32_t gesarumbo_states(gesarumbo_layout layout, uint32_t volume,
+                          const uint8_t *images, size_t images_length,
+                          uint8_t *states, size_t states_length);
+
+/*
+ * Gathers a codeword from what stands at the n places.
+ * Grounds: 1; 2, images n*(24 + L), codeword n*L or missing n.
+ * Done: every byte of codeword is written, whatever it held: the symbols of each tray that is there,
+ * and zeros for every other. count is the number of the others, and the first count numbers of
+ * missing are theirs, rising; the rest of missing is as it was. They are a list of erased trays for
+ * gesarumbo_recover, gesarumbo_recover_correcting and gesarumbo_test_kept.
+ * From images of a codeword's trays, of which any r or fewer have been replaced by anything that is
+ * no live image of its place, gathering and recovering give the codeword. If besides one live image
+ * holds wrong symbols, and at most r - 2 are missing, gathering and the correcting recovery give
+ * the codeword and name that tray.
+ */
+gesarumbo_gathered gesarumbo_gather(gesarumbo_layout layout, uint32_t volume,
+                                    const uint8_t *images, size_t images_length,
+                                    uint8_t *codeword, size_t codeword_length,
+                                    uint32_t *missing, size_t missing_length);
+
+/*
+ * Gathers one rack from what stands at its u places, for a share or as the host of a repair. What
+ * stands at the places of the lost trays is not looked at.
+ * Grounds: 1; 2, images u*(24 + L) or out u*L; 3, the rack, or a lost tray that is not one of it; 4;
+ * then, each over all images that are looked at, 9; 10; 11, also for a live image of another place.
+ * Done: the symbols of every tray that is not lost are written at its place in out; the places of
+ * the lost trays are as they were.
+ */
+uint32_t gesarumbo_gather_rack(gesarumbo_layout layout, uint32_t volume, uint32_t rack,
+                               const uint32_t *lost, size_t lost_count,
+                               const uint8_t *images, size_t images_length,
+                               uint8_t *out, size_t out_length);
+
+/*
  * Starts a new walk, whatever the record holds: the next layer is 0, no layer is bad, the first bad
  * one is L. The report is 0.
  * Grounds: 1.
@@ -465,7 +570,8 @@ gesarumbo_reported gesarumbo_scrub_in_place(gesarumbo_layout layout,
  *
  *    test                        every symbol, before it answers
  *    store                       the data
- *    recover                     the trays that are not listed
+ *    recover, recover_correcting, test_kept
+ *                                the trays that are not listed
  *    share, share_many           the helper's rack
  *    share_add, share_add_many   the tray, and what the share holds
  *    repair, repair_many         the share symbols of the groups that the call does, and the
@@ -486,7 +592,9 @@ gesarumbo_reported gesarumbo_scrub_in_place(gesarumbo_layout layout,
  * Images have edition 2 and two bytes a symbol, low byte first: 24 + 2*L bytes. A reader of one
  * edition refuses an image of the other with 9. Reading copies the symbols to L lent places;
  * grounds: 1, the layout expected; 2, the places lent, by that layout; 9, also a symbol above 256,
- * in a demonstration image too; 10; 11. Done: every place is written, whatever it held.
+ * in a demonstration image too; 10; 11. Done: every place is written, whatever it held. Where trays
+ * are gathered each place has 24 + 2*L bytes, and a tray whose image holds a number above 256 is not
+ * there.
  */
 typedef struct {
     uint32_t refusal;
@@ -505,6 +613,14 @@ uint32_t gesarumbo257_store(gesarumbo_layout layout,
 uint32_t gesarumbo257_recover(gesarumbo_layout layout,
                               uint16_t *codeword, size_t codeword_length,
                               const uint32_t *erased, size_t erased_count);
+
+gesarumbo_recovered gesarumbo257_recover_correcting(gesarumbo_layout layout,
+                                                    uint16_t *codeword, size_t codeword_length,
+                                                    const uint32_t *erased, size_t erased_count);
+
+gesarumbo_kept gesarumbo257_test_kept(gesarumbo_layout layout,
+                                      const uint16_t *codeword, size_t codeword_length,
+                                      const uint32_t *erased, size_t erased_count);
 
 uint32_t gesarumbo257_share(gesarumbo_layout layout, uint32_t host, uint32_t helper,
                             const uint16_t *rack, size_t rack_length,
@@ -578,6 +694,20 @@ gesarumbo257_image gesarumbo257_read_image(gesarumbo_layout layout, uint32_t vol
 gesarumbo_margin_result gesarumbo257_margin(gesarumbo_layout layout,
                                             const uint8_t *states, size_t states_length);
 
+uint32_t gesarumbo257_states(gesarumbo_layout layout, uint32_t volume,
+                             const uint8_t *images, size_t images_length,
+                             uint8_t *states, size_t states_length);
+
+gesarumbo_gathered gesarumbo257_gather(gesarumbo_layout layout, uint32_t volume,
+                                       const uint8_t *images, size_t images_length,
+                                       uint16_t *codeword, size_t codeword_length,
+                                       uint32_t *missing, size_t missing_length);
+
+uint32_t gesarumbo257_gather_rack(gesarumbo_layout layout, uint32_t volume, uint32_t rack,
+                                  const uint32_t *lost, size_t lost_count,
+                                  const uint8_t *images, size_t images_length,
+                                  uint16_t *out, size_t out_length);
+
 gesarumbo_scrubbed gesarumbo257_scrub_reset(gesarumbo_layout layout,
                                             gesarumbo_scrub_record record);
 
@@ -591,6 +721,15 @@ gesarumbo_reported gesarumbo257_scrub_reset_in_place(gesarumbo_layout layout,
 gesarumbo_reported gesarumbo257_scrub_in_place(gesarumbo_layout layout,
                                                const uint16_t *codeword, size_t codeword_length,
                                                gesarumbo_scrub_record *record, uint64_t budget);
+
+/*
+ * The CRC-64 of bytes, as xz has it (ECMA-182, reflected), so that outside tools agree: of the nine
+ * bytes "123456789" it is 995DC9BBDF1939FA (hex). start is 0, or the checksum of the bytes before
+ * these: bytes may be cut anywhere, and their checksum is the same in parts as in one go. It belongs
+ * to neither field. It is never refused, and nothing is written. It finds accidents and no ill will:
+ * different bytes may have the same checksum.
+ */
+uint64_t gesarumbo_checksum(uint64_t start, const uint8_t *bytes, size_t length);
 
 /*
  * The sixteen-tray box, a cabinet of its own with no layout. It has 16 trays of one symbol in four

@@ -1,9 +1,10 @@
 /*
- * Every call from C: data are stored, a reset tray is refused, a lost tray is repaired in pieces and
- * by a card and read meanwhile, the codeword is tested some layers at a time, two erased trays are
- * recovered. In a cabinet with less data, two lost trays of one rack are repaired. In one that
- * allows for a wrong share, a lost tray is repaired although one rack's share is stale. Racks of
- * four trays are had in the second field, where a tray is stored, repaired and imaged.
+ * Every call of the first field from C: data are stored, a reset tray is refused, a lost tray is
+ * repaired in pieces and by a card and read meanwhile, the codeword is tested some layers at a time,
+ * two erased trays are recovered, a wrong one beside them too, and trays are gathered from their
+ * images. In a cabinet with less data, two lost trays of one rack are repaired. In one that allows
+ * for a wrong share, a lost tray is repaired although one rack's share is stale. The second field's
+ * calls are in test257.c, the box's in box_test.c.
  *
  * No byte beside a buffer may be written: see guards.h.
  */
@@ -26,16 +27,11 @@ enum { WARY_RACKS = 5, WARY_TRAYS = WARY_RACKS * SIZE, WARY_DATA = 4, WARY_HELPE
 enum { WARY_LAYERS = 32, WARY_GROUPS = 16, WARY_RACK = SIZE * WARY_LAYERS };
 enum { WARY_SHARES = WARY_HELPERS * WARY_GROUPS };
 
-/* A cabinet of the second field: five racks of four trays, fifteen trays' worth of data. */
-enum { RACKS_4 = 5, SIZE_4 = 4, TRAYS_4 = RACKS_4 * SIZE_4, DATA_4 = 15, HELPERS_4 = 4 };
-enum { LAYERS_4 = 32, GROUPS_4 = 16, IMAGE_4 = 24 + 2 * LAYERS_4 };
-
 enum { ABSENT = 0, LIVE = 1, DEMONSTRATION = 2, VOLUME = 7 };
 
 static const gesarumbo_layout layout = { RACKS, SIZE, DATA, HELPERS, 0 };
 static const gesarumbo_layout less = { RACKS, SIZE, LESS_DATA, HELPERS, 0 };
 static const gesarumbo_layout wary = { WARY_RACKS, SIZE, WARY_DATA, WARY_HELPERS, ERRORS };
-static const gesarumbo_layout fours = { RACKS_4, SIZE_4, DATA_4, HELPERS_4, 0 };
 
 /* What the cabinet works with, all of it lent from the pool. */
 static uint8_t *data, *codeword, *images, *shares, *spare, *states, *shares_of_two, *two_spares;
@@ -43,10 +39,9 @@ static uint8_t *card;
 static gesarumbo_scrub_record *record;
 static uint8_t *wary_codeword, *wary_shares, *wary_spare;
 static uint32_t *helpers, *erased, *lost, *wary_helpers;
-/* The same for the second field. */
-static uint16_t *data_4, *codeword_4, *shares_4, *spare_4;
-static uint8_t *image_4;
-static uint32_t *helpers_4;
+/* What trays are gathered into, and bytes for a checksum. */
+static uint8_t *gathered, *rack, *nine;
+static uint32_t *missing;
 
 static void lend_all(void)
 {
@@ -68,12 +63,10 @@ static void lend_all(void)
     wary_shares = lend(WARY_SHARES);
     wary_spare = lend(WARY_LAYERS);
     wary_helpers = lend(WARY_HELPERS * sizeof *wary_helpers);
-    data_4 = lend(DATA_4 * LAYERS_4 * sizeof *data_4);
-    codeword_4 = lend(TRAYS_4 * LAYERS_4 * sizeof *codeword_4);
-    shares_4 = lend(HELPERS_4 * GROUPS_4 * sizeof *shares_4);
-    spare_4 = lend(LAYERS_4 * sizeof *spare_4);
-    image_4 = lend(IMAGE_4);
-    helpers_4 = lend(HELPERS_4 * sizeof *helpers_4);
+    gathered = lend(CODEWORD_LENGTH);
+    rack = lend(RACK_LENGTH);
+    missing = lend(TRAYS * sizeof *missing);
+    nine = lend(9);
 }
 
 static uint8_t *tray_at(size_t tray)
@@ -307,6 +300,129 @@ static void recover(void)
            memcmp(codeword, kept, CODEWORD_LENGTH) == 0 ? "as they were" : "wrong");
 }
 
+static void print_kept(const char *name, const uint32_t *list, size_t count)
+{
+    gesarumbo_kept kept = gesarumbo_test_kept(layout, codeword, CODEWORD_LENGTH, list, count);
+    must(kept.refusal == 0, "what is there is tested");
+    if (kept.verdict == 1)
+        printf("%s: sound, by %u checks\n", name, kept.checks);
+    else
+        printf("%s: layer %u, by %u checks\n", name, kept.layer, kept.checks);
+}
+
+/* Trays 1 and 10 are erased, and tray 4 is wrong in two layers; then tray 7 is wrong too. */
+static void correct_a_tray(void)
+{
+    uint8_t kept[CODEWORD_LENGTH], damaged[CODEWORD_LENGTH];
+    memcpy(kept, codeword, CODEWORD_LENGTH);
+    memset(tray_at(1), 0, LAYERS);
+    memset(tray_at(10), 0xFF, LAYERS);
+    print_kept("two erased", erased, 2);
+    tray_at(4)[15] ^= 1;
+    tray_at(4)[2] ^= 0x80;
+    print_kept("two erased, one wrong", erased, 2);
+    print_kept("none erased", NULL, 0);
+    memcpy(damaged, codeword, CODEWORD_LENGTH);
+    gesarumbo_recovered one =
+        gesarumbo_recover_correcting(layout, codeword, CODEWORD_LENGTH, erased, 2);
+    printf("correcting: refused %u, tray %u was wrong, %u checks left, all trays %s\n", one.refusal,
+           one.tray, one.checks,
+           memcmp(codeword, kept, CODEWORD_LENGTH) == 0 ? "as they were" : "wrong");
+    gesarumbo_recovered none =
+        gesarumbo_recover_correcting(layout, codeword, CODEWORD_LENGTH, erased, 2);
+    must(none.refusal == 0 && none.tray == TRAYS, "a codeword names no tray");
+    must(memcmp(codeword, kept, CODEWORD_LENGTH) == 0, "a codeword is kept");
+
+    memcpy(codeword, damaged, CODEWORD_LENGTH);
+    tray_at(7)[3] ^= 1;
+    memcpy(damaged, codeword, CODEWORD_LENGTH);
+    gesarumbo_recovered two =
+        gesarumbo_recover_correcting(layout, codeword, CODEWORD_LENGTH, erased, 2);
+    printf("two wrong: refused %u\n", two.refusal);
+    must(two.tray == 0 && two.checks == 0, "a refusal's other numbers are 0");
+    must(memcmp(codeword, damaged, CODEWORD_LENGTH) == 0, "a refusal changes nothing");
+    memcpy(codeword, kept, CODEWORD_LENGTH);
+}
+
+/* At place 5 stands the reset tray; at places 2 and 8 stand each other's trays, and 11 is empty. */
+static void gather(void)
+{
+    static const uint32_t due[] = { 2, 5, 8, 11 };
+    enum { MISSING = 4, OTHER = 0x55AA55AA };
+    must(gesarumbo_store(layout, data, DATA_LENGTH, codeword, CODEWORD_LENGTH) == 0,
+         "data are stored again");
+    uint8_t held[IMAGE];
+    memcpy(held, image_at(2), IMAGE);
+    memcpy(image_at(2), image_at(8), IMAGE);
+    memcpy(image_at(8), held, IMAGE);
+    memset(image_at(11), 0, IMAGE);
+    must(gesarumbo_states(layout, VOLUME, images, TRAYS * IMAGE, states, TRAYS) == 0,
+         "states are told");
+    print_bytes("states:", states, TRAYS);
+    printf("margin of these %d\n", gesarumbo_margin(layout, states, TRAYS).margin);
+    for (size_t i = 0; i < TRAYS; i++)
+        missing[i] = OTHER;
+    memset(gathered, 0xEE, CODEWORD_LENGTH);
+    gesarumbo_gathered all = gesarumbo_gather(layout, VOLUME, images, TRAYS * IMAGE, gathered,
+                                              CODEWORD_LENGTH, missing, TRAYS);
+    must(all.refusal == 0 && all.count == MISSING, "four trays are missing");
+    must(memcmp(missing, due, sizeof due) == 0, "they are listed");
+    for (size_t i = MISSING; i < TRAYS; i++)
+        must(missing[i] == OTHER, "the rest of the list is as it was");
+    for (uint32_t x = 0, i = 0; x < TRAYS; x++) {
+        int there = i == MISSING || due[i] != x;
+        for (size_t j = 0; j < LAYERS; j++)
+            must(gathered[x * LAYERS + j] == (there ? tray_at(x)[j] : 0), "a tray is gathered");
+        i += !there;
+    }
+    must(gesarumbo_recover(layout, gathered, CODEWORD_LENGTH, missing, all.count) == 0,
+         "what was gathered is recovered");
+    printf("gathered and recovered: %u trays missing, all trays %s\n", all.count,
+           memcmp(gathered, codeword, CODEWORD_LENGTH) == 0 ? "as they were" : "wrong");
+    gesarumbo_gathered other = gesarumbo_gather(layout, VOLUME, images, TRAYS * IMAGE - 1, gathered,
+                                                CODEWORD_LENGTH, missing, TRAYS);
+    must(memcmp(gathered, codeword, CODEWORD_LENGTH) == 0, "a refusal changes nothing");
+    must(memcmp(missing, due, sizeof due) == 0, "a refusal leaves the list");
+    printf("images cut: refused %u, %u\n", other.refusal, other.count);
+}
+
+/* Rack 0 has another's tray at place 2, rack 1 a reset one at 5, rack 3 an empty place 11. */
+static void gather_racks(void)
+{
+    static const uint32_t lost_ones[] = { 2, 5, 11 }, of[] = { 0, 1, 3 };
+    for (size_t i = 0; i < 3; i++) {
+        memset(rack, 0xEE, RACK_LENGTH);
+        const uint8_t *at = image_at(of[i] * SIZE);
+        uint32_t refused = gesarumbo_gather_rack(layout, VOLUME, of[i], NULL, 0, at, SIZE * IMAGE,
+                                                 rack, RACK_LENGTH);
+        for (size_t j = 0; j < RACK_LENGTH; j++)
+            must(rack[j] == 0xEE, "a refusal changes nothing");
+        *lost = lost_ones[i];
+        must(gesarumbo_gather_rack(layout, VOLUME, of[i], lost, 1, at, SIZE * IMAGE, rack,
+                                   RACK_LENGTH) == 0,
+             "a rack is gathered without its lost tray");
+        printf("rack %u: refused %u, without tray %u done\n", of[i], refused, *lost);
+        for (size_t j = 0; j < RACK_LENGTH; j++) {
+            int is_lost = j / LAYERS == *lost % SIZE;
+            must(rack[j] == (is_lost ? 0xEE : rack_at(of[i])[j]), "each tray is at its place");
+        }
+    }
+    *lost = 3;
+    printf("a tray of another rack: refused %u\n",
+           gesarumbo_gather_rack(layout, VOLUME, 0, lost, 1, images, SIZE * IMAGE, rack,
+                                 RACK_LENGTH));
+}
+
+static void checksum(void)
+{
+    memcpy(nine, "123456789", 9);
+    uint64_t whole = gesarumbo_checksum(0, nine, 9);
+    must(gesarumbo_checksum(gesarumbo_checksum(0, nine, 4), nine + 4, 5) == whole,
+         "a checksum in parts is that in one go");
+    must(gesarumbo_checksum(whole, NULL, 0) == whole, "nothing changes no checksum");
+    printf("checksum %08X%08X\n", (unsigned)(whole >> 32), (unsigned)whole);
+}
+
 static void margin(void)
 {
     memset(states, LIVE, TRAYS);
@@ -341,7 +457,14 @@ static void lend_nothing(void)
     printf(", write %u", gesarumbo_write_image(layout, 5, LIVE, VOLUME, NULL, 0, NULL, 0));
     printf(", read %u", gesarumbo_read_image(layout, VOLUME, NULL, 0).refusal);
     printf(", margin %u", gesarumbo_margin(layout, NULL, 0).refusal);
-    printf(", scrub %u\n", gesarumbo_scrub(layout, NULL, 0, nothing_seen, 1).refusal);
+    printf(", scrub %u", gesarumbo_scrub(layout, NULL, 0, nothing_seen, 1).refusal);
+    printf(", recover correcting %u",
+           gesarumbo_recover_correcting(layout, NULL, 0, NULL, 0).refusal);
+    printf(", test kept %u", gesarumbo_test_kept(layout, NULL, 0, NULL, 0).refusal);
+    printf(", states %u", gesarumbo_states(layout, VOLUME, NULL, 0, NULL, 0));
+    printf(", gather %u %u\n",
+           gesarumbo_gather(layout, VOLUME, NULL, 0, NULL, 0, NULL, 0).refusal,
+           gesarumbo_gather_rack(layout, VOLUME, 1, NULL, 0, NULL, 0, NULL, 0));
     printf("no tray erased: %u, no helpers: %u, no tray lost: %u\n",
            gesarumbo_recover(layout, codeword, CODEWORD_LENGTH, NULL, 0),
            repair_piece(0, 0, 1).refusal,
@@ -448,78 +571,6 @@ static void correct_a_share(void)
     must(memcmp(wary_spare, tray, WARY_LAYERS) == 0, "a refusal changes nothing");
 }
 
-static void print_symbols(const char *name, const uint16_t *symbols, size_t count)
-{
-    printf("%s", name);
-    for (size_t i = 0; i < count; i++)
-        printf(" %u", symbols[i]);
-    printf("\n");
-}
-
-/* Four does not divide 255, but it divides 256: racks of four are had modulo 257. */
-static void store_fours(void)
-{
-    enum { LENGTH = TRAYS_4 * LAYERS_4 };
-    gesarumbo_measured m = gesarumbo257_measure(fours);
-    must(m.refusal == 0 && m.layers == LAYERS_4, "the layout is admissible in the second field");
-    printf("racks of four modulo 257: layers %u, checks %u, traffic of a repair %u\n", m.layers,
-           m.checks, m.traffic);
-    for (uint32_t i = 0; i < DATA_4 * LAYERS_4; i++)
-        data_4[i] = (uint16_t)((11 * i + 250) % 257);
-    must(gesarumbo257_store(fours, data_4, DATA_4 * LAYERS_4, codeword_4, LENGTH) == 0,
-         "data are stored");
-    print_symbols("tray 0:", codeword_4, 8);
-    print_symbols("tray 15:", codeword_4 + 15 * LAYERS_4, 8);
-    gesarumbo_tested t = gesarumbo257_test(fours, codeword_4, LENGTH);
-    must(t.refusal == 0 && t.verdict == 1, "what is stored is a codeword");
-    codeword_4[LENGTH - 1] += 257;
-    printf("test with a number above 256: refused %u\n",
-           gesarumbo257_test(fours, codeword_4, LENGTH).refusal);
-    codeword_4[LENGTH - 1] -= 257;
-}
-
-/* Rack 1 has lost tray 6, whose old symbols are not looked at; the other racks help. */
-static void repair_fours(void)
-{
-    enum { RACK_LENGTH_4 = SIZE_4 * LAYERS_4, LENGTH = HELPERS_4 * GROUPS_4 };
-    static const uint32_t others[HELPERS_4] = { 0, 2, 3, 4 };
-    uint16_t kept[LAYERS_4];
-    memcpy(helpers_4, others, sizeof others);
-    for (size_t i = 0; i < HELPERS_4; i++)
-        must(gesarumbo257_share(fours, 1, helpers_4[i], codeword_4 + helpers_4[i] * RACK_LENGTH_4,
-                                RACK_LENGTH_4, shares_4 + i * GROUPS_4, GROUPS_4) == 0,
-             "a share is worked out");
-    print_symbols("share of rack 0:", shares_4, 8);
-    memcpy(kept, codeword_4 + 6 * LAYERS_4, sizeof kept);
-    memset(codeword_4 + 6 * LAYERS_4, 0xFF, sizeof kept);
-    for (uint64_t done = 0; done < GROUPS_4; done += 8) {
-        gesarumbo_repaired piece = gesarumbo257_repair(
-            fours, 6, helpers_4, HELPERS_4, shares_4, LENGTH, codeword_4 + RACK_LENGTH_4,
-            RACK_LENGTH_4, spare_4, LAYERS_4, done, 8);
-        must(piece.refusal == 0, "a piece is done");
-        printf("modulo 257: crossed %u, still to come %u\n", (unsigned)piece.crossed,
-               (unsigned)piece.remaining);
-    }
-    printf("tray 6 is %s\n", memcmp(spare_4, kept, sizeof kept) == 0 ? "as it was" : "wrong");
-}
-
-/* An image of edition 2: the first field's reader takes it for malformed. */
-static void image_fours(void)
-{
-    uint16_t kept[LAYERS_4];
-    memcpy(kept, spare_4, sizeof kept);
-    must(gesarumbo257_write_image(fours, 6, LIVE, VOLUME, spare_4, LAYERS_4, image_4, IMAGE_4) == 0,
-         "an image is written");
-    print_bytes("header of tray 6:", image_4, IMAGE_4 - 2 * LAYERS_4);
-    printf("read as edition 1: refused %u\n",
-           gesarumbo_read_image(layout, VOLUME, image_4, IMAGE_4).refusal);
-    memset(spare_4, 0xFF, sizeof kept);
-    gesarumbo257_image read = gesarumbo257_read_image(fours, VOLUME, image_4, IMAGE_4, spare_4,
-                                                      LAYERS_4);
-    must(read.refusal == 0 && read.tray == 6, "an image is its tray's");
-    must(memcmp(spare_4, kept, sizeof kept) == 0, "reading copies the tray's symbols");
-}
-
 int main(void)
 {
     lend_all();
@@ -533,13 +584,14 @@ int main(void)
     test();
     scrub();
     recover();
+    correct_a_tray();
     margin();
     lend_nothing();
     repair_two_in_pieces();
     correct_a_share();
-    store_fours();
-    repair_fours();
-    image_fours();
+    gather();
+    gather_racks();
+    checksum();
     must(guards_untouched(), "no byte beside a buffer is written");
     return 0;
 }

@@ -5,7 +5,7 @@
     tools/reading.py --check    fail where they are not current: a step of the gate
     tools/reading.py --names    print the definitions to believe, file by file
 
-They are the closure by name of what the contracts of the C boundary and the page of claims cite: each definition's lines in crates/*/specs, and once those of
+They are the closure by name of what the contracts of the C boundary and the pages of claims cite: each definition's lines in crates/*/specs, and once those of
 the module that it stands in, without blank lines, comments, imports and `unfolding` lines. Structs and enums of src/ are not counted.
 """
 import os
@@ -13,25 +13,29 @@ import re
 import sys
 
 from definitions import ROOT, file, imports, read, words
+from pages import PAGES, WORDS
 
 READING = os.path.join(ROOT, 'docs', 'READING.md')
-CLAIMS = 'crates/claims/specs/Claims.antt'
-BOUNDARY = ('field256', 'field257', 'images', 'sixteen')
+BOUNDARY = ('field256', 'field257', 'images', 'checksums', 'sixteen')
 LISTED = re.compile(r'^\| (\S+/specs/\S+\.antt) \| (.*) \| \d+ \| \d+ \|$')
 
 # the calls of the boundary by request: the first whose pattern a function's name has
-CALLS = [('W11', r'_box_'), ('W10', r'257'), ('W12', r'correct'), ('W13', r'card'), ('W9', r'')]
-# rows of READING.md in their order: what is added to the rows before, the calls' request, and the records of the page with the field that they are read over
+CALLS = [('records', r'^gesarumbo_(recover_correcting|test_kept|states|gather|gather_rack|checksum)$'), ('W11', r'_box_'), ('W10', r'257'), ('W12', r'correct'), ('W13', r'card'), ('W9', r'')]
+# rows of READING.md in their order: what is added to the rows before, the calls' request, and the records of the pages with the field that they are read over
 ROWS = [
     ('contracts', 'document 01 and W1 to W9', 'W9'),
     ('contracts', 'W12, the correcting repair', 'W12'),
     ('contracts', 'W13, cards', 'W13'),
+    ('contracts', 'from trays to records', 'records'),
     ('contracts', 'W10, all of these over the second field', 'W10'),
     ('contracts', 'W11, the box', 'W11'),
     ('claims', 'document 01 and W1 to W9', 'Demand1 Demand2 EachRepair Demand3 Document01 Requests'),
     ('claims', 'W12, the correcting repair', 'Correcting'),
     ('claims', 'W13, cards', 'Cards'),
     ('claims', 'W14, the least', 'Least'),
+    ('claims', 'W10, what a call looks at', 'Looks'),
+    ('claims', 'what C is handed', 'Handed Handed256'),
+    ('claims', 'from trays to records', 'TraysToRecords'),
     ('claims', 'one lost tray and one share by themselves, which follow', 'OneTray'),
     ('claims', 'the field of 256 and the bench book', 'Claims256'),
     ('claims', 'W10, the second field', 'Claims257'),
@@ -54,7 +58,7 @@ def contracts():
 
 def starts(kind, what):
     """Where a row's closure begins."""
-    return contracts()[what] if kind == 'contracts' else {(CLAIMS, name) for name in what.split()} | FIRST_FIELD
+    return contracts()[what] if kind == 'contracts' else {(path, name) for path in PAGES for name in what.split() if name in file(path).lines} | FIRST_FIELD
 
 
 def close(found, new):
@@ -88,7 +92,7 @@ def rows():
         before = counted(seen)
         close(seen, starts(kind, what))
         now = counted(seen)
-        page, was = now.pop(CLAIMS, 0), before.pop(CLAIMS, 0)
+        page, was = (sum(counts.pop(path, 0) for path in PAGES + [WORDS]) for counts in (now, before))
         lines = [sum(now.values()) - sum(before.values()), sum(now.values())] + ([page - was, page] if kind == 'claims' else [])
         out[kind, title] = ' | '.join('{:,}'.format(n) for n in lines)
         everything |= seen
@@ -104,7 +108,7 @@ def written(page):
     """The page with every count as it is now. A table of closures stands under a heading that has its kind in it."""
     closures, found = rows()
     lines, kind, out = counted(found), None, []
-    missing = set(lines) - {CLAIMS}
+    missing = set(lines) - set(PAGES) - {WORDS}
     for line in page.splitlines():
         if line.startswith('#'):
             kind = next((k for k in ('contracts', 'claims') if k in line), None)

@@ -22,4 +22,5 @@ pub mod Numbers
 pub mod Residue
 pub mod Locate
 pub mod Inverse
+pub mod Places
 pub mod Racks

@@ -1,6 +1,6 @@
--- THE THEOREMS: everything on the page (specs/Claims.antt) holds for every layout, over both fields, and of the box. Each line names what proves it.
+-- THE THEOREMS: everything on the page (specs/Claims.antt) holds for every layout, over both fields. Each line names what proves it.
 -- Assumes nothing.
-use mathlib.Core.Path.{_≡_, refl, sym, ap, subst, _∙_}
+use mathlib.Core.Path.{_≡_, refl, sym, ap, _∙_}
 use mathlib.Core.Bool.{true}
 use mathlib.Core.List.{List, [], _∷_}
 use Prim.Native.Nat.{ℕ, _*_, _<_}
@@ -17,10 +17,8 @@ use Rattle.symbol257.proofs.Working.{working as working-257}
 use Rattle.layout.specs.declared.Layout.{Layout}
 use Rattle.layout.specs.Layout.{digits, admissible, admissibleWith, Admissible, AdmissibleWith}
 use Rattle.layout.proofs.Facts.{admissible-facts, with-facts}
-use Rattle.layout.proofs.Numbers.{product-high, whole-low, parity-low, group-below}
-use Rattle.codeword.specs.declared.Tested.the-variants.{Sound}
+use Rattle.layout.proofs.Numbers.{product-high, whole-low, parity-low, digits-small, last-check, group-below}
 use Rattle.codeword.specs.Codeword.{shapeOf}
-use Rattle.codeword.specs.Test.{TestAnswer}
 use Rattle.codeword.proofs.Usable.{usable, solvable}
 use Rattle.codeword.proofs.Buffers.{points-distinct}
 use Rattle.codeword.proofs.Unique.{tested-unique}
@@ -29,9 +27,10 @@ use Rattle.store.proofs.Settled.{old-bytes-unread, answer-unique as stored-uniq
 use Rattle.recover.proofs.Settled.{never-looks, answer-unique as recovered-unique, eight-exactly, codeword-returns}
 use Rattle.rule.specs.Rule.{Helpers}
 use Rattle.rule.proofs.Instances.{rule-one-at}
+use Rattle.rule.proofs.Solutions.{solution-one}
 use Rattle.rule.proofs.Single.{one-loss, one-lost, lost-one}
 use Rattle.share.proofs.Weights.{weight-is}
-use Rattle.share.proofs.Feeds.{feeds-call, twice-cancels}
+use Rattle.share.proofs.Feeds.{feeds-call, twice-fed, twice-cancels}
 use Rattle.repair.specs.declared.Repaired.{Repaired}
 use Rattle.repair.specs.Repair.{RepairAnswer}
 use Rattle.repair.proofs.Unique.{repaired-unique}
@@ -58,23 +57,21 @@ use Rattle.margin.proofs.Range.{margin-range, margin-ends}
 use Rattle.scrub.proofs.Walks.{walked}
 use Rattle.scrub.proofs.Broken.{bad-broken, broken-bad}
 use Rattle.bench_book.proofs.Claim.{worked-examples}
-use Rattle.box_words.proofs.Words.{word-only}
-use Rattle.box_recover.proofs.Settled.{answer-unique as box-unique, data-unique, any-seven, data-any-seven, eight-exactly as box-eight, data-eight-exactly}
-use Rattle.box_repair.proofs.Tops.{tops-equal}
-use Rattle.box_repair.proofs.Exact.{share-unique, repair-unique, repair-exact}
-use Rattle.box_repair.proofs.Eight.{eight-exactly as differing-eight}
-use Rattle.box_repair.proofs.Examples.{worked-examples as box-examples}
-use Rattle.claims.specs.Claims.{Demand1, Demand2, EachRepair, Demand3, Document01, Requests, OneTray, Correcting, Cards, Least, Claims, Claims256, Claims257, Box}
+use Rattle.claims.specs.Looks.{Looks}
+use Rattle.claims.specs.Claims.{Demand1, Demand2, EachRepair, Demand3, Document01, Requests, OneTray, Correcting, Cards, Least, Claims, Claims256, Claims257}
 use Rattle.claims.proofs.Refused.{measure-is, test-grounds, share-refused, add-refused, many-refused, add-many-refused, repair-grounds, write-refused}
-use Rattle.claims.proofs.Refused.{read-refused, margin-refused, scrub-refused, reset-refused, part-refused, repair-other, many-other, add-many-other}
-use Rattle.claims.proofs.Refused.{part-other, print-other, card-other, by-card-other, correcting-other, box-refused}
-use Rattle.claims.proofs.Survivors.{erased-only, none-erased, stops}
-use Rattle.claims.proofs.Spares.{own-groups, reports, nothing, lost-unread, no-ground, same-group-of}
+use Rattle.claims.proofs.Refused.{read-refused, margin-is, scrub-refused, scrub-reports, reset-is, part-refused, repair-other, many-other, add-many-other}
+use Rattle.claims.proofs.Refused.{part-other, print-other, card-other, by-card-other, correcting-other}
+use Rattle.claims.proofs.Survivors.{erased-only, none-erased, sound-exactly, first-bad, stops}
+use Rattle.claims.proofs.Spares.{own-groups, reports, nothing, no-ground, same-group-of}
 use Rattle.claims.proofs.Words.{group-agrees, margin-live, of-store, of-spare, done-only, steps}
 use Rattle.claims.proofs.Points.{every-symbol, rack-sums, nought-written, nought-read}
-use Rattle.claims.proofs.Fed.{one-share, feeds-are, share-one, share-add-one, fed-once, fed-often, cancels}
+use Rattle.claims.proofs.Fed.{shares-are, feeds-are, share-one, share-add-one, fed-once, fed-often, cancels}
 use Rattle.claims.proofs.Corrected.{correcting-grounds, fourteen-exactly, printed-grounds, tested-exactly, by-card-exactly, as-the-repair}
-use Rattle.claims.proofs.Fields.{adds-256, adds-257, multiplies-257, sizes-of-256, sizes-of-257}
+use Rattle.claims.proofs.Fields.{adds-256, multiplies-256, low-powers-256, eighth-256, exactly-256, adds-257, multiplies-257, exactly-257}
+use Rattle.claims.proofs.Looks.{piece-looks, others-groups, card-looks, correcting-looks, walk-looks, test-looks, share-room, print-room, none-shared, none-fed, none-lost}
+use Rattle.claims.proofs.TraysToRecords.{trays-to-records}
+use Rattle.claims.proofs.Handed.{handed, handed-256}
 
 module _ {A : Type 0} {f : Field A} (W : Working f) (ed : Edition) (fit : Proper ed) (l : Layout) where
   -- an admissible layout, as facts
@@ -97,9 +94,9 @@ module _ {A : Type 0} {f : Field A} (W : Working f) (ed : Edition) (fit : Proper
     repair = repair-grounds f l;
     write = write-refused ed l;
     read = read-refused ed l;
-    margin = margin-refused (f .order) l;
+    margin = margin-is (f .order) l;
     scrub = scrub-refused f l;
-    reset = reset-refused (f .order) l;
+    reset = reset-is (f .order) l;
     read-part = part-refused (f .order) l;
     test-one = tested-unique f l;
     store-one = stored-unique f l;
@@ -120,8 +117,8 @@ module _ {A : Type 0} {f : Field A} (W : Working f) (ed : Edition) (fit : Proper
     erased-only = erased-only f l;
     old-unread = never-looks f l;
     none-erased = none-erased W l;
-    sound-exactly = λ c r p z. (λ e. (subst (λ y. TestAnswer f l c y) e p) .1, λ good. tested-unique f l c r Sound p (z, good));
-    first-bad = λ c j t p. p .1;
+    sound-exactly = λ c r p z. sound-exactly f l c z r p;
+    first-bad = λ c r p z. first-bad f l c z r p;
     stops = stops f l;
   }
 
@@ -132,7 +129,8 @@ module _ {A : Type 0} {f : Field A} (W : Working f) (ed : Edition) (fit : Proper
     own-groups = own-groups W l lost helpers shares host first budget old new r p;
     nothing = nothing W l lost helpers shares host first budget old new r p;
     no-ground = no-ground f l lost helpers shares host (length old) first budget;
-    lost-unread = λ host′ new′ long alike r′ q. lost-unread W l lost helpers shares host first budget old new host′ new′ long alike r r′ p q;
+    lost-unread = λ host′ new′ long alike r′ q.
+        piece-looks W l lost helpers shares shares host host′ first budget (others-groups l lost shares host host′ first _ long alike) old new new′ r r′ p q;
   }
 
   demand3 : AdmissibleWith (f .order) 0 l → Demand3 f l
@@ -147,13 +145,20 @@ module _ {A : Type 0} {f : Field A} (W : Working f) (ed : Edition) (fit : Proper
         );
     same-group = same-group-of W l;
     fixed = rule-one-at W l a;
+    one-solution = λ x helpers help p inside m sent one two s t. solution-one f l (solvable W l a) x helpers help p inside m sent one two s t;
   }
 
   document01 : Document01 f ed l
   document01 = record {
     field = W .field;
     every-symbol = every-symbol W;
-    room = λ t. let a = fit-so t in (omega (arith, product-high l (a .cabinet), W .room), whole-low l (a .cabinet), parity-low l (a .cabinet));
+    room = λ t. let a = fit-so t in (
+      omega (arith, product-high l (a .cabinet), W .room),
+      whole-low l (a .cabinet),
+      parity-low l (a .cabinet),
+      digits-small l (a .cabinet),
+      last-check l (a .cabinet),
+    );
     points-differ = λ t. points-distinct f l (usable W l (fit-so t));
     powers-differ = λ t. powers-apart (shapeOf f l) (usable W l (fit-so t) .fits);
     rack-sums = λ t. rack-sums f l (usable W l (fit-so t));
@@ -169,11 +174,12 @@ module _ {A : Type 0} {f : Field A} (W : Working f) (ed : Edition) (fit : Proper
   requests : Requests f ed l
   requests = record {
     weights = weight-is f l (W .field);
-    one-share = one-share W l;
+    shares-are = shares-are W l;
     nought-written = nought-written ed l;
     nought-read = nought-read ed fit l;
     looks = steps f l;
     walked = λ c w r. walked f l c (W .field);
+    reports = scrub-reports f l;
     bad-layer = λ c j. (
       λ e. let b = bad-broken f l c j e in (b .at, b .check-in, b .broken),
       λ w. broken-bad f l c j (W .field .coded) (record { at = w .0; check-in = w .1; broken = w .2 }),
@@ -243,6 +249,20 @@ module _ {A : Type 0} {f : Field A} (W : Working f) (ed : Edition) (fit : Proper
   least : AdmissibleWith (f .order) 0 l → (x : ℕ) (helpers : List ℕ) → Helpers l x helpers → Least f l x helpers
   least a x helpers help = record { truly-least = truly-least-at W l a x helpers help; messages-are = share-message f l (solvable W l a) x helpers help }
 
+  looks : Looks f l
+  looks = record {
+    test = test-looks f l;
+    piece = λ lost helpers shares shares′ host host′ first budget alike old new new′ r r′. piece-looks W l lost helpers shares shares′ host host′ first budget alike old new new′ r r′;
+    card = λ x helpers card shares shares′ host host′ group alike old new new′ r r′. card-looks W l x helpers card shares shares′ host host′ group alike old new new′ r r′;
+    correcting = correcting-looks W l;
+    walk = walk-looks f l;
+    share-room = share-room f l;
+    print-room = print-room W l;
+    none-shared = none-shared f l;
+    none-fed = none-fed f l;
+    none-lost = none-lost f l;
+  }
+
   -- over any field with what the code needs, and an edition of its images
   pub claims-at : (ed .order ≡ f .order) × (ed .size ≡ f .coding .size) → Claims f ed l
   claims-at same = record {
@@ -257,6 +277,9 @@ module _ {A : Type 0} {f : Field A} (W : Working f) (ed : Edition) (fit : Proper
     wrong-share = wrong-share;
     cards = cards;
     least = λ t. least (fit-with 0 t);
+    looks = looks;
+    handed = handed W l;
+    trays-to-records = trays-to-records W ed (record { order-is = same .0; size-is = same .1; proper = fit }) l looks;
   }
 
 pub claims-256 : (l : Layout) → Claims256 l
@@ -264,10 +287,15 @@ unfolding elem-256
 claims-256 l = record {
   claims = claims-at working-256 edition1 proper1 l (refl, refl);
   adds = adds-256;
+  multiplies = multiplies-256;
+  low-powers = low-powers-256;
+  eighth-power = eighth-256;
   root = (refl, refl, refl);
-  sizes = λ t. sizes-of-256 l (admissible-facts 255 l t);
-  fed-twice = twice-cancels l;
+  admissible-exactly = exactly-256 l;
+  fed-twice = twice-fed l;
+  fed-twice-many = twice-cancels l;
   cancels = cancels l;
+  image-handed = handed-256 l;
   other-edition = other-refused-both .0;
   bench-book = worked-examples;
 }
@@ -279,26 +307,6 @@ claims-257 l = record {
   adds = adds-257;
   multiplies = multiplies-257;
   root = (refl, refl, refl);
-  sizes = λ t. sizes-of-257 l (admissible-facts 256 l t);
+  admissible-exactly = exactly-257 l;
   other-edition = other-refused-both .1;
-}
-
-pub claims-box : Box
-claims-box = record {
-  store-refused = box-refused;
-  recover-grounds = λ es c d n p. (p .refused, p .unchanged);
-  recover-one = box-unique;
-  data-one = data-unique;
-  share-one = share-unique;
-  repair-grounds = λ lost hs shares rack old new r p. (p .answer, λ h. p .unchanged (λ e. h (sym (p .answer) ∙ e)));
-  repair-one = repair-unique;
-  words-differ = word-only;
-  any-seven = any-seven;
-  data-any-seven = data-any-seven;
-  eight-exactly = box-eight;
-  data-eight = data-eight-exactly;
-  tops-equal = tops-equal;
-  repair-exact = repair-exact;
-  repair-eight = differing-eight;
-  example-1 = box-examples;
 }

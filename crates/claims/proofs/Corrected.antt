@@ -25,7 +25,7 @@ use Rattle.correcting.proofs.Settled.{settled-not-none}
 use Rattle.card.specs.Card.{Right}
 use Rattle.cards.specs.Cards.{printGround, testGround, repairGround, PrintAnswer, Judged, CardAnswer}
 use Rattle.cards.proofs.Claims.{card-as-repair, card-exact}
-use Rattle.claims.specs.Claims.{Refuses, Grounded}
+use Rattle.claims.specs.Words.{Refuses, Grounded}
 
 positive : (n : ℕ) → Refuses n → 0 < n
 positive n h = elim (ℕ-discrete n 0) [

@@ -16,22 +16,21 @@ use Rattle.symbol.specs.Elem.{gf256}
 use Rattle.symbol.proofs.Working.{working as working-256}
 use Rattle.layout.specs.declared.Layout.{Layout}
 use Rattle.layout.specs.Layout.{groups}
-use Rattle.range.specs.Range.{symbolsFrom}
 use Rattle.rule.specs.Rule.{trayPart}
 use Rattle.share.specs.One.{shareRefusal, shareBuffer, addRefusal, addBuffer}
 use Rattle.share.specs.Many.{sharesRefusal, sharesBuffer, fedRefusal, manyRefusal, manyBuffer, addManyBuffer, fedBuffer, partAt}
 use Rattle.share.specs.Feeds.{count, odd, cleared, Feeds}
-use Rattle.share.proofs.Refusals.{Shareable, rack-shareable, symbols-range, one-refusal, one-add-refusal, buffer-done, many-plain, many-same, many-done, add-many-done}
+use Rattle.share.proofs.Refusals.{rack-shareable, symbols-range, one-refusal, one-add-refusal, buffer-done, many-done, add-many-done}
 use Rattle.share.proofs.Weights.{one-shares, one-buffer, one-add-buffer}
 use Rattle.share.proofs.Feeds.{feeds-sum, feeds-cancel}
 use Rattle.share.proofs.OneShare.{feeds-share}
 
 module _ {A : Type 0} {f : Field A} (W : Working f) (l : Layout) where
-  -- with e = 1 and E = 0 the call for e shares is the call for one
-  pub one-share : l .errors ≡ 0 → (h i : ℕ) (rack out : List ℕ) → (manyBuffer f l 1 h i rack out ≡ sharesBuffer f l 1 h i rack out)
-      × (manyRefusal f l 1 h i rack (length out) ≡ sharesRefusal f l 1 h i rack (length out))
-  one-share z h i rack out =
-      let p = many-done f l 1 h i rack out _ _ z refl refl in
+  -- with E = 0 the call for e shares is the one for either E
+  pub shares-are : l .errors ≡ 0 → (e h i : ℕ) (rack out : List ℕ) → (manyBuffer f l e h i rack out ≡ sharesBuffer f l e h i rack out)
+      × (manyRefusal f l e h i rack (length out) ≡ sharesRefusal f l e h i rack (length out))
+  shares-are z e h i rack out =
+      let p = many-done f l e h i rack out _ _ z refl refl in
       (sym (p .1), sym (p .0))
 
   -- a step of a list of feeds is what the calls leave
@@ -65,23 +64,18 @@ module _ {A : Type 0} {f : Field A} (W : Working f) (l : Layout) where
       places held feeds once
       ∙ sym (one-shares f l h rack) ∙ buffer-done f l 1 h i rack out q
 
-  -- what the call with e is given
-  shared : (e h i : ℕ) (rack out : List ℕ) → manyRefusal f l e h i rack (length out) ≡ 0 → Shareable (f .order) l e (l .size) h i (length rack) (length out)
-      (symbolsFrom f rack 0 (length rack))
-  shared e h i rack out z = rack-shareable W l e h i rack (length out) (many-same f l e h i rack out (many-plain f l e h i rack out z) ∙ z)
-
-  pub fed-often : (e h i : ℕ) (rack start : List ℕ) → manyRefusal f l e h i rack (length start) ≡ 0 → InRange (f .coding) start → (places held : List ℕ) →
+  pub fed-often : (e h i : ℕ) (rack start : List ℕ) → sharesRefusal f l e h i rack (length start) ≡ 0 → InRange (f .coding) start → (places held : List ℕ) →
       Feeds f l e h i rack start places held → held ≡ table (λ n. f .coding .val (f .ops .add (f .coding .elem (getD start n 0)) (sum (f .ops) (l .size)
       (λ g. sum (f .ops) (count g places) (λ k. partAt f l h (i * l .size + g) (trayPart l rack g) n))))) (e * groups l)
   fed-often e h i rack start z range places held feeds =
-      let p = shared e h i rack start z in
+      let p = rack-shareable W l e h i rack (length start) z in
       feeds-sum W l e (p .adm) h i (p .host-in) (p .helper-in) (p .some) (p .few) (p .differ) rack (p .long) (symbols-range f rack (p .symbols-so)) start
       (p .room-long) range places held feeds
 
-pub cancels : (l : Layout) (e h i : ℕ) (rack start : List ℕ) → manyRefusal gf256 l e h i rack (length start) ≡ 0 → InRange (gf256 .coding) start → (places held : List ℕ) →
+pub cancels : (l : Layout) (e h i : ℕ) (rack start : List ℕ) → sharesRefusal gf256 l e h i rack (length start) ≡ 0 → InRange (gf256 .coding) start → (places held : List ℕ) →
     Feeds gf256 l e h i rack start places held → held ≡ table (λ n. gf256 .coding .val (gf256 .ops .add (gf256 .coding .elem (getD start n 0)) (sum (gf256 .ops) (l .size)
     (λ g. choose (odd (count g places)) (partAt gf256 l h (i * l .size + g) (trayPart l rack g) n) (gf256 .ops .zero))))) (e * groups l)
 cancels l e h i rack start z range places held feeds =
-    let p = shared working-256 l e h i rack start z in
+    let p = rack-shareable working-256 l e h i rack (length start) z in
     feeds-cancel l e (p .adm) h i (p .host-in) (p .helper-in) (p .some) (p .few) (p .differ) rack (p .long) (symbols-range gf256 rack (p .symbols-so)) start
     (p .room-long) range places held feeds

@@ -6,4 +6,8 @@ pub mod Words
 pub mod Fed
 pub mod Fields
 pub mod Corrected
+pub mod Looks
+pub mod Handed
+pub mod TraysToRecords
 pub mod Claims
+pub mod Box

@@ -3,22 +3,19 @@
 use mathlib.Core.Path.{_≡_, refl, sym, ap, subst, _∙_}
 use mathlib.Core.Bool.{Bool, true, false, cond}
 use mathlib.Core.List.{List, []}
-use mathlib.Core.Logic.{_↔_, ⊎-elim}
 use Prim.Native.Nat.{ℕ}
-use native.Mathlib.Nat.{eq-zero-or-pos}
 use native.Mathlib.Omega.{arith}
-use borrow.Author.Tests.{ne-eqb}
-use lib.Dec.{eqb}
+use borrow.Author.Tests.{eq-eqb, ne-eqb}
+use lib.Dec.{eqb, ltb}
+use lib.IntN.{pos}
 use lib.ListN.{length}
 use Rattle.algebra.specs.Shape.{Field}
 use Rattle.layout.specs.declared.Layout.{Layout}
-use Rattle.layout.specs.declared.Measured.the-variants.{Known as Measures, Refused as NoMeasure}
 use Rattle.layout.specs.Layout.{checks, layers, traffic, admissible, admissibleWith, measured}
 use Rattle.layout.proofs.Facts.{with-other}
 use Rattle.codeword.specs.declared.Tested.{Tested}
-use Rattle.codeword.specs.declared.Tested.the-variants.{Refused as NoTest}
+use Rattle.codeword.specs.declared.Tested.the-variants.{Sound, Bad, Refused as NoTest}
 use Rattle.codeword.specs.Test.{testRefusal, TestAnswer}
-use Rattle.codeword.proofs.Unique.{tested-unique}
 use Rattle.share.specs.Many.{sharesRefusal, sharesBuffer, fedRefusal, fedBuffer, manyRefusal, manyBuffer, addManyRefusal, addManyBuffer}
 use Rattle.repair.specs.declared.Repaired.{Repaired}
 use Rattle.repair.specs.declared.Repaired.the-variants.{Done, Refused}
@@ -29,34 +26,43 @@ use Rattle.card.specs.Grounds.{cardGround}
 use Rattle.cards.specs.Cards.{printGround, testGround, repairGround}
 use Rattle.image.specs.declared.Edition.{Edition}
 use Rattle.image.specs.Image.{writeRefusal, writeBuffer, readRefusal, readTray, readSymbols}
-use Rattle.margin.specs.declared.LossMargin.the-variants.{Refused as NoMargin}
-use Rattle.margin.specs.Margin.{marginRefusal, marginAnswer}
+use Rattle.margin.specs.Margin.{marginOf, marginRefusal, marginAnswer}
 use Rattle.scrub.specs.declared.Walk.{Walk}
-use Rattle.scrub.specs.declared.Report.the-variants.{Refused as NoWalk}
-use Rattle.scrub.specs.Scrub.{scrubRefusal, scrubbed, begun}
-use Rattle.box_words.specs.Store.{storeRefusal as boxStoreRefusal, storeBuffer as boxStoreBuffer}
-use Rattle.claims.specs.Claims.{Refuses, Grounded}
+use Rattle.scrub.specs.declared.Report.the-variants.{Unfinished, Sound as WalkSound, Bad as WalkBad}
+use Rattle.scrub.specs.Scrub.{scrubRefusal, reported, scrubbed, begun}
+use Rattle.gesarumbo.specs.Boundary.{measureNumbers, testNumbers, marginNumbers, reportNumbers, scrubNumbers}
+use Rattle.claims.specs.Words.{Refuses, Grounded}
 
 -- with a refusal the second of two outcomes is taken
 refused : {A : Type 0} (n : ℕ) (a b : A) → Refuses n → cond (eqb n 0) a b ≡ b
 refused n a b h = ap (λ t. cond t a b) (ne-eqb n 0 h)
+
+done : {A : Type 0} (n : ℕ) (a b : A) → n ≡ 0 → cond (eqb n 0) a b ≡ a
+done n a b z = ap (λ t. cond t a b) (eq-eqb n 0 z)
+
+taken : {A : Type 0} (t : Bool) (a b : A) → t ≡ true → cond t a b ≡ a
+taken t a b e = ap (λ s. cond s a b) e
 
 not-taken : {A : Type 0} (t : Bool) (a b : A) → ¬ (t ≡ true) → cond t a b ≡ b
 not-taken true a b h = absurd (h refl)
 not-taken false a b h = refl
 
 module _ (N : ℕ) (l : Layout) where
-  pub measure-is : measured N l ≡ cond (admissible N l) (Measures (layers l) (checks l) (traffic l)) (NoMeasure 1)
+  pub measure-is : (admissible N l ≡ true → measureNumbers (measured N l) ≡ record { refusal = 0; layers = layers l; checks = checks l; traffic = traffic l })
+      × (¬ (admissible N l ≡ true) → measureNumbers (measured N l) ≡ record { refusal = 1; layers = 0; checks = 0; traffic = 0 })
   unfolding measured
-  measure-is = refl
+  measure-is = (λ t. ap measureNumbers (taken (admissible N l) _ _ t), λ h. ap measureNumbers (not-taken (admissible N l) _ _ h))
 
-  pub margin-refused : (states : List ℕ) → Refuses (marginRefusal N l states) → marginAnswer N l states ≡ NoMargin (marginRefusal N l states)
+  pub margin-is : (states : List ℕ) →
+      (Refuses (marginRefusal N l states) → marginNumbers (marginAnswer N l states) ≡ record { refusal = marginRefusal N l states; margin = pos 0 })
+      × (marginRefusal N l states ≡ 0 → marginNumbers (marginAnswer N l states) ≡ record { refusal = 0; margin = marginOf l states })
   unfolding marginAnswer
-  margin-refused states h = refused _ _ _ h
+  margin-is states = (λ h. ap marginNumbers (refused _ _ _ h), λ z. ap marginNumbers (done _ _ _ z))
 
-  pub reset-refused : (w : Walk) → ¬ (admissible N l ≡ true) → begun N l w ≡ record { report = NoWalk 1; walk = w }
+  pub reset-is : (w : Walk) → (¬ (admissible N l ≡ true) → scrubNumbers (begun N l w) ≡ record { refusal = 1; report = 0; walk = w })
+      × (admissible N l ≡ true → scrubNumbers (begun N l w) ≡ record { refusal = 0; report = 0; walk = record { next = 0; bad = 0; first = layers l } })
   unfolding begun
-  reset-refused w h = not-taken (admissible N l) _ _ h
+  reset-is w = (λ h. ap scrubNumbers (not-taken (admissible N l) _ _ h), λ t. ap scrubNumbers (taken (admissible N l) _ _ t))
 
   pub part-refused : (codeword spare : List ℕ) (lost done tray first end : ℕ) →
       Refuses (partRefusal N l (length codeword) (length spare) lost done tray first end) →
@@ -65,11 +71,11 @@ module _ (N : ℕ) (l : Layout) where
   part-refused codeword spare lost done tray first end h = refused _ _ _ h
 
 module _ {A : Type 0} (f : Field A) (l : Layout) where
-  pub test-grounds : (c : List ℕ) (r : Tested) → TestAnswer f l c r → (n : ℕ) → (r ≡ NoTest n) ↔ ((n ≡ testRefusal f l c) × Refuses n)
-  test-grounds c r p n = (
-    λ q. let t : TestAnswer f l c (NoTest n) = subst (λ y. TestAnswer f l c y) q p in (t .0, λ z. omega (arith, t .1, z)),
-    λ w. tested-unique f l c r (NoTest n) p (w .0, ⊎-elim (λ z. absurd (w .1 z)) (λ h. h) (eq-zero-or-pos n)),
-  )
+  pub test-grounds : (c : List ℕ) (r : Tested) → TestAnswer f l c r → (testNumbers r .refusal ≡ testRefusal f l c)
+      × (Refuses (testRefusal f l c) → testNumbers r ≡ record { refusal = testRefusal f l c; verdict = 0; layer = 0; check = 0 })
+  test-grounds c Sound p = (sym (p .0), λ h. absurd (h (p .0)))
+  test-grounds c (Bad j t) p = (sym (p .0), λ h. absurd (h (p .0)))
+  test-grounds c (NoTest e) p = (p .0, λ h i. record { refusal = p .0 i; verdict = 0; layer = 0; check = 0 })
 
   pub share-refused : (host helper : ℕ) (rack out : List ℕ) → Refuses (sharesRefusal f l 1 host helper rack (length out)) → sharesBuffer f l 1 host helper rack out ≡ out
   unfolding sharesBuffer
@@ -96,9 +102,29 @@ module _ {A : Type 0} (f : Field A) (l : Layout) where
     repair-grounds (Refused e) p = ((p .0, λ h. p .2), λ h i. record { refusal = p .0 i; groups = 0; crossed = 0; remaining = 0 })
 
   pub scrub-refused : (c : List ℕ) (w : Walk) (budget : ℕ) → Refuses (scrubRefusal f l c w budget) →
-      scrubbed f l c w budget ≡ record { report = NoWalk (scrubRefusal f l c w budget); walk = w }
+      scrubNumbers (scrubbed f l c w budget) ≡ record { refusal = scrubRefusal f l c w budget; report = 0; walk = w }
   unfolding scrubbed
-  scrub-refused c w budget h = refused _ _ _ h
+  scrub-refused c w budget h = ap scrubNumbers (refused _ _ _ h)
+
+  -- the report of a call of a walk that is done
+  numbers-of : (w : Walk) → (scrubNumbers (reported (layers l) w) .refusal ≡ 0)
+      × (scrubNumbers (reported (layers l) w) .report ≡ cond (ltb (scrubNumbers (reported (layers l) w) .walk .next) (layers l)) 1
+      (cond (eqb (scrubNumbers (reported (layers l) w) .walk .bad) 0) 2 3))
+  unfolding reported
+  numbers-of w = go (ltb (w .next) (layers l)) (eqb (w .bad) 0)
+    where
+      go : (s t : Bool) → (reportNumbers (cond s Unfinished (cond t WalkSound WalkBad)) .refusal ≡ 0)
+          × (reportNumbers (cond s Unfinished (cond t WalkSound WalkBad)) .report ≡ cond s 1 (cond t 2 3))
+      go true t = (refl, refl)
+      go false true = (refl, refl)
+      go false false = (refl, refl)
+
+  pub scrub-reports : (c : List ℕ) (w : Walk) (budget : ℕ) → scrubRefusal f l c w budget ≡ 0 →
+      (scrubNumbers (scrubbed f l c w budget) .refusal ≡ 0)
+      × (scrubNumbers (scrubbed f l c w budget) .report ≡ cond (ltb (scrubNumbers (scrubbed f l c w budget) .walk .next) (layers l)) 1
+      (cond (eqb (scrubNumbers (scrubbed f l c w budget) .walk .bad) 0) 2 3))
+  unfolding scrubbed
+  scrub-reports c w budget z = rw (done (scrubRefusal f l c w budget) _ _ z) (numbers-of _)
 
   -- with E = 1 the calls that are for E = 0 answer 1
   module _ (d : ¬ (l .errors ≡ 0)) where
@@ -148,8 +174,3 @@ module _ (ed : Edition) (l : Layout) where
       (readTray ed l volume places image ≡ 0) × (readSymbols ed l volume places given image ≡ given)
   unfolding readTray readSymbols
   read-refused volume places given image h = (refused _ _ _ h, refused _ _ _ h)
-
--- storing in the box
-pub box-refused : (given out : List ℕ) → Refuses (boxStoreRefusal given (length out)) → boxStoreBuffer given out ≡ out
-unfolding boxStoreBuffer
-box-refused given out h = refused _ _ _ h

@@ -36,7 +36,6 @@ use Rattle.repair.specs.Repair.{repairRefusal, report, RepairDone, RepairAnswer
 use Rattle.repair.proofs.Refusals.{repairable}
 use Rattle.repair.proofs.Pieces.{kept-at}
 use Rattle.repair.proofs.Cutting.{same-group}
-use Rattle.claims.specs.Claims.{OthersAlike}
 
 module _ {A : Type 0} {f : Field A} (W : Working f) (l : Layout) (lost helpers shares host : List ℕ) (first budget : ℕ) (old new : List ℕ) where
   -- a call writes its own groups' layers only
@@ -71,76 +70,6 @@ module _ {A : Type 0} {f : Field A} (W : Working f) (l : Layout) (lost helpers s
       × (report r .remaining ≡ length lost * (l .helpers * (groups l - (first + report r .groups))))
   reports (Done g c t) p z = (p .done-is, p .crossed-is, p .remaining-is)
   reports (Refused e) p z = absurd (omega (arith, p .1, z))
-
-  module _ (host′ new′ : List ℕ) (long : length host ≡ length host′) (alike : OthersAlike l lost host host′) where
-    abbrev h : ℕ
-    h = firstLost l lost / l .size
-
-    abbrev n : ℕ
-    n = min budget (groups l - first)
-
-    sound : Losses l lost helpers → (j : ℕ) → j < layers l → SoundAlike f l lost j host host′
-    unfolding symbolAt lostPlace
-    sound given j hj g hg out =
-        ap (f .coding .elem) (alike g j hg hj (sym (absent-true lost (h * l .size + g) (λ k hk e. out k hk (sym (ap (λ y. y % l .size) e ∙ digits-mod h hg))))))
-
-    -- two pieces of the same groups over the same spare write the same, where the host racks are alike in the sound trays
-    same-piece : Solvable f l → Losses l lost helpers → (g : ℕ) → first + g ≤ groups l → length old ≡ length lost * layers l →
-        Piece f l lost helpers shares host first g old new → Piece f l lost helpers shares host′ first g old new′ → new ≡ new′
-    same-piece ok given g within old-long a b =
-        ext-getD 0 new new′ (a .long ∙ sym (b .long))
-        (λ n hn. kept-at (length lost) (layers l) (layers-pos f l (ok .usable)) n new′ new (omega (arith, hn, a .long, old-long))
-        (λ i hi j hj _. at i hi j hj (groupAt l (firstLost l lost) j) refl))
-      where
-        at : (i : ℕ) → i < length lost → (j : ℕ) → j < layers l → (p : ℕ) → groupAt l (firstLost l lost) j ≡ p →
-            getD new (i * layers l + j) 0 ≡ getD new′ (i * layers l + j) 0
-        at i hi j hj p e = elim (decLe first p) [
-          | yes low ↦ elim (decLt p (first + g)) [
-            | yes high ↦ ruled-same f l ok lost helpers given p (omega arith) shares shares host host′ new new′ (a .done p low high) (b .done p low high) (λ m k hm hk. refl)
-                (λ q hq d. sound given q hq) i hi j hj e
-            | no high ↦ a .kept i hi j hj (λ w. high (omega arith)) ∙ sym (b .kept i hi j hj (λ w. high (omega arith)))
-          ]
-          | no low ↦ a .kept i hi j hj (λ w. low (omega arith)) ∙ sym (b .kept i hi j hj (λ w. low (omega arith)))
-        ]
-
-    both-done : (g c t g′ c′ t′ : ℕ) → RepairDone f l lost helpers shares host first budget old new (report (Done g c t)) →
-        RepairDone f l lost helpers shares host′ first budget old new′ (report (Done g′ c′ t′)) → (Done g c t ≡ Done g′ c′ t′) × (new ≡ new′)
-    both-done g c t g′ c′ t′ a b =
-        let made = repairable f l lost helpers shares host (length old) first budget (a .accepted) in
-        let groups-same : g ≡ g′ = a .done-is ∙ sym (b .done-is) in
-        let crossed-same : c ≡ c′ = a .crossed-is ∙ ap (λ n. length lost * (l .helpers * n)) groups-same ∙ sym (b .crossed-is) in
-        let toCome-same : t ≡ t′ = a .remaining-is ∙ ap (λ n. length lost * (l .helpers * (groups l - (first + n)))) groups-same ∙ sym (b .remaining-is) in (
-          (λ i. Done (groups-same i) (crossed-same i) (toCome-same i)),
-          same-piece (solvable W l (made .adm)) (made .losses) g (omega (arith, a .done-is, made .first-in)) (made .spare-long) (a .piece) (rw groups-same (b .piece)),
-        )
-
-    -- the symbols that are looked at are the same
-    layer-same : (g j : ℕ) → g < l .size → j < layers l → absent lost (h * l .size + g) ≡ true → layerSymbol f l h host first n g j ≡ layerSymbol f l h host′ first n g j
-    unfolding layerSymbol symbolsFrom all
-    layer-same g j hg hj a = ap (λ y. cond (leb first (groupOf (digits l) h j) && ltb (groupOf (digits l) h j) (first + n)) (ltb y (f .coding .size)) true)
-        (ap (λ k. getD host k 0) (omega arith) ∙ alike g j hg hj a ∙ ap (λ k. getD host′ k 0) (omega arith))
-
-    tray-same : (g : ℕ) → g < l .size → (t : Bool) → absent lost (h * l .size + g) ≡ t →
-        cond t (all (layerSymbol f l h host first n g) (layers l)) true ≡ cond t (all (layerSymbol f l h host′ first n g) (layers l)) true
-    tray-same g hg true a = all-same _ _ (layers l) (λ j hj. layer-same g j hg hj a)
-    tray-same g hg false a = refl
-
-    seen-same : pieceSymbols f l lost shares host first budget ≡ pieceSymbols f l lost shares host′ first budget
-    unfolding pieceSymbols soundSymbols
-    seen-same = ap (λ t. cond (eqb (length lost) 0) true (symbolRows f shares (length lost * l .helpers) (groups l) first n && t))
-        (all-same _ _ (l .size) (λ g hg. tray-same g hg (absent lost (h * l .size + g)) refl))
-
-    same-ground : repairRefusal f l lost helpers shares host (length old) first budget ≡ repairRefusal f l lost helpers shares host′ (length old) first budget
-    unfolding repairRefusal
-    same-ground = simp (long, seen-same)
-
-    -- two calls alike but for the bytes of the lost trays in the host rack answer the same and leave the same spare
-    pub lost-unread : (r r′ : Repaired) → RepairAnswer f l lost helpers shares host first budget old new r →
-        RepairAnswer f l lost helpers shares host′ first budget old new′ r′ → (r ≡ r′) × (new ≡ new′)
-    lost-unread (Done g c t) (Done g′ c′ t′) p q = both-done g c t g′ c′ t′ p q
-    lost-unread (Done g c t) (Refused e) p q = absurd (omega (arith, p .accepted, same-ground, q .0, q .1))
-    lost-unread (Refused e) (Done g c t) p q = absurd (omega (arith, q .accepted, same-ground, p .0, p .1))
-    lost-unread (Refused e) (Refused e′) p q = (ap Refused (p .0 ∙ same-ground ∙ sym (q .0)), p .2 ∙ sym (q .2))
 
 -- two calls that both do a group, alike in what they are given of it, write the same there: a refused one does none
 module _ {A : Type 0} {f : Field A} (W : Working f) (l : Layout) (lost helpers shares host shares′ host′ : List ℕ) (first budget first′ budget′ : ℕ) (old new old′ new′ : List ℕ) where

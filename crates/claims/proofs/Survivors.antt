@@ -27,9 +27,9 @@ use Rattle.layout.specs.Layout.{trays, checks, layers, admissible, Admissible}
 use Rattle.range.specs.Range.{symbolsFrom}
 use Rattle.range.proofs.Symbols.{symbols-true, symbols-all}
 use Rattle.codeword.specs.declared.Tested.{Tested}
-use Rattle.codeword.specs.declared.Tested.the-variants.{Bad}
+use Rattle.codeword.specs.declared.Tested.the-variants.{Sound, Bad, Refused}
 use Rattle.codeword.specs.Codeword.{symbolAt, pointAt, checkAt, Codeword, Usable}
-use Rattle.codeword.specs.Test.{testRefusal, TestAnswer}
+use Rattle.codeword.specs.Test.{testRefusal, FirstBad, TestAnswer}
 use Rattle.codeword.proofs.Usable.{usable}
 use Rattle.codeword.proofs.Buffers.{layers-pos}
 use Rattle.codeword.proofs.Unique.{tested-unique}
@@ -38,7 +38,8 @@ use Rattle.seen.proofs.Groups.{same-test}
 use Rattle.recover.specs.Recover.{keptSymbols, recoverRefusal, Survivors, RecoverAnswer}
 use Rattle.recover.proofs.Grounds.{recoverable}
 use Rattle.repair.proofs.Pieces.{kept-at}
-use Rattle.claims.specs.Claims.{LayerAlike}
+use Rattle.gesarumbo.specs.Boundary.{testNumbers}
+use Rattle.claims.specs.Words.{LayerAlike}
 
 module _ {A : Type 0} (f : Field A) (l : Layout) where
   itself : (es c : List ℕ) → Survivors l es c c
@@ -91,15 +92,27 @@ module _ {A : Type 0} (f : Field A) (l : Layout) where
       ext-getD 0 d c (s .long) (λ n h.
       kept-at (trays l) (layers l) (layers-pos f l ok) n c d (omega (arith, h, s .long, long)) (λ x hx j hj _. s .same x j hx hj (λ k hk. absurd (omega arith))))
 
-  -- a check of a layer hangs on that layer alone
-  check-layer : (c d : List ℕ) (i t : ℕ) → LayerAlike l c d i → checkAt f l c i t ≡ checkAt f l d i t
+  -- a check of a layer depends on that layer alone
+  pub check-layer : (c d : List ℕ) (i t : ℕ) → LayerAlike l c d i → checkAt f l c i t ≡ checkAt f l d i t
   unfolding checkAt check symbolAt
   check-layer c d i t same = sum-congr (f .ops) (trays l) _ _ (λ x h. ap (λ y. f .ops .mul (pow (f .ops) (pointAt f l i x) t) (f .coding .elem y)) (same x h))
 
+  -- what a test that is not refused says, by its numbers
+  module _ (c : List ℕ) (z : testRefusal f l c ≡ 0) where
+    pub sound-exactly : (r : Tested) → TestAnswer f l c r → (testNumbers r .verdict ≡ 1) ↔ Codeword f l c
+    sound-exactly Sound p = (λ e. p .1, λ good. refl)
+    sound-exactly (Bad j t) p = (λ e. absurd (omega (arith, e)), λ good. absurd (p .1 .broken (good .holds (j .0) (p .1 .layer-in) t (p .1 .check-in))))
+    sound-exactly (Refused e) p = absurd (omega (arith, p .0, p .1, z))
+
+    pub first-bad : (r : Tested) → TestAnswer f l c r → (testNumbers r .verdict ≡ 2) ↔ FirstBad f l c (testNumbers r .layer) (testNumbers r .check)
+    first-bad Sound p = (λ e. absurd (omega (arith, e)), λ bad. absurd (bad .broken (p .1 .holds 0 (bad .layer-in) 0 (bad .check-in))))
+    first-bad (Bad j t) p = (λ e. p .1, λ bad. refl)
+    first-bad (Refused e) p = absurd (omega (arith, p .0, p .1, z))
+
   -- an answer that names layer j is that of every buffer alike in the layers 0 .. j that is not refused
-  pub stops : (c c′ : List ℕ) (j : Layer) (t : ℕ) → TestAnswer f l c (Bad j t) → testRefusal f l c′ ≡ 0 →
+  same-bad : (c c′ : List ℕ) (j : Layer) (t : ℕ) → TestAnswer f l c (Bad j t) → testRefusal f l c′ ≡ 0 →
       ((i : ℕ) → i ≤ j .0 → LayerAlike l c c′ i) → (r : Tested) → TestAnswer f l c′ r → r ≡ Bad j t
-  stops c c′ j t p z same r q =
+  same-bad c c′ j t p z same r q =
       tested-unique f l c′ r (Bad j t) q (
         z,
         record {
@@ -110,6 +123,12 @@ module _ {A : Type 0} (f : Field A) (l : Layout) where
           earlier-checks = λ v h. sym (check-layer c c′ (j .0) v (same (j .0) (omega arith))) ∙ p .1 .earlier-checks v h;
         },
       )
+
+  pub stops : (c c′ : List ℕ) (r r′ : Tested) → TestAnswer f l c r → testNumbers r .verdict ≡ 2 → testRefusal f l c′ ≡ 0 →
+      ((i : ℕ) → i ≤ testNumbers r .layer → LayerAlike l c c′ i) → TestAnswer f l c′ r′ → testNumbers r′ ≡ testNumbers r
+  stops c c′ Sound r′ p e z same q = absurd (omega (arith, e))
+  stops c c′ (Bad j t) r′ p e z same q = ap testNumbers (same-bad c c′ j t p z same r′ q)
+  stops c c′ (Refused n) r′ p e z same q = absurd (omega (arith, e))
 
 module _ {A : Type 0} {f : Field A} (W : Working f) (l : Layout) where
   pub none-erased : (c d : List ℕ) (n : ℕ) → RecoverAnswer f l [] c d n →

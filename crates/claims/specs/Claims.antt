@@ -1,18 +1,20 @@
 -- Everything that the library promises, in the documents' order and words, about the calls' own contracts. READ THIS FIRST, then down only as far as you doubt.
 -- What holds in both fields is claimed once, over any field f and the edition ed of its images; `claims-256` proves it for the field of 256 with edition 1,
--- `claims-257` for the whole numbers modulo 257 with edition 2, both for every layout, and `claims-box` what is claimed of the sixteen-tray box
--- (proofs/Claims.antt). A sentence of the demands, of document 01 or of a request stands in quotes above what it says of the product.
+-- `claims-257` for the whole numbers modulo 257 with edition 2, both for every layout (proofs/Claims.antt). Beside this page, and cited by it: Looks.antt, what a call
+-- looks at, and Boundary.antt, what C is handed; Box.antt is the page of the sixteen-tray box. A sentence of the demands, of document 01 or of a request stands in quotes
+-- above what it says of the product. An answer that is an enum is spoken of by its numbers (`measureNumbers`, `testNumbers`, `report` and the others).
 -- Assumes nothing.
 use mathlib.Core.Path.{_≡_}
 use mathlib.Core.Bool.{true, cond}
 use mathlib.Core.List.{List, [], _∷_}
 use mathlib.Core.Logic.{_↔_, _⊎_}
-use Prim.Native.Nat.{ℕ, _+_, _-_, _*_, _/_, _%_, _≤_, _<_, min}
+use Prim.Native.Nat.{ℕ, _+_, _-_, _*_, _/_, _%_, _^_, _≤_, _<_, min}
 use lib.Bits.{bitXor}
+use lib.Dec.{eqb, ltb}
 use lib.IntN.{pos, negℤ, _-ℤ_}
 use lib.ListN.{length, getD, take, drop, replicate}
 use lib.Signed.{_≤ℤ_}
-use Rattle.lists.specs.Lists.{table, absent, allBelow, strictlyRising}
+use Rattle.lists.specs.Lists.{table}
 use Rattle.algebra.specs.Sum.{sum, pow}
 use Rattle.algebra.specs.Coding.{InRange}
 use Rattle.algebra.specs.Shape.{Field, FieldLaws}
@@ -20,14 +22,13 @@ use Rattle.algebra.specs.Lagrange.{Distinct, check}
 use Rattle.algebra.specs.Erasure.{choose}
 use Rattle.algebra.specs.Points.{point, place}
 use Rattle.algebra.specs.Layers.{digit, groupOf}
+use Rattle.algebra.specs.Cabinet.{groupSum, Solution}
+use Rattle.symbol.specs.Arithmetic.{_⊗_}
 use Rattle.symbol.specs.Elem.{gf256}
 use Rattle.symbol257.specs.Elem.{gf257}
 use Rattle.layout.specs.declared.Layout.{Layout}
-use Rattle.layout.specs.declared.Layer.{Layer}
-use Rattle.layout.specs.declared.Measured.the-variants.{Known as Measures, Refused as NoMeasure}
-use Rattle.layout.specs.Layout.{trays, wholeRacks, parityRacks, checks, digits, layers, groups, traffic, admissible, admissibleWith, measured}
+use Rattle.layout.specs.Layout.{trays, wholeRacks, parityRacks, checks, digits, layers, groups, traffic, admissible, admissibleWith, measured, Cabinet}
 use Rattle.codeword.specs.declared.Tested.{Tested}
-use Rattle.codeword.specs.declared.Tested.the-variants.{Sound, Bad, Refused as NoTest}
 use Rattle.codeword.specs.Codeword.{shapeOf, symbolAt, pointAt, checkAt, Codeword}
 use Rattle.codeword.specs.Test.{testRefusal, FirstBad, TestAnswer}
 use Rattle.store.specs.Store.{storeRefusal, Begins, Stores, StoreAnswer}
@@ -54,46 +55,27 @@ use Rattle.least.specs.Least.{message, sharing, TrulyLeast}
 use Rattle.image.specs.declared.Edition.{Edition}
 use Rattle.image.specs.Image.{imageLength, demonstration, edition1, edition2, ownState, ownVolume, wellFormed, writeRefusal, writeBuffer, readRefusal, readTray, readSymbols}
 use Rattle.image.specs.Claims.{LiveOnly, DemonstrationRefused, AcceptedExactly, FormedExactly, OtherRefused}
-use Rattle.margin.specs.declared.LossMargin.the-variants.{Refused as NoMargin}
 use Rattle.margin.specs.Margin.{marginOf, marginRefusal, marginAnswer}
 use Rattle.scrub.specs.declared.Walk.{Walk}
 use Rattle.scrub.specs.declared.Report.{Report}
-use Rattle.scrub.specs.declared.Report.the-variants.{Refused as NoWalk}
 use Rattle.scrub.specs.Scrub.{badLayer, scrubRefusal, scrubbed, begun}
 use Rattle.scrub.specs.Calls.{Calls as Walks, Walked}
+use Rattle.gesarumbo.specs.Boundary.{measureNumbers, testNumbers, marginNumbers, scrubNumbers}
 use Rattle.bench_book.specs.Table.{AllHold, benchBook}
-use Rattle.box_words.specs.Box.{Data, Word, wordOf}
-use Rattle.box_words.specs.Store.{storeRefusal as boxStoreRefusal, storeBuffer as boxStoreBuffer}
-use Rattle.box_recover.specs.Recover.{recoverRefusal as boxRecoverRefusal, dataRefusal, Survivors as BoxSurvivors, RecoverAnswer as BoxRecoverAnswer, DataAnswer}
-use Rattle.box_repair.specs.declared.Repaired.{Repaired as BoxRepaired}
-use Rattle.box_repair.specs.Share.{rackOf, Top, ShareAnswer}
-use Rattle.box_repair.specs.Repair.{repairRefusal as boxRepairRefusal, RepairAnswer as BoxRepairAnswer, Sent}
-use Rattle.box_repair.specs.Examples.{AllHold as AllExamplesHold, examples}
-
--- a call that is refused: where the first ground that applies is not 0
-abbrev pub Refuses : ℕ → Type 0
-Refuses ground = ¬ (ground ≡ 0)
-
--- a call that answers `number` and turns the buffer old into new: the number is the first ground that applies, 0 for none, and a refusal changes no symbol
-abbrev pub Grounded : ℕ → ℕ → List ℕ → List ℕ → Type 0
-Grounded ground number old new = (number ≡ ground) × (Refuses ground → new ≡ old)
-
--- two buffers of the layout are alike in layer i
-abbrev pub LayerAlike : Layout → List ℕ → List ℕ → ℕ → Type 0
-LayerAlike l c d i = (x : ℕ) → x < trays l → getD c (x * layers l + i) 0 ≡ getD d (x * layers l + i) 0
-
--- two host racks are alike in the trays that are not listed as lost
-abbrev pub OthersAlike : Layout → List ℕ → List ℕ → List ℕ → Type 0
-OthersAlike l lost host host′ =
-    (g j : ℕ) → g < l .size → j < layers l → absent lost (firstLost l lost / l .size * l .size + g) ≡ true → getD host (g * layers l + j) 0 ≡ getD host′ (g * layers l + j) 0
+use Rattle.claims.specs.Words.{Refuses, Grounded, LayerAlike, OthersAlike}
+use Rattle.claims.specs.Looks.{Looks}
+use Rattle.claims.specs.TraysToRecords.{TraysToRecords}
+use Rattle.claims.specs.Boundary.{Handed, Handed256}
 
 -- DEMAND 1. "Whatever layout, list, image or buffer arrives, every call ends with an answer": the checker proves it of each function, and no public call has a
 -- `requires`. "The grounds of refusal are those numbered in document 01, each given exactly when it is the first that applies; a refusal returns its number and
 -- changes no byte of any buffer it was lent": a call's grounds, in their order, are one definition, ..Refusal, which the call answers; every other number is
 -- then zero, every part empty and every buffer as it was. (h is the host rack, i the helper, x the tray fed.)
 pub record Demand1 {A : Type 0} (f : Field A) (ed : Edition) (l : Layout) : Type 0 where
-  pub measure : measured (f .order) l ≡ cond (admissible (f .order) l) (Measures (layers l) (checks l) (traffic l)) (NoMeasure 1)
-  pub test : (c : List ℕ) (r : Tested) → TestAnswer f l c r → (n : ℕ) → (r ≡ NoTest n) ↔ ((n ≡ testRefusal f l c) × Refuses n)
+  pub measure : (admissible (f .order) l ≡ true → measureNumbers (measured (f .order) l) ≡ record { refusal = 0; layers = layers l; checks = checks l; traffic = traffic l })
+      × (¬ (admissible (f .order) l ≡ true) → measureNumbers (measured (f .order) l) ≡ record { refusal = 1; layers = 0; checks = 0; traffic = 0 })
+  pub test : (c : List ℕ) (r : Tested) → TestAnswer f l c r → (testNumbers r .refusal ≡ testRefusal f l c)
+      × (Refuses (testRefusal f l c) → testNumbers r ≡ record { refusal = testRefusal f l c; verdict = 0; layer = 0; check = 0 })
   pub store : (given c d : List ℕ) (n : ℕ) → StoreAnswer f l given c d n → Grounded (storeRefusal f l given (length c)) n c d
   pub recover : (es c d : List ℕ) (n : ℕ) → RecoverAnswer f l es c d n → (Refuses (recoverRefusal f l es c) → n ≡ recoverRefusal f l es c) × (Refuses n → d ≡ c)
   pub share : (h i : ℕ) (rack out : List ℕ) → Refuses (sharesRefusal f l 1 h i rack (length out)) → sharesBuffer f l 1 h i rack out ≡ out
@@ -109,10 +91,13 @@ pub record Demand1 {A : Type 0} (f : Field A) (ed : Edition) (l : Layout) : Type
   -- what was refused is an empty part in edition 1, and in edition 2 the lent places as they were
   pub read : (volume places : ℕ) (refused image : List ℕ) → Refuses (readRefusal ed l volume places image) →
       (readTray ed l volume places image ≡ 0) × (readSymbols ed l volume places refused image ≡ refused)
-  pub margin : (states : List ℕ) → Refuses (marginRefusal (f .order) l states) → marginAnswer (f .order) l states ≡ NoMargin (marginRefusal (f .order) l states)
-  pub reset : (w : Walk) → ¬ (admissible (f .order) l ≡ true) → begun (f .order) l w ≡ record { report = NoWalk 1; walk = w }
+  pub margin : (states : List ℕ) → let ground = marginRefusal (f .order) l states in
+      (Refuses ground → marginNumbers (marginAnswer (f .order) l states) ≡ record { refusal = ground; margin = pos 0 })
+      × (ground ≡ 0 → marginNumbers (marginAnswer (f .order) l states) ≡ record { refusal = 0; margin = marginOf l states })
+  pub reset : (w : Walk) → (¬ (admissible (f .order) l ≡ true) → scrubNumbers (begun (f .order) l w) ≡ record { refusal = 1; report = 0; walk = w })
+      × (admissible (f .order) l ≡ true → scrubNumbers (begun (f .order) l w) ≡ record { refusal = 0; report = 0; walk = record { next = 0; bad = 0; first = layers l } })
   pub scrub : (c : List ℕ) (w : Walk) (budget : ℕ) → Refuses (scrubRefusal f l c w budget) →
-      scrubbed f l c w budget ≡ record { report = NoWalk (scrubRefusal f l c w budget); walk = w }
+      scrubNumbers (scrubbed f l c w budget) ≡ record { refusal = scrubRefusal f l c w budget; report = 0; walk = w }
   pub read-part : (codeword spare : List ℕ) (lost done tray first end : ℕ) →
       Refuses (partRefusal (f .order) l (length codeword) (length spare) lost done tray first end) → partGiven (f .order) l codeword spare lost done tray first end ≡ []
   -- a contract that is no equation decides the answer and every symbol all the same
@@ -152,10 +137,10 @@ pub record Demand2 {A : Type 0} (f : Field A) (l : Layout) : Type 0 where
       × (testRefusal f l c ≡ 0 → (n ≡ 0) ⊎ (n ≡ 8)) × (testRefusal f l c ≡ 0 → (n ≡ 0) ↔ Codeword f l c)
   -- 01: "Testing a codeword answers sound, or the first bad layer and the least t broken there, and stops at it": past the grounds, which look at every symbol
   -- (W10), the layers after it do not matter
-  pub sound-exactly : (c : List ℕ) (r : Tested) → TestAnswer f l c r → testRefusal f l c ≡ 0 → (r ≡ Sound) ↔ Codeword f l c
-  pub first-bad : (c : List ℕ) (j : Layer) (t : ℕ) → TestAnswer f l c (Bad j t) → FirstBad f l c (j .0) t
-  pub stops : (c c′ : List ℕ) (j : Layer) (t : ℕ) → TestAnswer f l c (Bad j t) → testRefusal f l c′ ≡ 0 → ((i : ℕ) → i ≤ j .0 → LayerAlike l c c′ i) →
-      (r : Tested) → TestAnswer f l c′ r → r ≡ Bad j t
+  pub sound-exactly : (c : List ℕ) (r : Tested) → TestAnswer f l c r → testRefusal f l c ≡ 0 → (testNumbers r .verdict ≡ 1) ↔ Codeword f l c
+  pub first-bad : (c : List ℕ) (r : Tested) → TestAnswer f l c r → testRefusal f l c ≡ 0 → (testNumbers r .verdict ≡ 2) ↔ FirstBad f l c (testNumbers r .layer) (testNumbers r .check)
+  pub stops : (c c′ : List ℕ) (r r′ : Tested) → TestAnswer f l c r → testNumbers r .verdict ≡ 2 → testRefusal f l c′ ≡ 0 →
+      ((i : ℕ) → i ≤ testNumbers r .layer → LayerAlike l c c′ i) → TestAnswer f l c′ r′ → testNumbers r′ ≡ testNumbers r
 
 -- what each call of the repair promises, whatever it is given
 pub record EachRepair {A : Type 0} (f : Field A) (l : Layout) (lost helpers shares host : List ℕ) (first budget : ℕ) (old new : List ℕ) (r : Repaired) : Type 0 where
@@ -199,14 +184,21 @@ pub record Demand3 {A : Type 0} (f : Field A) (l : Layout) : Type 0 where
       (i : ℕ) → i < length lost → (j : ℕ) → j < layers l → groupAt l (firstLost l lost) j ≡ p → getD new (i * layers l + j) 0 ≡ getD new′ (i * layers l + j) 0
   -- 01: "What it writes is fixed for any shares: .. the one solution of the R checks" (`Ruled`): in each group there is one outcome and only one
   pub fixed : (lost helpers : List ℕ) → Losses l lost helpers → (shares host : List ℕ) → One f l lost helpers shares host
+  -- the one solution itself, of the checks t = u·w + m summed over the group, whatever was sent: its host rack sums and the other racks' group sums
+  pub one-solution : (x : ℕ) (helpers : List ℕ) → Helpers l x helpers → (p : ℕ) → p < groups l → (m : ℕ) (sent : ℕ → A) (one two : ℕ → ℕ → A) →
+      Solution (shapeOf f l) m (x / l .size) p (λ k. getD helpers k 0) (l .helpers) (parityRacks l) sent one →
+      Solution (shapeOf f l) m (x / l .size) p (λ k. getD helpers k 0) (l .helpers) (parityRacks l) sent two →
+      ((j : ℕ) → groupAt l x j ≡ p → one (x / l .size) j ≡ two (x / l .size) j)
+      × ((i : ℕ) → i < l .racks → ¬ (i ≡ x / l .size) → groupSum (shapeOf f l) (x / l .size) p (one i) ≡ groupSum (shapeOf f l) (x / l .size) p (two i))
 
 -- DOCUMENT 01's own claims
 pub record Document01 {A : Type 0} (f : Field A) (ed : Edition) (l : Layout) : Type 0 where
   -- "The root z is 2; its 255 powers run through every nonzero symbol"; the symbols are a field, and these powers differ
   pub field : FieldLaws f
   pub every-symbol : (x : A) → ¬ (x ≡ f .ops .zero) → (i : ℕ) × (i < f .order) × (pow (f .ops) (f .root) i ≡ x)
-  -- "It then follows that n·s ≤ 255"; K ≥ 1 and R ≥ 1
-  pub room : admissible (f .order) l ≡ true → (trays l * digits l ≤ f .order) × (1 ≤ wholeRacks l) × (1 ≤ parityRacks l)
+  -- "It then follows that n·s ≤ 255"; K ≥ 1, R ≥ 1 and s ≤ 4, and the last check t = u·(R − 1) that speaks of rack sums is one of the r checks
+  pub room : admissible (f .order) l ≡ true → (trays l * digits l ≤ f .order) × (1 ≤ wholeRacks l) × (1 ≤ parityRacks l) × (digits l ≤ 4)
+      × (l .size * (parityRacks l - 1) < checks l)
   -- "Within a layer all points differ. The u-th powers of the points of two different pairs (i, a) differ too, and repair needs this." (slip 1)
   pub points-differ : admissible (f .order) l ≡ true → (j : ℕ) → Distinct (pointAt f l j) (trays l)
   pub powers-differ : admissible (f .order) l ≡ true → (i a g i′ a′ g′ : ℕ) → i < l .racks → a < digits l → i′ < l .racks → a′ < digits l →
@@ -231,10 +223,11 @@ pub record Document01 {A : Type 0} (f : Field A) (ed : Edition) (l : Layout) : T
 
 -- DOCUMENT 02: W1, W5, W6, W7 and W8, as far as the above does not say it
 pub record Requests {A : Type 0} (f : Field A) (ed : Edition) (l : Layout) : Type 0 where
-  -- W1: "the tray at place g is multiplied by z to the power g·m·(255/u)"; "With e = 1 the bytes are those of today."
+  -- W1: "the tray at place g is multiplied by z to the power g·m·(255/u)"; "With e = 1 the bytes are those of today": the call for e shares is with E = 0 the one for either E,
+  -- which with e = 1 is document 01's (`OneTray`)
   pub weights : (g m : ℕ) → pow (f .ops) (place (shapeOf f l) g) m ≡ pow (f .ops) (f .root) (g * m * (f .order / l .size))
-  pub one-share : l .errors ≡ 0 → (h i : ℕ) (rack out : List ℕ) → (manyBuffer f l 1 h i rack out ≡ sharesBuffer f l 1 h i rack out)
-      × (manyRefusal f l 1 h i rack (length out) ≡ sharesRefusal f l 1 h i rack (length out))
+  pub shares-are : l .errors ≡ 0 → (e h i : ℕ) (rack out : List ℕ) → (manyBuffer f l e h i rack out ≡ sharesBuffer f l e h i rack out)
+      × (manyRefusal f l e h i rack (length out) ≡ sharesRefusal f l e h i rack (length out))
   -- W5: "Writing such an image is refused with 3, and reading one with 9, also when 0 is the volume expected. A demonstration image of volume 0 gets 9 too"
   pub nought-written : admissible (ed .order) l ≡ true → (tray state : ℕ) (symbols : List ℕ) → length symbols ≡ layers l →
       writeRefusal ed l tray state 0 symbols (imageLength ed l) ≡ 3
@@ -244,6 +237,9 @@ pub record Requests {A : Type 0} (f : Field A) (ed : Edition) (l : Layout) : Typ
   pub looks : (c : List ℕ) (w : Walk) (budget : ℕ) → scrubRefusal f l c w budget ≡ 0 →
       scrubbed f l c w budget .walk .next ≡ w .next + min budget (layers l - w .next)
   pub walked : (c : List ℕ) (w : Walk) (r : Report) → Walks f l c w r → Walked f l c w r
+  -- "While the next layer is below L, the report says "unfinished" (1); at L it says "sound" (2) exactly when the count is 0, else "bad" (3)."
+  pub reports : (c : List ℕ) (w : Walk) (budget : ℕ) → scrubRefusal f l c w budget ≡ 0 → let n = scrubNumbers (scrubbed f l c w budget) in
+      (n .refusal ≡ 0) × (n .report ≡ cond (ltb (n .walk .next) (layers l)) 1 (cond (eqb (n .walk .bad) 0) 2 3))
   pub bad-layer : (c : List ℕ) (j : ℕ) → (badLayer f l c j ≡ true) ↔ ((t : ℕ) × (t < checks l) × (¬ (checkAt f l c j t ≡ f .ops .zero)))
   -- W7: "the store for a tray that isn't lost, the spare for the lost one where every layer asked for is in a done group." "An empty run is an empty part."
   pub part-of : (codeword spare : List ℕ) (lost done tray first end : ℕ) → partRefusal (f .order) l (length codeword) (length spare) lost done tray first end ≡ 0 →
@@ -265,8 +261,8 @@ pub record Requests {A : Type 0} (f : Field A) (ed : Edition) (l : Layout) : Typ
       Feeds f l 1 h i rack (cleared f l 1) places held → ((g : ℕ) → g < l .size → count g places ≡ 1) → held ≡ sharesBuffer f l 1 h i rack out
   pub fed-once-many : (e h i : ℕ) (rack out : List ℕ) → manyRefusal f l e h i rack (length out) ≡ 0 → (places held : List ℕ) →
       Feeds f l e h i rack (cleared f l e) places held → ((g : ℕ) → g < l .size → count g places ≡ 1) → held ≡ manyBuffer f l e h i rack out
-  -- W10: "a tray fed twice (W8) counts twice", and fed n times n times; among bytes it cancels (`Claims256`)
-  pub fed-often : (e h i : ℕ) (rack start : List ℕ) → manyRefusal f l e h i rack (length start) ≡ 0 → InRange (f .coding) start → (places held : List ℕ) →
+  -- W10: "a tray fed twice (W8) counts twice", and fed n times n times, with either E; among bytes it cancels (`Claims256`)
+  pub fed-often : (e h i : ℕ) (rack start : List ℕ) → sharesRefusal f l e h i rack (length start) ≡ 0 → InRange (f .coding) start → (places held : List ℕ) →
       Feeds f l e h i rack start places held → held ≡ table (λ n. f .coding .val (f .ops .add (f .coding .elem (getD start n 0)) (sum (f .ops) (l .size)
       (λ g. sum (f .ops) (count g places) (λ k. partAt f l h (i * l .size + g) (trayPart l rack g) n))))) (e * groups l)
 
@@ -360,21 +356,31 @@ pub record Claims {A : Type 0} (f : Field A) (ed : Edition) (l : Layout) : Type 
   pub wrong-share : Correcting f l
   pub cards : (x : ℕ) (helpers : List ℕ) (group : ℕ) → Cards f l x helpers group
   pub least : admissibleWith (f .order) 0 l ≡ true → (x : ℕ) (helpers : List ℕ) → Helpers l x helpers → Least f l x helpers
+  pub looks : Looks f l
+  pub handed : Handed f l
+  pub trays-to-records : TraysToRecords f ed l
 
 -- THE FIELD OF 256
 pub record Claims256 (l : Layout) : Type 0 where
   pub claims : Claims gf256 edition1 l
-  -- 01: "Addition is exclusive or. The root z is 2; its 255 powers run through every nonzero symbol."
+  -- 01: "the field of 256 with polynomial x^8 + x^4 + x^3 + x^2 + 1 (hex 11D) .. Addition is exclusive or. The root z is 2": products go by shift and add with 11D (`_⊗_`);
+  -- the powers z^0 .. z^7 are the numbers 1 .. 128, and z^8 is z^4 + z^3 + z^2 + 1, hex 1D
   pub adds : (a b : ℕ) → a < 256 → b < 256 → gf256 .coding .val (gf256 .ops .add (gf256 .coding .elem a) (gf256 .coding .elem b)) ≡ bitXor a b
+  pub multiplies : (a b : ℕ) → a < 256 → b < 256 → gf256 .coding .val (gf256 .ops .mul (gf256 .coding .elem a) (gf256 .coding .elem b)) ≡ a ⊗ b
+  pub low-powers : (i : ℕ) → i < 8 → gf256 .coding .val (pow (gf256 .ops) (gf256 .root) i) ≡ 2 ^ i
+  pub eighth-power : gf256 .coding .val (pow (gf256 .ops) (gf256 .root) 8) ≡ 0x1D
   pub root : (gf256 .coding .val (gf256 .root) ≡ 2) × (gf256 .order ≡ 255) × (gf256 .coding .size ≡ 256)
-  -- "u is 1, 3, 5, 15 or 17"
-  pub sizes : admissible 255 l ≡ true → (l .size ≡ 1) ⊎ (l .size ≡ 3) ⊎ (l .size ≡ 5) ⊎ (l .size ≡ 15) ⊎ (l .size ≡ 17)
-  -- W8: "A tray fed twice cancels, and the claim says so."
-  pub fed-twice : (e h x : ℕ) (tray held : List ℕ) → InRange (gf256 .coding) held →
+  -- "admissible exactly when all hold": `Cabinet` has the limits of documents 01 and 02; E is 0 or 1; "u is 1, 3, 5, 15 or 17"
+  pub admissible-exactly : (admissible 255 l ≡ true) ↔ (Cabinet l × (l .errors ≤ 1) × ((l .size ≡ 1) ⊎ (l .size ≡ 3) ⊎ (l .size ≡ 5) ⊎ (l .size ≡ 15) ⊎ (l .size ≡ 17)))
+  -- W8: "A tray fed twice cancels, and the claim says so": of one share with either E (e = 1), and of e shares
+  pub fed-twice : (e h x : ℕ) (tray held : List ℕ) → InRange (gf256 .coding) held → fedBuffer gf256 l e h x tray (fedBuffer gf256 l e h x tray held) ≡ held
+  pub fed-twice-many : (e h x : ℕ) (tray held : List ℕ) → InRange (gf256 .coding) held →
       addManyBuffer gf256 l e h x tray (addManyBuffer gf256 l e h x tray held) ≡ held
-  pub cancels : (e h i : ℕ) (rack start : List ℕ) → manyRefusal gf256 l e h i rack (length start) ≡ 0 → InRange (gf256 .coding) start → (places held : List ℕ) →
+  pub cancels : (e h i : ℕ) (rack start : List ℕ) → sharesRefusal gf256 l e h i rack (length start) ≡ 0 → InRange (gf256 .coding) start → (places held : List ℕ) →
       Feeds gf256 l e h i rack start places held → held ≡ table (λ n. gf256 .coding .val (gf256 .ops .add (gf256 .coding .elem (getD start n 0)) (sum (gf256 .ops) (l .size)
       (λ g. choose (odd (count g places)) (partAt gf256 l h (i * l .size + g) (trayPart l rack g) n) (gf256 .ops .zero))))) (e * groups l)
+  -- what C is handed of an image
+  pub image-handed : Handed256 l
   -- W10: "a reader of edition 1 refuses them with 9"
   pub other-edition : OtherRefused edition1 edition2
   -- 01: "Proved together, as a single table under one claim: the starred ones", with the lines of W2, W4 and W10
@@ -387,40 +393,6 @@ pub record Claims257 (l : Layout) : Type 0 where
   pub adds : (a b : ℕ) → gf257 .coding .val (gf257 .ops .add (gf257 .coding .elem a) (gf257 .coding .elem b)) ≡ (a + b) % 257
   pub multiplies : (a b : ℕ) → gf257 .coding .val (gf257 .ops .mul (gf257 .coding .elem a) (gf257 .coding .elem b)) ≡ (a * b) % 257
   pub root : (gf257 .coding .val (gf257 .root) ≡ 3) × (gf257 .order ≡ 256) × (gf257 .coding .size ≡ 257)
-  -- "with u = 1, 2, 4, 8 or 16"
-  pub sizes : admissible 256 l ≡ true → (l .size ≡ 1) ⊎ (l .size ≡ 2) ⊎ (l .size ≡ 4) ⊎ (l .size ≡ 8) ⊎ (l .size ≡ 16)
+  -- "with u = 1, 2, 4, 8 or 16, n up to 60, L up to 4,096"
+  pub admissible-exactly : (admissible 256 l ≡ true) ↔ (Cabinet l × (l .errors ≤ 1) × ((l .size ≡ 1) ⊎ (l .size ≡ 2) ⊎ (l .size ≡ 4) ⊎ (l .size ≡ 8) ⊎ (l .size ≡ 16)))
   pub other-edition : OtherRefused edition2 edition1
-
--- THE SIXTEEN-TRAY BOX (W11)
-pub record Box : Type 0 where
-  -- a refusal returns its number and changes no symbol, and the contracts decide every answer
-  pub store-refused : (given out : List ℕ) → Refuses (boxStoreRefusal given (length out)) → boxStoreBuffer given out ≡ out
-  pub recover-grounds : (es c d : List ℕ) (n : ℕ) → BoxRecoverAnswer es c d n → (Refuses (boxRecoverRefusal es c) → n ≡ boxRecoverRefusal es c) × (Refuses n → d ≡ c)
-  pub recover-one : (es c d d′ : List ℕ) (n n′ : ℕ) → BoxRecoverAnswer es c d n → BoxRecoverAnswer es c d′ n′ → (n ≡ n′) × (d ≡ d′)
-  pub data-one : (es c old d d′ : List ℕ) (n n′ : ℕ) → DataAnswer es c old d n → DataAnswer es c old d′ n′ → (n ≡ n′) × (d ≡ d′)
-  pub share-one : (host helper : ℕ) (vs old new new′ : List ℕ) (n n′ : ℕ) → ShareAnswer host helper vs old new n → ShareAnswer host helper vs old new′ n′ → (n ≡ n′) × (new ≡ new′)
-  pub repair-grounds : (lost : ℕ) (hs shares rack old new : List ℕ) (r : BoxRepaired) → BoxRepairAnswer lost hs shares rack old new r →
-      Grounded (boxRepairRefusal lost hs shares rack (length old)) (r .refusal) old new
-  pub repair-one : (lost : ℕ) (hs shares old rack new new′ : List ℕ) (r r′ : BoxRepaired) → BoxRepairAnswer lost hs shares rack old new r → BoxRepairAnswer lost hs shares rack old new′ r′ →
-      (r .refusal ≡ r′ .refusal) × (r .crossed ≡ r′ .crossed) × (new ≡ new′)
-  -- "Store, recover from any 7": different data have different words, and any seven values give back the word and the data
-  pub words-differ : (d e : List ℕ) → Data d → Data e → wordOf d ≡ wordOf e → d ≡ e
-  pub any-seven : (es c d w : List ℕ) (n : ℕ) → BoxRecoverAnswer es c d n → allBelow es 16 ≡ true → strictlyRising es ≡ true → length es ≤ 9 →
-      Word w → BoxSurvivors es c w → (n ≡ 0) × (d ≡ w)
-  pub data-any-seven : (es c old new d : List ℕ) (n : ℕ) → DataAnswer es c old new n → length old ≡ 7 → allBelow es 16 ≡ true → strictlyRising es ≡ true → length es ≤ 9 →
-      Data d → BoxSurvivors es c (wordOf d) → (n ≡ 0) × (new ≡ d)
-  -- "Refusals 2 to 6 and 8 apply": 8 exactly when no word has the survivors
-  pub eight-exactly : (es c d : List ℕ) (n : ℕ) → BoxRecoverAnswer es c d n → boxRecoverRefusal es c ≡ 0 → (n ≡ 8) ↔ ((e : List ℕ) → Word e → BoxSurvivors es c e → ⊥)
-  pub data-eight : (es c old d : List ℕ) (n : ℕ) → DataAnswer es c old d n → dataRefusal es c (length old) ≡ 0 →
-      (n ≡ 8) ↔ ((e : List ℕ) → Data e → BoxSurvivors es c (wordOf e) → ⊥)
-  -- "each sends the top coefficient .. of the polynomial of degree below 4 through its four values"; "for k = 7 all four are equal"
-  pub tops-equal : (c : List ℕ) → Word c → (i j s t : ℕ) → i < 4 → j < 4 → Top i (rackOf i c) s → Top j (rackOf j c) t → s ≡ t
-  -- "repair one lost tray from any two other racks"; "Two symbols cross."
-  pub repair-exact : (c : List ℕ) (lost : ℕ) (hs shares rack old new : List ℕ) (r : BoxRepaired) → BoxRepairAnswer lost hs shares rack old new r →
-      length shares ≡ 2 → length rack ≡ 4 → length old ≡ 1 → lost < 16 → allBelow hs 4 ≡ true → strictlyRising hs ≡ true → length hs ≡ 2 → absent hs (lost / 4) ≡ true →
-      Sent c lost hs shares rack → (r .refusal ≡ 0) × (r .crossed ≡ 2) × (new ≡ getD c lost 0 ∷ [])
-  -- "so two that differ get 8": past the other grounds, exactly when no word has these shares and values
-  pub repair-eight : (lost : ℕ) (hs shares rack old new : List ℕ) (r : BoxRepaired) → BoxRepairAnswer lost hs shares rack old new r →
-      (Refuses (r .refusal) → r .refusal ≡ 8) → (r .refusal ≡ 8) ↔ ((c : List ℕ) → Sent c lost hs shares rack → ⊥)
-  -- Example 1 of source document 003
-  pub example-1 : AllExamplesHold examples

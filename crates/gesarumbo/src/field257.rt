@@ -8,12 +8,15 @@ use crate::numbers::ReportNumbers;
 use crate::numbers::ScrubNumbers;
 use crate::numbers::TestNumbers;
 use correcting::CorrectedNumbers;
+use gather::Gathered;
 use layout::Layout;
 use layout::Rack;
 use layout::Tray;
+use recover_correcting::RecoveredNumbers;
 use repair::RepairNumbers;
 use scrub::Walk;
 use symbol257::plain::ORDER;
+use test_kept::KeptNumbers;
 ghost use mathlib.Core.Path.{_≡_};
 ghost use mathlib.Core.List.{[], _∷_};
 ghost use lib.ListN.{length};
@@ -28,6 +31,10 @@ ghost use Rattle.codeword.specs.Test.{TestAnswer};
 ghost use Rattle.repair.specs.Repair.{report, RepairAnswer};
 ghost use Rattle.correcting.specs.Correcting.{report as corrected, CorrectingAnswer};
 ghost use Rattle.cards.specs.Cards.{PrintAnswer, CardAnswer, TestAnswer as CardTest};
+ghost use Rattle.recover_correcting.specs.RecoverCorrecting.{report as recovered, CorrectionAnswer};
+ghost use Rattle.test_kept.specs.TestKept.{report as kept, KeptAnswer};
+ghost use Rattle.image.specs.Image.{edition2};
+ghost use Rattle.gather.specs.Gathering.{statesRefusal, statesBuffer, GatherAnswer, rackRefusal, rackBuffer};
 ghost use Rattle.gesarumbo.specs.Boundary.{measureNumbers, testNumbers, marginNumbers, scrubNumbers, reportNumbers, partNumbers, Shown};
 
 #[no_mangle]
@@ -277,6 +284,65 @@ pub extern "C" fn gesarumbo257_recover(l: Layout, codeword: &mut [u16], erased: 
     ensures { λ r. ⌜ RecoverAnswer gf257 l (now (erased .entry)) (now (codeword .entry)) (now (codeword .exit)) r ⌝ }
 {
     recover257::recover(l, codeword, erased) as u32
+}
+
+#[no_mangle]
+pub extern "C" fn gesarumbo257_recover_correcting(
+    l: Layout,
+    codeword: &mut [u16],
+    erased: &[u32],
+) -> RecoveredNumbers
+    ensures { λ r. ⌜ Shown (CorrectionAnswer gf257 l (now (erased .entry)) (now (codeword .entry)) (now (codeword .exit))) recovered r ⌝ }
+{
+    numbers::recovered_numbers(recover_correcting257::recover_correcting(l, codeword, erased))
+}
+
+#[no_mangle]
+pub extern "C" fn gesarumbo257_test_kept(l: Layout, codeword: &[u16], erased: &[u32]) -> KeptNumbers
+    ensures { λ r. ⌜ Shown (KeptAnswer gf257 l (now (erased .entry)) (now (codeword .entry))) kept r ⌝ }
+{
+    numbers::kept_numbers(test_kept257::test_kept(l, codeword, erased))
+}
+
+#[no_mangle]
+pub extern "C" fn gesarumbo257_states(
+    l: Layout,
+    volume: u32,
+    images: &[u8],
+    states: &mut [u8],
+) -> u32
+    ensures answer { λ r. ⌜ r ≡ statesRefusal edition2 l (length (now (images .entry))) (length (now (states .entry))) ⌝ }
+    ensures buffer { λ _. ⌜ now (states .exit) ≡ statesBuffer edition2 l volume (now (images .entry)) (now (states .entry)) ⌝ }
+{
+    gather257::states::states(l, volume, images, states) as u32
+}
+
+#[no_mangle]
+pub extern "C" fn gesarumbo257_gather(
+    l: Layout,
+    volume: u32,
+    images: &[u8],
+    codeword: &mut [u16],
+    missing: &mut [u32],
+) -> Gathered
+    ensures { λ r. ⌜ GatherAnswer edition2 l volume (now (images .entry)) (now (codeword .entry)) (now (missing .entry)) (now (codeword .exit)) (now (missing .exit)) r ⌝ }
+{
+    gather257::gather(l, volume, images, codeword, missing)
+}
+
+#[no_mangle]
+pub extern "C" fn gesarumbo257_gather_rack(
+    l: Layout,
+    volume: u32,
+    rack: u32,
+    lost: &[u32],
+    images: &[u8],
+    out: &mut [u16],
+) -> u32
+    ensures answer { λ r. ⌜ r ≡ rackRefusal edition2 l volume rack (now (lost .entry)) (now (images .entry)) (length (now (out .entry))) ⌝ }
+    ensures buffer { λ _. ⌜ now (out .exit) ≡ rackBuffer edition2 l volume rack (now (lost .entry)) (now (images .entry)) (now (out .entry)) ⌝ }
+{
+    gather257::rack::gather_rack(l, volume, Rack::of(rack), lost, images, out) as u32
 }
 
 #[no_mangle]

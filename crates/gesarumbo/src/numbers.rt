@@ -4,14 +4,20 @@ use correcting::Corrected;
 use correcting::CorrectedNumbers;
 use layout::Measured;
 use margin::LossMargin;
+use recover_correcting::Recovered;
+use recover_correcting::RecoveredNumbers;
 use repair::RepairNumbers;
 use repair::Repaired;
 use scrub::Report;
 use scrub::Scrubbed;
 use scrub::Walk;
+use test_kept::Kept;
+use test_kept::KeptNumbers;
 ghost use mathlib.Core.Path.{_≡_};
 ghost use Rattle.repair.specs.Repair.{report};
 ghost use Rattle.correcting.specs.Correcting.{report as corrected};
+ghost use Rattle.recover_correcting.specs.RecoverCorrecting.{report as recovered};
+ghost use Rattle.test_kept.specs.TestKept.{report as kept};
 ghost use Rattle.gesarumbo.specs.Boundary.{measureNumbers, testNumbers, marginNumbers, scrubNumbers};
 ghost use Rattle.gesarumbo.specs.Inner.{runNumbers};
 
@@ -154,6 +160,50 @@ pub fn corrected_numbers(answer: Corrected) -> CorrectedNumbers
             refusal: e as u32,
             rack: 0,
             crossed: 0,
+        },
+    }
+}
+
+// The numbers of an answer of the correcting recovery.
+pub fn recovered_numbers(answer: Recovered) -> RecoveredNumbers
+    ensures { λ r. ⌜ r ≡ recovered answer ⌝ }
+{
+    match answer {
+        Recovered::Done { tray, checks } => RecoveredNumbers {
+            refusal: 0,
+            tray: tray,
+            checks: checks,
+        },
+        Recovered::Refused(e) => RecoveredNumbers {
+            refusal: e as u32,
+            tray: 0,
+            checks: 0,
+        },
+    }
+}
+
+// The numbers of an answer of a test with trays missing.
+pub fn kept_numbers(answer: Kept) -> KeptNumbers
+    ensures { λ r. ⌜ r ≡ kept answer ⌝ }
+{
+    match answer {
+        Kept::Sound { checks } => KeptNumbers {
+            refusal: 0,
+            verdict: 1,
+            layer: 0,
+            checks: checks,
+        },
+        Kept::Bad { layer, checks } => KeptNumbers {
+            refusal: 0,
+            verdict: 2,
+            layer: layer.number(),
+            checks: checks,
+        },
+        Kept::Refused(e) => KeptNumbers {
+            refusal: e as u32,
+            verdict: 0,
+            layer: 0,
+            checks: 0,
         },
     }
 }

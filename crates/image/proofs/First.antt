@@ -4,14 +4,16 @@ use mathlib.Core.Path.{_≡_, refl, sym, ap, ap₂, _∙_}
 use mathlib.Core.Bool.{Bool, true, false, not}
 use mathlib.Core.List.{List, [], _++_, append-nil}
 use Prim.Native.Nat.{ℕ, _+_, _-_, _*_, _≤_}
+use native.Mathlib.Nat.{zero-add}
 use native.Mathlib.Omega.{arith}
 use lib.Dec.{ltb}
 use lib.ListN.{length, getD, take, drop, length-drop, drop-of-length-le}
 use lib.Seq.{take-all, take-length, getD-drop}
-use Rattle.lists.specs.Lists.{allBelow, all}
+use Rattle.lists.specs.Lists.{table, allBelow, all}
 use Rattle.lists.proofs.Bools.{all-same}
 use Rattle.lists.proofs.Numbered.{below-all}
 use Rattle.lists.proofs.Tables.{is-table}
+use Rattle.kernel.specs.Inner.{Run, copied}
 use Rattle.layout.specs.declared.Layout.{Layout}
 use Rattle.layout.specs.Layout.{layers, admissible}
 use Rattle.symbol.specs.Elem.{gf256}
@@ -58,6 +60,13 @@ module _ (l : Layout) (volume : ℕ) (s : List ℕ) (a : Bool) (e : a ≡ admiss
 
   pub part-formed : not f ≡ false → (r : ℕ) → r ≡ formedRefusal l volume s → r ≡ readRefusal edition1 l volume (layers l) s
   part-formed = read-formed edition1 l volume (layers l) s a e h (layers l) refl refl f g
+
+-- the copy to lent places
+pub copied-places : (s was is : List ℕ) → Run (copied s headerLength) was is 0 (length was) → is ≡ table (symbolAt edition1 s) (length was)
+unfolding copied
+copied-places s was is r =
+    is-table is (symbolAt edition1 s) (length was) (r .long)
+    (λ i h. ap (λ n. getD is n 0) (sym (zero-add i)) ∙ r .done i h ∙ sym (at-place s i))
 
 -- the part that is handed out is all from the header on
 module _ (l : Layout) (volume : ℕ) (s : List ℕ) (e : ℕ) (q : e ≡ readRefusal edition1 l volume (layers l) s) (z : e ≡ 0) where

@@ -18,7 +18,7 @@ ghost use Rattle.image.specs.Image.{headerLength, imageLength, inRange, 
 ghost use Rattle.image.specs.Inner.{Proper, Headed, stateAllowed, volumeAllowed, writeGrounds, headerFormed, expected, formedRefusal};
 
 // The length of an image.
-fn image_length(e: Edition, l: Layout) -> usize
+pub fn image_length(e: Edition, l: Layout) -> usize
     requires { ⌜ Cabinet l ⌝ }
     ensures { λ r. ⌜ r ≡ imageLength e l ⌝ }
 {

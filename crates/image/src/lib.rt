@@ -15,11 +15,11 @@ use layout::Tray;
 ghost use mathlib.Core.Path.{_≡_};
 ghost use mathlib.Core.Bool.{true};
 ghost use mathlib.Core.List.{[]};
-ghost use Prim.Native.Nat.{_*_};
+ghost use Prim.Native.Nat.{_+_, _*_, _≤_};
 ghost use lib.ListN.{length};
-ghost use Rattle.lists.specs.Lists.{allBelow};
+ghost use Rattle.lists.specs.Lists.{table, allBelow};
 ghost use Rattle.layout.specs.Layout.{layers};
-ghost use Rattle.image.specs.Image.{edition1, symbolBytes, writeRefusal, writeBuffer, wellFormed, readRefusal, readTray, readSymbols};
+ghost use Rattle.image.specs.Image.{edition1, headerLength, symbolBytes, symbolAt, writeRefusal, writeBuffer, wellFormed, readRefusal, readTray, readSymbols};
 
 // What the images of a field have of their own: the number of their edition, the order of the field's root, how many symbols it has, and the bytes that one takes.
 pub struct Edition {
@@ -104,7 +104,7 @@ fn well_formed(image: &[u8]) -> bool
 }
 
 // The refusal of a read, 0 for none.
-fn read_refusal(l: Layout, volume: u32, image: &[u8]) -> u8
+pub fn read_refusal(l: Layout, volume: u32, image: &[u8]) -> u8
     ensures { λ r. ⌜ r ≡ readRefusal edition1 l volume (layers l) (now (image .entry)) ⌝ }
 {
     if !layout::admitted(FIRST.order, l) {
@@ -114,6 +114,15 @@ fn read_refusal(l: Layout, volume: u32, image: &[u8]) -> u8
         return 9;
     }
     formed_refusal(l, volume, image)
+}
+
+// Copies as many symbols of an image as there are places.
+pub fn copy_symbols(image: &[u8], places: &mut [u8])
+    requires { ⌜ headerLength + edition1 .width * length (now places) ≤ length (now image) ⌝ }
+    ensures { λ _. ⌜ now (places .exit) ≡ table (symbolAt edition1 (now (image .entry))) (length (now (places .entry))) ⌝ }
+{
+    let count = places.len();
+    kernel::copy(places, 0, count, image, HEADER);
 }
 
 // Reads a live image of the layout and volume expected: gives its symbols, and writes the refusal's number and the tray's.

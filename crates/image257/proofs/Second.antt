@@ -89,3 +89,8 @@ module _ (l : Layout) (volume : ℕ) (s places : List ℕ) (e : ℕ) (q : e ≡ 
   pub copied-given : (last : List ℕ) → last ≡ table (symbolAt edition2 s) (length places) → last ≡ readSymbols edition2 l volume (length places) places s
   unfolding ownSymbols
   copied-given last is = is ∙ ap (table (symbolAt edition2 s)) count ∙ given-symbols edition2 l volume (length places) s e q z places
+
+-- where the places are those that there must be
+pub read-whole : (l : Layout) (volume total number : ℕ) (s : List ℕ) → total ≡ layers l → number ≡ readRefusal edition2 l volume total s →
+    number ≡ readRefusal edition2 l volume (layers l) s
+read-whole l volume total number s t q = q ∙ ap (λ n. readRefusal edition2 l volume n s) t

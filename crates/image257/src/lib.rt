@@ -14,6 +14,7 @@ ghost use mathlib.Core.Path.{_≡_};
 ghost use Prim.Native.Nat.{_+_, _*_, _/_, _%_, _<_, _≤_};
 ghost use lib.ListN.{length, set};
 ghost use Rattle.lists.specs.Lists.{table, allBelow};
+ghost use Rattle.layout.specs.Layout.{layers};
 ghost use Rattle.image.specs.Image.{edition2, headerLength, symbolBytes, symbolAt, writeRefusal, writeBuffer, wellFormed, readRefusal, readTray, readSymbols};
 ghost use Rattle.image.specs.Inner.{symbolsHeld};
 
@@ -122,7 +123,7 @@ fn well_formed(image: &[u8]) -> bool
 }
 
 // The refusal of a read, 0 for none, where so many places are lent for the symbols.
-fn read_refusal(l: Layout, volume: u32, places: usize, image: &[u8]) -> u8
+fn places_refusal(l: Layout, volume: u32, places: usize, image: &[u8]) -> u8
     ensures { λ r. ⌜ r ≡ readRefusal edition2 l volume places (now (image .entry)) ⌝ }
 {
     if !layout::admitted(SECOND.order, l) {
@@ -137,8 +138,18 @@ fn read_refusal(l: Layout, volume: u32, places: usize, image: &[u8]) -> u8
     formed_refusal(l, volume, image)
 }
 
+// The refusal of a read, 0 for none, where there are the places that there must be.
+pub fn read_refusal(l: Layout, volume: u32, image: &[u8]) -> u8
+    ensures { λ r. ⌜ r ≡ readRefusal edition2 l volume (layers l) (now (image .entry)) ⌝ }
+{
+    if !layout::admitted(SECOND.order, l) {
+        return 1;
+    }
+    places_refusal(l, volume, layout::layer_count(l) as usize, image)
+}
+
 // Copies as many symbols of an image as there are places.
-fn copy_symbols(image: &[u8], places: &mut [u16])
+pub fn copy_symbols(image: &[u8], places: &mut [u16])
     requires { ⌜ headerLength + edition2 .width * length (now places) ≤ length (now image) ⌝ }
     ensures { λ _. ⌜ now (places .exit) ≡ table (symbolAt edition2 (now (image .entry))) (length (now (places .entry))) ⌝ }
 {
@@ -155,7 +166,7 @@ pub fn read(l: Layout, volume: u32, image: &[u8], places: &mut [u16]) -> Answer
     ensures tray { λ r. ⌜ r .tray ≡ readTray edition2 l volume (length (now (places .entry))) (now (image .entry)) ⌝ }
     ensures symbols { λ _. ⌜ now (places .exit) ≡ readSymbols edition2 l volume (length (now (places .entry))) (now (places .entry)) (now (image .entry)) ⌝ }
 {
-    let number = read_refusal(l, volume, places.len(), image);
+    let number = places_refusal(l, volume, places.len(), image);
     if number != 0 {
         return Answer {
             refusal: number as u32,

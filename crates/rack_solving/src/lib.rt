@@ -188,7 +188,8 @@ fn opposite_place(u: u32, m: u32) -> u32
     if m == 0 { 0 } else { u - m }
 }
 
-// The symbols of rack i of the list from its sums of all weights.
+// The symbols of rack i of the list from its sums of all weights: W3's formula over the places of the rack, where the factors of the products of differences are the opposite
+// powers (`place-factor` in algebra/proofs/Places.antt).
 fn rack_symbols(found: &mut [u8], u: u32, w: usize, i: usize, ys: &[u8], row: &mut [u8])
     requires { ⌜ Small u × (0 < w) × ((i * u + u) * w ≤ length (now found)) × ((i * u + u) * w ≤ length (now ys)) × (w ≤ length (now row)) ⌝ }
     ensures { λ _. ⌜ RackFound gf256 u w i (now (ys .entry)) (now (found .entry)) (now (found .exit)) u ⌝ }

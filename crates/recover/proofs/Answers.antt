@@ -28,7 +28,7 @@ unless-low true n rest h k = k
 unless-low false n rest h k = h
 
 module _ {A : Type 0} {f : Field A} (W : Working f) (l : Layout) (es c : List ℕ) where
-  refusal-low : recoverRefusal f l es c ≤ 5
+  pub refusal-low : recoverRefusal f l es c ≤ 5
   unfolding recoverRefusal
   refusal-low =
       unless-low (admissible (f .order) l) 1 _ (omega arith) (unless-low (eqb (length c) (trays l * layers l)) 2 _ (omega arith)

@@ -24,10 +24,10 @@ module _ {A : Type 0} (f : Field A) (l : Layout) (es : List ℕ) where
   itself : (c : List ℕ) → Survivors l es c c
   itself c = record { long = refl; same = λ x j hx hj kept. refl }
 
-  back : (c c′ : List ℕ) → Survivors l es c c′ → Survivors l es c′ c
+  pub back : (c c′ : List ℕ) → Survivors l es c c′ → Survivors l es c′ c
   back c c′ s = record { long = sym (s .long); same = λ x j hx hj kept. sym (s .same x j hx hj kept) }
 
-  through : (c c′ d : List ℕ) → Survivors l es c c′ → Survivors l es c d → Survivors l es c′ d
+  pub through : (c c′ d : List ℕ) → Survivors l es c c′ → Survivors l es c d → Survivors l es c′ d
   through c c′ d s t = record { long = t .long ∙ sym (s .long); same = λ x j hx hj kept. t .same x j hx hj kept ∙ sym (s .same x j hx hj kept) }
 
   -- the grounds hang on the survivors
@@ -42,7 +42,7 @@ module _ {A : Type 0} (f : Field A) (l : Layout) (es : List ℕ) where
   unfolding keptSymbols
   kept-same c c′ s = all-same _ _ (trays l) (λ x h. tray-same c c′ s x h (absent es x) refl)
 
-  refusal-same : (c c′ : List ℕ) → Survivors l es c c′ → recoverRefusal f l es c ≡ recoverRefusal f l es c′
+  pub refusal-same : (c c′ : List ℕ) → Survivors l es c c′ → recoverRefusal f l es c ≡ recoverRefusal f l es c′
   unfolding recoverRefusal
   refusal-same c c′ s = rw (s .long, kept-same c c′ s) refl
 

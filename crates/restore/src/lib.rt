@@ -151,7 +151,7 @@ fn found_terms(
 }
 
 // Whether the symbols found meet all checks of a block.
-fn block_fits(
+pub fn block_fits(
     c: &[u8],
     l: Layout,
     total: usize,

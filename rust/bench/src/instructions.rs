@@ -2,18 +2,24 @@
 
 use crate::options::{layout_words, COUNT, FIELD};
 use gesarumbo::Layout;
+use std::ffi::OsStr;
 use std::process::Command;
 
 /// Counts a call by a version; an error says what is missing.
 pub fn of(field: u32, layout: Layout, call: &str, version: &str) -> Result<u64, String> {
+    let field = field.to_string();
+    let words = [COUNT, call, version, "--rounds", "1", FIELD, &field].map(String::from);
+    counted(&[&words[..], &layout_words(layout)].concat())
+}
+
+/// Counts what this program does when it is asked by these words.
+pub fn counted<W: AsRef<OsStr>>(words: &[W]) -> Result<u64, String> {
     let program = std::env::current_exe().map_err(|error| error.to_string())?;
     let output = Command::new("valgrind")
         .args(["--tool=callgrind", "--callgrind-out-file=/dev/null"])
         .arg("--toggle-collect=*counted*")
         .arg(program)
-        .args([COUNT, call, version, "--rounds", "1", FIELD])
-        .arg(field.to_string())
-        .args(layout_words(layout))
+        .args(words)
         .output()
         .map_err(|error| format!("valgrind: {error}"))?;
     let said = String::from_utf8_lossy(&output.stderr);

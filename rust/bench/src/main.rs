@@ -1,6 +1,7 @@
 //! The library's calls timed against ordinary Rust by tables over the same data, and storing against ISA-L.
 
 mod calls;
+mod checksum;
 mod filled;
 mod instructions;
 mod isal;
@@ -39,6 +40,19 @@ fn main() -> ExitCode {
 fn answer(asked: &Options) -> Result<(), String> {
     if let What::Times = asked.what {
         print_conditions(asked.rounds);
+    }
+    match &asked.what {
+        What::Times if asked.checksum => {
+            checksum::print_times(asked.rounds);
+            return Ok(());
+        }
+        What::Instructions if asked.checksum => return checksum::print_instructions(),
+        What::Count(call, version) => {
+            if let Some(length) = checksum::length_of(call) {
+                return checksum::count(length, version).ok_or(options::USAGE.to_string());
+            }
+        }
+        _ => {}
     }
     for field in [u8::COUNT, u16::COUNT] {
         if asked.field.is_none_or(|only| only == field) {
@@ -90,7 +104,7 @@ fn print_conditions(rounds: usize) {
 fn print_times<S: Symbol>(layouts: &[Layout], versions: &[Box<dyn Version<S>>], rounds: usize) {
     println!("Buffers to be written were cleared before each turn; all versions wrote the same.");
     println!();
-    table::heading(&names(versions), ", µs");
+    table::heading(table::LAYOUT, &names(versions), ", µs");
     for &layout in layouts {
         let filled = Filled::new(layout);
         for call in Call::of(layout) {
@@ -129,7 +143,7 @@ fn print_instructions<S: Symbol>(
     versions: &[Box<dyn Version<S>>],
 ) -> Result<(), String> {
     println!();
-    table::heading(&names(versions), "");
+    table::heading(table::LAYOUT, &names(versions), "");
     for &layout in layouts {
         for call in Call::of(layout) {
             table::counts(
@@ -147,7 +161,7 @@ fn quick_count<S: Symbol>(layout: Layout, versions: &[Box<dyn Version<S>>]) -> R
     let store = &Call::ALL[0];
     let all = instructions_of(layout, store, versions)?;
     println!();
-    table::heading(&names(versions), "");
+    table::heading(table::LAYOUT, &names(versions), "");
     table::counts(layout, store.name, &all);
     if all[1..].iter().any(|&ordinary| all[0] > LIMIT * ordinary) {
         return Err(format!(

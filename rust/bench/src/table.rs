@@ -1,39 +1,39 @@
 //! The tables of times and of instructions, in markdown.
 
 use crate::timing::Times;
-use gesarumbo::Layout;
+use std::fmt::Display;
 
-/// Prints the heading: the figures of each version, and the first against each of the others.
-pub fn heading(names: &[&str], unit: &str) {
+/// The heading of calls that are measured for layouts.
+pub const LAYOUT: &str = "layout";
+
+/// Prints the heading: what is measured, the figures of each version, and the first against each of
+/// the others.
+pub fn heading(of: &str, names: &[&str], unit: &str) {
     let times = names.iter().map(|name| format!("{name}{unit}"));
     let ratios = names[1..]
         .iter()
         .map(|name| format!("{} / {name}", names[0]));
     let titles: Vec<String> = times.chain(ratios).collect();
-    line("layout", "call", &titles);
+    line(of, "call", &titles);
     line("---", "---", &vec!["---:".to_string(); titles.len()]);
 }
 
 /// Prints the times of one call.
-pub fn row(layout: Layout, call: &str, all: &[Times]) {
+pub fn row(of: impl Display, call: &str, all: &[Times]) {
     let first = &all[0];
     let times = all.iter().map(|t| pair(t.least, t.median));
     let ratios = all[1..]
         .iter()
         .map(|t| pair(first.least / t.least, first.median / t.median));
     let cells: Vec<String> = times.chain(ratios).collect();
-    line(&layout.to_string(), call, &cells);
+    line(&of.to_string(), call, &cells);
 }
 
 /// Prints the instructions of one call.
-pub fn counts(layout: Layout, call: &str, all: &[u64]) {
+pub fn counts(of: impl Display, call: &str, all: &[u64]) {
     let counts = all.iter().map(u64::to_string);
     let ratios = all[1..].iter().map(|&n| short(all[0] as f64 / n as f64));
-    line(
-        &layout.to_string(),
-        call,
-        &Vec::from_iter(counts.chain(ratios)),
-    );
+    line(&of.to_string(), call, &Vec::from_iter(counts.chain(ratios)));
 }
 
 fn pair(least: f64, median: f64) -> String {
@@ -51,6 +51,6 @@ fn short(number: f64) -> String {
     format!("{number:.digits$}")
 }
 
-fn line(layout: &str, call: &str, cells: &[String]) {
-    println!("| {layout} | {call} | {} |", cells.join(" | "));
+fn line(of: &str, call: &str, cells: &[String]) {
+    println!("| {of} | {call} | {} |", cells.join(" | "));
 }

@@ -1,7 +1,7 @@
 //! What a call answers, in the vector format's words.
 
 use crate::field::{numbers, Field, Symbol};
-use crate::inputs::{byte_word, symbol_word, Inputs};
+use crate::inputs::{byte_word, list_word, symbol_word, Inputs};
 use crate::lent::{Guarded, Lent};
 use std::fmt;
 
@@ -27,12 +27,12 @@ impl Ground for reference::Refusal {
 enum Buffer {
     Bytes(Vec<u8>),
     Symbols(Field, Vec<Symbol>),
+    List(Vec<u32>),
 }
 
-/// The final buffer of an answer.
+/// A final buffer of an answer.
 #[derive(Clone, Debug, PartialEq, Eq)]
 enum Final {
-    None,
     /// A lent buffer: as it was before, and as it is now.
     Lent(Buffer, Buffer),
     /// A part of one.
@@ -45,7 +45,7 @@ pub struct Answer {
     pub refusal: u32,
     /// The result numbers, all zero in a refusal but for a record handed back.
     pub numbers: Vec<i128>,
-    buffer: Final,
+    buffers: Vec<Final>,
     /// What the call has changed and may not.
     pub spoilt: Vec<&'static str>,
 }
@@ -59,7 +59,7 @@ impl Answer {
         Answer {
             refusal,
             numbers,
-            buffer: Final::None,
+            buffers: vec![],
             spoilt: vec![],
         }
     }
@@ -101,7 +101,7 @@ impl Answer {
     ) -> Answer {
         let after = after.map_or(before.to_vec(), numbers);
         let [before, after] = [before.to_vec(), after].map(|held| Buffer::Symbols(field, held));
-        self.buffer = Final::Lent(before, after);
+        self.buffers.push(Final::Lent(before, after));
         self
     }
 
@@ -109,13 +109,22 @@ impl Answer {
     pub fn lent_bytes(mut self, before: &[u8], after: Option<&[u8]>) -> Answer {
         let after = after.unwrap_or(before);
         let [before, after] = [before, after].map(|held| Buffer::Bytes(held.to_vec()));
-        self.buffer = Final::Lent(before, after);
+        self.buffers.push(Final::Lent(before, after));
+        self
+    }
+
+    /// The same for a list.
+    pub fn lent_list(mut self, before: &[u32], after: Option<&[u32]>) -> Answer {
+        let after = after.unwrap_or(before);
+        let [before, after] = [before, after].map(|held| Buffer::List(held.to_vec()));
+        self.buffers.push(Final::Lent(before, after));
         self
     }
 
     /// With symbols that are a part of a lent buffer.
     pub fn part<S: Copy + Into<Symbol>>(mut self, field: Field, part: &[S]) -> Answer {
-        self.buffer = Final::Part(Buffer::Symbols(field, numbers(part)));
+        let part = Buffer::Symbols(field, numbers(part));
+        self.buffers.push(Final::Part(part));
         self
     }
 
@@ -134,6 +143,13 @@ impl Answer {
             .lent_bytes(lent.before(), Some(lent.part()))
     }
 
+    /// The same for a list of numbers of a kind.
+    pub fn written_list<T: Copy + PartialEq>(self, lent: &Lent<T>, number: fn(T) -> u32) -> Answer {
+        let numbers = |list: &[T]| -> Vec<u32> { list.iter().copied().map(number).collect() };
+        let [before, after] = [lent.before(), lent.part()].map(numbers);
+        self.ends_of(lent).lent_list(&before, Some(&after))
+    }
+
     fn ends_of<T: Copy + PartialEq>(mut self, lent: &Lent<T>) -> Answer {
         if !lent.ends_kept() {
             self.spoilt.push("what lies around the written buffer");
@@ -149,23 +165,40 @@ impl Answer {
         self
     }
 
-    /// The final buffer's symbols. Asking for another kind of buffer than the
-    /// call has is a mistake of its own file, and panics; here and below.
+    /// The symbols of the final buffer that has some. Asking for another kind of
+    /// buffer than the call has is a mistake of its own file, and panics; here and
+    /// below.
     pub fn symbols(&self) -> &[Symbol] {
-        match &self.buffer {
-            Final::Lent(_, Buffer::Symbols(_, held)) | Final::Part(Buffer::Symbols(_, held)) => {
-                held
-            }
-            _ => panic!("the answer has no symbols"),
-        }
+        let held = self.held().find_map(|held| match held {
+            Buffer::Symbols(_, held) => Some(held),
+            _ => None,
+        });
+        held.expect("the answer has symbols")
     }
 
-    /// The final buffer's bytes.
+    /// The bytes of the final buffer that has some.
     pub fn bytes(&self) -> &[u8] {
-        match &self.buffer {
-            Final::Lent(_, Buffer::Bytes(held)) => held,
-            _ => panic!("the answer has no bytes"),
-        }
+        let held = self.held().find_map(|held| match held {
+            Buffer::Bytes(held) => Some(held),
+            _ => None,
+        });
+        held.expect("the answer has bytes")
+    }
+
+    /// The numbers of the final buffer that is a list.
+    pub fn list(&self) -> &[u32] {
+        let held = self.held().find_map(|held| match held {
+            Buffer::List(held) => Some(held),
+            _ => None,
+        });
+        held.expect("the answer has a list")
+    }
+
+    /// What the final buffers hold.
+    fn held(&self) -> impl Iterator<Item = &Buffer> {
+        self.buffers.iter().map(|buffer| match buffer {
+            Final::Lent(_, held) | Final::Part(held) => held,
+        })
     }
 }
 
@@ -174,6 +207,7 @@ impl fmt::Display for Buffer {
         match self {
             Buffer::Bytes(held) => f.write_str(&byte_word(held)),
             Buffer::Symbols(field, held) => f.write_str(&symbol_word(*field, held)),
+            Buffer::List(held) => f.write_str(&list_word(held)),
         }
     }
 }
@@ -184,10 +218,9 @@ impl fmt::Display for Answer {
         self.numbers
             .iter()
             .try_for_each(|number| write!(f, " {number}"))?;
-        match &self.buffer {
-            Final::None => Ok(()),
+        self.buffers.iter().try_for_each(|buffer| match buffer {
             Final::Lent(before, after) if before == after => f.write_str(" ~"),
             Final::Lent(_, held) | Final::Part(held) => write!(f, " {held}"),
-        }
+        })
     }
 }

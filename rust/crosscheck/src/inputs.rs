@@ -205,8 +205,8 @@ impl Value {
             Value::Layout(numbers) => layout_word(numbers),
             Value::Small(number) => number.to_string(),
             Value::Wide(number) => number.to_string(),
-            Value::List(list) => format!("[{}]", comma_list(list)),
-            Value::Record(record) => format!("[{}]", comma_list(record)),
+            Value::List(list) => list_word(list),
+            Value::Record(record) => list_word(record),
             Value::Bytes(bytes) => byte_word(bytes),
             Value::Symbols(symbols) => symbol_word(field, symbols),
         }
@@ -219,6 +219,11 @@ fn comma_list(numbers: &[u32]) -> String {
         .map(u32::to_string)
         .collect::<Vec<String>>()
         .join(",")
+}
+
+/// A list as the format writes it.
+pub fn list_word(numbers: &[u32]) -> String {
+    format!("[{}]", comma_list(numbers))
 }
 
 /// Bytes as the format writes them.

@@ -1,5 +1,5 @@
 //! Compares the library with the second program and with the vectors, over both
-//! fields and for the sixteen-tray box.
+//! fields, for the sixteen-tray box and for the checksum.
 //!
 //! Every case is a line of the vector format: a call's name and its inputs. The
 //! library answers it through the wrapper, the second program by itself, and
@@ -23,6 +23,7 @@ pub mod damage;
 pub mod draws;
 pub mod field;
 pub mod given;
+pub mod images;
 pub mod inputs;
 pub mod lent;
 pub mod options;

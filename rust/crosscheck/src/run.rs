@@ -128,7 +128,7 @@ impl Run {
         let lines = |call: &&'static Call| {
             let of_errors = |errors| self.line(group.field, call, errors);
             let large = self.large_cell(group.field, call);
-            let large = large.map(|cell| format!("  {:<12} {cell}\n", ""));
+            let large = large.map(|cell| format!("  {:<18} {cell}\n", ""));
             (0..=2)
                 .filter_map(of_errors)
                 .chain(large)
@@ -153,7 +153,7 @@ impl Run {
             1 => "  E = 1",
             _ => "  E above 1",
         };
-        (!cells.is_empty()).then(|| format!("  {name:<12} {}\n", cells.join(", ")))
+        (!cells.is_empty()).then(|| format!("  {name:<18} {}\n", cells.join(", ")))
     }
 
     /// How many numbers that are no symbols were put where the call looks, and

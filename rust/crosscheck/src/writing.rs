@@ -1,10 +1,10 @@
 //! The vector files as the second program writes them: the library answers nothing here.
 //!
 //! The cases of the kept files stay, and each gets its answer anew, so a case is added to one by a
-//! line with any answer. A file for each group of calls is drawn from nothing, with cases of every
-//! answer that is due of a call. The files that came from outside are not written.
+//! line with any answer. The files of drawn cases are made from nothing, with cases of every answer
+//! that is due of a call. The files that came from outside are not written.
 
-use crate::calls::{groups, Call, Group};
+use crate::calls::{self, Call, Drawn, Group};
 use crate::field::Field;
 use crate::random::Random;
 use crate::run::due;
@@ -23,8 +23,7 @@ pub const OUTSIDE: [&str; 4] = [
 ];
 /// What the names of the drawn files begin with.
 const DRAWN: &str = "drawn-";
-/// So many cases are drawn for each answer that is due of a call, in so many draws at most.
-const EACH: usize = 2;
+/// The cases of a call are drawn in so many draws at most.
 const MOST_DRAWS: usize = 1_000_000;
 /// Cases with longer inputs are left out.
 const LONGEST: usize = 1_500;
@@ -54,8 +53,8 @@ pub fn texts(kept: &Path) -> Result<Texts, String> {
         texts.insert(name.into_owned(), text);
     }
     let mut source = Source::new(0);
-    let drawn = groups().map(|group| drawn(&mut source, &group));
-    texts.extend(drawn);
+    let drawn = calls::drawn();
+    texts.extend(drawn.iter().map(|file| text_of(&mut source, file)));
     Ok(texts)
 }
 
@@ -77,27 +76,30 @@ fn answered_line(field: Field, line: &str) -> Result<String, String> {
     Ok(format!("{case} > {}", (call.reference)(&inputs)))
 }
 
-/// The file of a group's drawn cases, and its name.
-fn drawn(source: &mut Source, group: &Group) -> (String, String) {
-    let name = match group.calls.iter().all(|call| call.has_layout()) {
-        true => format!("{DRAWN}{}", group.field.symbols()),
-        false => format!("{DRAWN}box"),
-    };
-    let symbols = group.field.symbols();
+/// The name of a file of drawn cases, and its text.
+fn text_of(source: &mut Source, file: &Drawn) -> (String, String) {
+    let name = format!("{DRAWN}{}", file.name);
+    let symbols = file.group.field.symbols();
     let mut lines = vec![format!("# rules: field={symbols} w2=1 w4=1 w5=1 w12=1")];
-    for call in &group.calls {
-        let of_call = cases(source, group, call).into_iter().zip(1..);
+    for call in &file.group.calls {
+        let of_call = cases(source, file, call).into_iter().zip(1..);
         let line = |(case, number)| format!("{0} {name}-{0}-{number} - {case}", call.name);
         lines.extend(of_call.map(line));
     }
     (format!("{name}.txt"), joined(&lines))
 }
 
-/// Cases of a call: for each answer that is due so many, with the inputs and the answer.
-fn cases(source: &mut Source, group: &Group, call: &Call) -> Vec<String> {
+/// Cases of a call: for each answer that is due as many as the file has, with the inputs and the
+/// answer.
+fn cases(source: &mut Source, file: &Drawn, call: &Call) -> Vec<String> {
+    let group = &file.group;
     source.random = Random::new(seed(group, call));
+    let count = |(errors, ground)| match ground {
+        0 => ((errors, ground), file.done),
+        _ => ((errors, ground), file.refused),
+    };
     let mut left: BTreeMap<(u32, u32), usize> = BTreeMap::new();
-    left.extend(due(group, call).into_iter().map(|answer| (answer, EACH)));
+    left.extend(due(group, call).into_iter().map(count));
     let mut cases = vec![];
     for _ in 0..MOST_DRAWS {
         if left.is_empty() {

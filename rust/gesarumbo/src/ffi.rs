@@ -25,6 +25,31 @@ pub struct Tested {
     pub check: u32,
 }
 
+/// The answer to a recovery that corrects; `tray` is the layout's number of trays where none was
+/// wrong.
+#[repr(C)]
+pub struct Recovered {
+    pub refusal: u32,
+    pub tray: Tray,
+    pub checks: u32,
+}
+
+/// The answer to a test with trays missing; `verdict` is 1 for sound and 2 for bad.
+#[repr(C)]
+pub struct Kept {
+    pub refusal: u32,
+    pub verdict: u32,
+    pub layer: u32,
+    pub checks: u32,
+}
+
+/// The answer to a gathering: how many trays are missing.
+#[repr(C)]
+pub struct Gathered {
+    pub refusal: u32,
+    pub count: u32,
+}
+
 /// The answer to a piece of a repair.
 #[repr(C)]
 pub struct Repaired {
@@ -118,6 +143,54 @@ macro_rules! calls {
                     length: usize,
                     erased: *const Tray,
                     count: usize,
+                ) -> u32;
+                #[link_name = concat!($prefix, "_recover_correcting")]
+                pub fn recover_correcting(
+                    layout: Layout,
+                    codeword: *mut $symbol,
+                    length: usize,
+                    erased: *const Tray,
+                    count: usize,
+                ) -> Recovered;
+                #[link_name = concat!($prefix, "_test_kept")]
+                pub fn test_kept(
+                    layout: Layout,
+                    codeword: *const $symbol,
+                    length: usize,
+                    erased: *const Tray,
+                    count: usize,
+                ) -> Kept;
+                #[link_name = concat!($prefix, "_states")]
+                pub fn states(
+                    layout: Layout,
+                    volume: u32,
+                    images: *const u8,
+                    images_length: usize,
+                    states: *mut u8,
+                    states_length: usize,
+                ) -> u32;
+                #[link_name = concat!($prefix, "_gather")]
+                pub fn gather(
+                    layout: Layout,
+                    volume: u32,
+                    images: *const u8,
+                    images_length: usize,
+                    codeword: *mut $symbol,
+                    length: usize,
+                    missing: *mut Tray,
+                    missing_length: usize,
+                ) -> Gathered;
+                #[link_name = concat!($prefix, "_gather_rack")]
+                pub fn gather_rack(
+                    layout: Layout,
+                    volume: u32,
+                    rack: Rack,
+                    lost: *const Tray,
+                    lost_count: usize,
+                    images: *const u8,
+                    images_length: usize,
+                    out: *mut $symbol,
+                    out_length: usize,
                 ) -> u32;
                 #[link_name = concat!($prefix, "_share")]
                 pub fn share(
@@ -322,6 +395,97 @@ macro_rules! calls {
                     codeword.len(),
                     erased.as_ptr(),
                     erased.len(),
+                )
+            }
+        }
+
+        pub fn recover_correcting(
+            layout: Layout,
+            codeword: &mut [$symbol],
+            erased: &[Tray],
+        ) -> Recovered {
+            // SAFETY: both slices are lent for the call, the written one alone; a tray is a 32-bit number.
+            unsafe {
+                c::recover_correcting(
+                    layout,
+                    codeword.as_mut_ptr(),
+                    codeword.len(),
+                    erased.as_ptr(),
+                    erased.len(),
+                )
+            }
+        }
+
+        pub fn test_kept(layout: Layout, codeword: &[$symbol], erased: &[Tray]) -> Kept {
+            // SAFETY: both slices are lent for the call; a tray is a 32-bit number.
+            unsafe {
+                c::test_kept(
+                    layout,
+                    codeword.as_ptr(),
+                    codeword.len(),
+                    erased.as_ptr(),
+                    erased.len(),
+                )
+            }
+        }
+
+        pub fn states(layout: Layout, volume: u32, images: &[u8], states: &mut [u8]) -> u32 {
+            // SAFETY: both slices are lent for the call, the written one alone.
+            unsafe {
+                c::states(
+                    layout,
+                    volume,
+                    images.as_ptr(),
+                    images.len(),
+                    states.as_mut_ptr(),
+                    states.len(),
+                )
+            }
+        }
+
+        pub fn gather(
+            layout: Layout,
+            volume: u32,
+            images: &[u8],
+            codeword: &mut [$symbol],
+            missing: &mut [Tray],
+        ) -> Gathered {
+            // SAFETY: all slices are lent for the call, each written one alone; a tray is a 32-bit number,
+            // and every 32-bit number is a tray.
+            unsafe {
+                c::gather(
+                    layout,
+                    volume,
+                    images.as_ptr(),
+                    images.len(),
+                    codeword.as_mut_ptr(),
+                    codeword.len(),
+                    missing.as_mut_ptr(),
+                    missing.len(),
+                )
+            }
+        }
+
+        pub fn gather_rack(
+            layout: Layout,
+            volume: u32,
+            rack: Rack,
+            lost: &[Tray],
+            images: &[u8],
+            out: &mut [$symbol],
+        ) -> u32 {
+            // SAFETY: all slices are lent for the call, the written one alone; a tray is a 32-bit number.
+            unsafe {
+                c::gather_rack(
+                    layout,
+                    volume,
+                    rack,
+                    lost.as_ptr(),
+                    lost.len(),
+                    images.as_ptr(),
+                    images.len(),
+                    out.as_mut_ptr(),
+                    out.len(),
                 )
             }
         }
@@ -662,6 +826,15 @@ macro_rules! calls {
             unsafe { c::scrub_in_place(layout, from, length, record, budget) }
         }
     };
+}
+
+extern "C" {
+    fn gesarumbo_checksum(start: u64, bytes: *const u8, length: usize) -> u64;
+}
+
+pub fn checksum(start: u64, bytes: &[u8]) -> u64 {
+    // SAFETY: the slice is lent for the call.
+    unsafe { gesarumbo_checksum(start, bytes.as_ptr(), bytes.len()) }
 }
 
 /// The first field, with symbols of one byte.

@@ -39,6 +39,15 @@
 //! first that does, and a refused call has changed no byte of any buffer. A call that is done has
 //! written what it says and nothing else.
 //!
+//! # From trays to records
+//!
+//! Which trays are good is no question for the caller. [`gather()`] takes what stands at all places
+//! of a cabinet, anything at all, and gives the symbols of the live images of this layout, volume
+//! and place, and the list of the other trays; nothing else that stands there has any effect. Then
+//! [`test_kept()`] tests what is there, [`recover_correcting()`] brings back what is missing and puts
+//! right one tray that is wrong, and both say how many checks were left to find it with.
+//! [`gather_rack()`] does this for one rack, for a share or a repair.
+//!
 //! A second field, in which racks of two, four, eight and sixteen trays can be had, has the same
 //! calls in [`field257`].
 //!
@@ -56,8 +65,10 @@
 mod ffi;
 
 mod card;
+mod checksum;
 mod correcting;
 pub mod field257;
+mod gather;
 mod image;
 mod kinds;
 mod layout;
@@ -66,6 +77,7 @@ mod measure;
 mod numbers;
 mod reading;
 mod recover;
+mod recover_correcting;
 mod refusal;
 mod repair;
 mod scrub;
@@ -74,9 +86,12 @@ pub mod sixteen;
 mod state;
 mod store;
 mod test;
+mod test_kept;
 
 pub use card::{card, card_repair, card_test};
+pub use checksum::checksum;
 pub use correcting::{repair_correcting, Corrected};
+pub use gather::{gather, gather_rack, states};
 pub use image::{read_image, write_image, Image};
 pub use kinds::{Layer, Rack, Tray};
 pub use layout::Layout;
@@ -85,6 +100,7 @@ pub use measure::{measure, Measured};
 pub use numbers::{numbers, Numbers};
 pub use reading::read_part;
 pub use recover::recover;
+pub use recover_correcting::{recover_correcting, Recovered};
 pub use refusal::Refusal;
 pub use repair::{repair, repair_many, Repaired};
 pub use scrub::{scrub, scrub_handed, scrub_reset, scrub_reset_handed, ScrubRecord, Scrubbed};
@@ -92,3 +108,4 @@ pub use share::{share, share_add, share_add_many, share_many};
 pub use state::{ABSENT, DEMONSTRATION, LIVE};
 pub use store::store;
 pub use test::{test, Tested};
+pub use test_kept::{test_kept, Kept};

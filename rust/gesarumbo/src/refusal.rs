@@ -21,8 +21,8 @@ use core::{error, fmt};
 pub enum Refusal {
     /// The layout is not admissible, or its number E is not the one that the call is for.
     Layout = 1,
-    /// A lent buffer is not exactly the length its rule gives: symbols, shares, spare, states or an
-    /// image being written.
+    /// A lent buffer is not exactly the length its rule gives: symbols, shares, spare, states, an
+    /// image being written, or the images and the list of missing trays that a gathering is lent.
     Length = 2,
     /// A tray, rack, state or volume number is outside its values, a run of layers, a number of
     /// groups done or a card's group is, or a scrub record breaks a rule that
@@ -44,7 +44,7 @@ pub enum Refusal {
     Malformed = 9,
     /// The image is marked demonstration.
     Demonstration = 10,
-    /// The image is of another layout or volume.
+    /// The image is of another layout or volume or, where a rack is gathered, of another place.
     Other = 11,
     /// The lost trays are not 1 to u − v, with v = k mod u.
     LostCount = 12,

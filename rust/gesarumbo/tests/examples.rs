@@ -34,7 +34,7 @@ fn program(name: &str) -> PathBuf {
 #[test]
 fn every_example_prints_what_is_expected() {
     let names = names();
-    assert_eq!(names.len(), 5, "{names:?}");
+    assert_eq!(names.len(), 6, "{names:?}");
     for name in names {
         let written =
             Path::new(env!("CARGO_MANIFEST_DIR")).join(format!("examples/{name}.expected"));

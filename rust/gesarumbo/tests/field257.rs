@@ -2,7 +2,9 @@
 //! does not; the signs; the images of edition 2.
 
 use gesarumbo::field257::*;
-use gesarumbo::{Layout, Rack, Refusal, ScrubRecord, Scrubbed, Tested, Tray};
+use gesarumbo::{
+    Kept, Layer, Layout, Rack, Recovered, Refusal, ScrubRecord, Scrubbed, Tested, Tray,
+};
 use gesarumbo::{DEMONSTRATION, LIVE};
 
 /// Five racks of four trays of 32 symbols, of source 002; and three racks of two of 8.
@@ -70,6 +72,69 @@ fn five_trays_are_recovered() {
     assert_eq!(recover(FOURS, &mut codeword, &erased), Err(Refusal::Number));
     assert_eq!(recover(FOURS, &mut codeword, &[Tray::new(1)]), Ok(()));
     assert_eq!(codeword, whole);
+}
+
+/// A number above 256 counts in a tray that is not listed, whatever else is wrong with the list, and
+/// not in an erased one.
+#[test]
+fn a_wrong_tray_is_one_of_symbols() {
+    let whole = codeword();
+    let mut codeword = whole.clone();
+    codeword[6 * 32..7 * 32].fill(LARGE);
+    for layer in 0..32 {
+        let symbol = &mut codeword[19 * 32 + layer];
+        *symbol = (*symbol + 256) % 257;
+    }
+    let (erased, falling) = ([Tray::new(6)], [6, 5].map(Tray::new));
+    let bad = Kept::Bad {
+        layer: Layer::new(0),
+        checks: 4,
+    };
+    assert_eq!(test_kept(FOURS, &codeword, &erased), Ok(bad));
+    let named = Recovered {
+        tray: Some(Tray::new(19)),
+        checks: 4,
+    };
+    assert_eq!(recover_correcting(FOURS, &mut codeword, &erased), Ok(named));
+    assert_eq!(codeword, whole);
+    codeword[19 * 32 + 31] = LARGE;
+    for list in [&erased[..], &falling, &[]] {
+        assert_eq!(test_kept(FOURS, &codeword, list), Err(Refusal::Number));
+        let refused = recover_correcting(FOURS, &mut codeword, list);
+        assert_eq!(refused, Err(Refusal::Number));
+    }
+    assert_eq!(codeword[19 * 32 + 31], LARGE);
+}
+
+/// An image of edition 2 that holds a number above 256 is malformed: its tray is missing.
+#[test]
+fn a_tray_with_a_number_above_256_is_not_there() {
+    let whole = codeword();
+    let mut images = vec![0; 20 * 88];
+    for (tray, image) in (0..).map(Tray::new).zip(images.chunks_mut(88)) {
+        let symbols = &whole[tray.number() as usize * 32..][..32];
+        write_image(FOURS, tray, LIVE.into(), 7, symbols, image).expect("it is written");
+    }
+    images[13 * 88 - 1] = 1;
+    images[13 * 88 - 2] = 1; // the last symbol of tray 12 is 257
+    let (mut gathered, mut missing) = (vec![LARGE; 20 * 32], [Tray::new(LARGE.into()); 20]);
+    assert_eq!(
+        gather(FOURS, 7, &images, &mut gathered, &mut missing),
+        Ok(1)
+    );
+    assert_eq!(missing[..2], [12, u32::from(LARGE)].map(Tray::new));
+    assert_eq!(recover(FOURS, &mut gathered, &missing[..1]), Ok(()));
+    assert_eq!(gathered, whole);
+    let (of_rack, rack) = (&images[12 * 88..16 * 88], Rack::new(3));
+    let mut out = [LARGE; 128];
+    let refused = gather_rack(FOURS, 7, rack, &[], of_rack, &mut out);
+    assert_eq!((refused, out), (Err(Refusal::Malformed), [LARGE; 128]));
+    assert_eq!(
+        gather_rack(FOURS, 7, rack, &missing[..1], of_rack, &mut out),
+        Ok(())
+    );
+    assert_eq!(out[..32], [LARGE; 32]);
+    assert_eq!(out[32..], whole[13 * 32..16 * 32]);
 }
 
 /// One number above 256 in each place of what a piece is lent: refused exactly where it is a share

@@ -65,10 +65,13 @@ mod field256 {
 
 mod field257 {
     use super::*;
-    use gesarumbo::field257::{card, card_repair, card_test, margin, measure, read_image};
-    use gesarumbo::field257::{read_part, recover, repair, repair_correcting, repair_many, scrub};
-    use gesarumbo::field257::{scrub_reset, share, share_add, share_add_many, share_many, store};
-    use gesarumbo::field257::{test, write_image};
+    use gesarumbo::field257::write_image;
+    use gesarumbo::field257::{card, card_repair, card_test, gather, gather_rack, margin, measure};
+    use gesarumbo::field257::{read_image, read_part, recover, recover_correcting, repair};
+    use gesarumbo::field257::{
+        repair_correcting, repair_many, scrub, scrub_reset, share, share_add,
+    };
+    use gesarumbo::field257::{share_add_many, share_many, states, store, test, test_kept};
 
     type Symbol = u16;
     const BYTES: usize = 2;

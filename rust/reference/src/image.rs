@@ -132,7 +132,11 @@ pub fn copy_image<F: Field>(
 
 /// The tray of a live image of the layout and volume expected: the grounds past
 /// the layout's.
-fn live_tray<F: Field>(layout: Layout<F>, volume: u32, image: &[u8]) -> Result<Tray, Refusal> {
+pub(crate) fn live_tray<F: Field>(
+    layout: Layout<F>,
+    volume: u32,
+    image: &[u8],
+) -> Result<Tray, Refusal> {
     refuse(&[(Refusal::Malformed, !well_formed::<F>(image))])?;
     let other = own_layout(image) != layout || VOLUME.read(image) != volume;
     refuse(&[
@@ -161,7 +165,7 @@ fn own_layout<F>(image: &[u8]) -> Layout<F> {
 }
 
 /// The numbers after the header, low byte first, none where one is no symbol.
-fn symbols_of<F: Field>(image: &[u8]) -> Option<Vec<F::Symbol>> {
+pub(crate) fn symbols_of<F: Field>(image: &[u8]) -> Option<Vec<F::Symbol>> {
     let number = |bytes: &[u8]| {
         let number = bytes
             .iter()

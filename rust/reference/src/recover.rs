@@ -11,6 +11,19 @@ pub fn recover<F: Field>(
     codeword: &[F::Symbol],
     erased: &[Tray],
 ) -> Result<Vec<F::Symbol>, Refusal> {
+    let numbers = refuse_erased::<F>(layout, codeword, erased)?;
+    let unknown: Vec<usize> = erased.iter().map(|tray| tray.0 as usize).collect();
+    Checks::<F>::new(numbers)
+        .fill(codeword, &unknown)
+        .ok_or(Refusal::Survivors)
+}
+
+/// Grounds 1 to 5 of a call over a codeword and a list of its erased trays.
+pub(crate) fn refuse_erased<F: Field>(
+    layout: Layout<F>,
+    codeword: &[F::Symbol],
+    erased: &[Tray],
+) -> Result<Numbers, Refusal> {
     let numbers = layout.numbers()?;
     let wrong_length = codeword.len() != numbers.trays * numbers.layers;
     refuse(&[(Refusal::Length, wrong_length)])?;
@@ -23,10 +36,7 @@ pub fn recover<F: Field>(
         (Refusal::Order, !rising(erased)),
         (Refusal::Count, erased.len() > numbers.checks),
     ])?;
-    let unknown: Vec<usize> = erased.iter().map(|tray| tray.0 as usize).collect();
-    Checks::<F>::new(numbers)
-        .fill(codeword, &unknown)
-        .ok_or(Refusal::Survivors)
+    Ok(numbers)
 }
 
 /// Whether the trays that are not listed hold symbols, whatever the list is.

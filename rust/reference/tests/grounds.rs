@@ -30,6 +30,7 @@ over_both_fields! {
     of_reading_a_part,
     of_images,
     of_the_margin,
+    from_trays_to_records,
     no_lost_tray,
     two_lost_where_one_is_the_most,
     counts_of_any_size,
@@ -39,6 +40,13 @@ fn of_testing_storing_and_recovering<F: Tried>() {
     each_ground_in_order::<Test<F>>();
     each_ground_in_order::<Store<F>>();
     each_ground_in_order::<Recover<F>>();
+}
+
+fn from_trays_to_records<F: Tried>() {
+    each_ground_in_order::<RecoverCorrecting<F>>();
+    each_ground_in_order::<TestKept<F>>();
+    each_ground_in_order::<Gather<F>>();
+    each_ground_in_order::<GatherRack<F>>();
 }
 
 fn of_adding_to_a_share<F: Tried>() {

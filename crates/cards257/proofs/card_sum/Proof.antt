@@ -37,7 +37,8 @@ card-sum-spec =
     let o = r .before .before .before .before in
     let a = o .before .before .before .before .args in (
       omega arith,
-      part-more working (a .card .now) (a .shares .now) (a .l .helpers) _ (a .p) (a .b) (o .loop .k) _ _ _ _ _ _ _ (o .loop .inv .1) (r .before .before .cell .ensures) (r .before .at .ensures)
+      part-more working (a .card .now) (a .shares .now) (a .l .helpers) _ (a .p) (a .b) (o .loop .k) _ _ _ _ _ _ _ (o .loop .inv .1)
+          (r .before .before .cell .ensures) (r .before .at .ensures)
           (r .cell2 .ensures) (c .before .before .at2 .ensures) (c .before .product .ensures) (c .difference .ensures),
     ))
     (λ c. search (part-all working)))

@@ -149,7 +149,7 @@ impl Peer {
 pub fn print_times(layouts: &[Layout], rounds: usize) -> Result<(), String> {
     let isal = Loaded::new().ok_or(MISSING)?;
     println!();
-    table::heading(&NAMES, ", µs");
+    table::heading(table::LAYOUT, &NAMES, ", µs");
     for &layout in layouts {
         let times = Peer::new(&isal, layout).times(rounds);
         table::row(layout, STORE, &times);
@@ -161,7 +161,7 @@ pub fn print_times(layouts: &[Layout], rounds: usize) -> Result<(), String> {
 pub fn print_instructions(layouts: &[Layout]) -> Result<(), String> {
     Loaded::new().ok_or(MISSING)?;
     println!();
-    table::heading(&NAMES, "");
+    table::heading(table::LAYOUT, &NAMES, "");
     for &layout in layouts {
         let count = |name| instructions::of(u8::COUNT, layout, STORE, name);
         let counts: Vec<u64> = NAMES.into_iter().map(count).collect::<Result<_, _>>()?;

@@ -1,15 +1,19 @@
-//! The calls: those over either field, one file and one entry of [`COMMON`] each,
-//! and those of the box, which belong to neither.
+//! The calls: those over either field, one file and one entry of [`COMMON`] or
+//! [`TRAYS`] each, and those of the box and the checksum, which belong to neither.
 
 pub mod card_print;
 pub mod card_repair;
 pub mod card_test;
+pub mod checksum;
 pub mod copy_image;
+pub mod gather;
+pub mod gather_rack;
 pub mod margin;
 pub mod measure;
 pub mod read_image;
 pub mod read_part;
 pub mod recover;
+pub mod recover_correcting;
 pub mod repair;
 pub mod repair_correcting;
 pub mod repair_many;
@@ -18,8 +22,10 @@ pub mod share_add;
 pub mod share_add_many;
 pub mod share_many;
 pub mod sixteen;
+pub mod states;
 pub mod store;
 pub mod test;
+pub mod test_kept;
 pub mod walk;
 pub mod walk_reset;
 pub mod write_image;
@@ -96,8 +102,17 @@ const COMMON: [&Call; 19] = [
     &walk::CALL,
 ];
 
+/// The calls from trays to records, which both fields have alike.
+const TRAYS: [&Call; 5] = [
+    &recover_correcting::CALL,
+    &test_kept::CALL,
+    &states::CALL,
+    &gather::CALL,
+    &gather_rack::CALL,
+];
+
 impl Call {
-    /// Whether it is over a layout, as all are but those of the box.
+    /// Whether it is over a layout, as all are but those of the box and the checksum.
     pub fn has_layout(&self) -> bool {
         self.shape.first() == Some(&Kind::Layout)
     }
@@ -120,6 +135,13 @@ impl Call {
 
 /// All calls of a field.
 pub fn calls(field: Field) -> Vec<&'static Call> {
+    let mut calls = documents(field);
+    calls.extend(TRAYS);
+    calls
+}
+
+/// The calls of a field that are documents 01 and 02's.
+fn documents(field: Field) -> Vec<&'static Call> {
     let read_image = match field {
         Field::Of256 => &read_image::CALL,
         Field::Of257 => &copy_image::CALL,
@@ -127,7 +149,7 @@ pub fn calls(field: Field) -> Vec<&'static Call> {
     COMMON.into_iter().chain([read_image]).collect()
 }
 
-/// Calls that are counted together.
+/// Calls that are counted together, or written to a file of vectors.
 pub struct Group {
     pub name: String,
     /// The field of their inputs.
@@ -135,19 +157,65 @@ pub struct Group {
     pub calls: Vec<&'static Call>,
 }
 
-/// The calls of each field, and those of the box.
-pub fn groups() -> [Group; 3] {
-    let [of_256, of_257] = FIELDS.map(|field| Group {
+/// The calls of each field, those of the box, and the checksum.
+pub fn groups() -> [Group; 4] {
+    let [of_256, of_257] = FIELDS.map(|field| group_of(field, calls(field)));
+    [of_256, of_257, of_box(), of_checksum()]
+}
+
+/// A file of drawn vectors: its name, its calls, and how many cases it has for each
+/// ground of a call and where it is done.
+pub struct Drawn {
+    pub name: String,
+    pub group: Group,
+    pub refused: usize,
+    pub done: usize,
+}
+
+/// The files of drawn vectors: those of the documents' calls, and, with more cases,
+/// those of the calls that came after them.
+pub fn drawn() -> Vec<Drawn> {
+    let file = |name: &str, group, [refused, done]: [usize; 2]| Drawn {
+        name: name.to_string(),
+        group,
+        refused,
+        done,
+    };
+    let mut files = vec![];
+    for field in FIELDS {
+        let (symbols, trays) = (field.symbols(), TRAYS.to_vec());
+        let documents = group_of(field, documents(field));
+        files.push(file(&format!("{symbols}"), documents, [2, 2]));
+        let trays = group_of(field, trays);
+        files.push(file(&format!("trays-{symbols}"), trays, [10, 60]));
+    }
+    files.push(file("box", of_box(), [2, 2]));
+    files.push(file("checksum", of_checksum(), [0, 300]));
+    files
+}
+
+fn group_of(field: Field, calls: Vec<&'static Call>) -> Group {
+    Group {
         name: format!("field of {}", field.symbols()),
         field,
-        calls: calls(field),
-    });
-    let of_box = Group {
+        calls,
+    }
+}
+
+fn of_box() -> Group {
+    Group {
         name: "sixteen-tray box".to_string(),
         field: sixteen::FIELD,
         calls: sixteen::CALLS.to_vec(),
-    };
-    [of_256, of_257, of_box]
+    }
+}
+
+fn of_checksum() -> Group {
+    Group {
+        name: "checksum".to_string(),
+        field: checksum::FIELD,
+        calls: vec![&checksum::CALL],
+    }
 }
 
 /// The inputs of a call for one share: layout, host rack, the rack or tray that gives, its symbols

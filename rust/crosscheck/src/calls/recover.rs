@@ -4,7 +4,7 @@ use super::{library_layout, reference_layout, Call, Looks};
 use crate::answer::Answer;
 use crate::cabinet::Cabinet;
 use crate::damage;
-use crate::field::in_field;
+use crate::field::{in_field, Symbol};
 use crate::inputs::{Inputs, Kind, Value};
 use crate::lent::Lent;
 use crate::random::Random;
@@ -22,7 +22,7 @@ pub const CALL: Call = Call {
 };
 
 /// At the trays that are not listed.
-fn looks(inputs: &Inputs, _: usize, place: usize) -> bool {
+pub fn looks(inputs: &Inputs, _: usize, place: usize) -> bool {
     let [racks, size, ..] = inputs.layout();
     let layers = inputs.symbols(1).len() / (racks * size) as usize;
     let tray = (place / layers) as u32;
@@ -30,7 +30,7 @@ fn looks(inputs: &Inputs, _: usize, place: usize) -> bool {
 }
 
 /// A codeword with noise in its erased trays and, at times, damaged survivors.
-fn example(source: &mut Source, cabinet: &Cabinet) -> Inputs {
+pub fn example(source: &mut Source, cabinet: &Cabinet) -> Inputs {
     let random = &mut source.random;
     let count = how_many(cabinet, random);
     let erased = random.some_of(count, cabinet.tray_numbers());
@@ -42,11 +42,27 @@ fn example(source: &mut Source, cabinet: &Cabinet) -> Inputs {
         2 => codeword = random.symbols(cabinet.field, cabinet.symbols()),
         _ => {}
     }
+    erase(cabinet, random, codeword, erased)
+}
+
+/// The inputs over a codeword, with noise in its erased trays.
+pub fn erase(
+    cabinet: &Cabinet,
+    random: &mut Random,
+    mut codeword: Vec<Symbol>,
+    erased: Vec<u32>,
+) -> Inputs {
     for &tray in &erased {
         let noise = random.noise(cabinet.field, cabinet.numbers.layers);
         codeword[cabinet.tray(tray)].copy_from_slice(&noise);
     }
     cabinet.inputs([Value::Symbols(codeword), Value::List(erased)])
+}
+
+/// The erased trays as the second program takes them.
+pub fn reference_trays(inputs: &Inputs) -> Vec<reference::Tray> {
+    let list = inputs.list(2).iter();
+    list.copied().map(reference::Tray).collect()
 }
 
 /// How many trays are erased: from none to r, these two and r − 1 more often.
@@ -73,8 +89,7 @@ fn library(inputs: &Inputs) -> Answer {
 }
 
 fn reference(inputs: &Inputs) -> Answer {
-    let list = inputs.list(2).iter();
-    let erased: Vec<reference::Tray> = list.copied().map(reference::Tray).collect();
+    let erased = reference_trays(inputs);
     in_field!(inputs.field, {
         let layout = reference_layout::<F>(inputs);
         let filled = reference::recover(layout, &inputs.given::<F>(1), &erased);

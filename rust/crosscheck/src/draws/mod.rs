@@ -2,11 +2,14 @@
 
 mod any_call;
 mod box_calls;
+mod checksums;
 mod cutting;
+mod erased_and_wrong;
 mod feeds;
 mod one_lost;
 mod reading;
 mod same_group;
+mod trays_to_records;
 mod walks;
 mod wrong_share;
 
@@ -21,7 +24,7 @@ pub struct Draw {
     pub case: fn(&mut Crosscheck),
 }
 
-pub const DRAWS: [&Draw; 9] = [
+pub const DRAWS: [&Draw; 12] = [
     &any_call::DRAW,
     &cutting::DRAW,
     &feeds::DRAW,
@@ -30,5 +33,8 @@ pub const DRAWS: [&Draw; 9] = [
     &same_group::DRAW,
     &walks::DRAW,
     &wrong_share::DRAW,
+    &erased_and_wrong::DRAW,
+    &trays_to_records::DRAW,
     &box_calls::DRAW,
+    &checksums::DRAW,
 ];

@@ -12,6 +12,7 @@ mod lost_counts;
 mod small_layouts;
 mod whole_repairs;
 mod wrong_shares;
+mod wrong_trays;
 
 use crate::crosscheck::Crosscheck;
 use crate::source::Source;
@@ -25,7 +26,7 @@ pub struct Sweep {
     pub item: fn(&mut Crosscheck, usize),
 }
 
-pub const SWEEPS: [&Sweep; 11] = [
+pub const SWEEPS: [&Sweep; 12] = [
     &every_layout::SWEEP,
     &small_layouts::SWEEP,
     &least_check::SWEEP,
@@ -34,6 +35,7 @@ pub const SWEEPS: [&Sweep; 11] = [
     &large_numbers::SWEEP,
     &whole_repairs::SWEEP,
     &wrong_shares::SWEEP,
+    &wrong_trays::SWEEP,
     &cards::SWEEP,
     &box_losses::SWEEP,
     &box_trays::SWEEP,

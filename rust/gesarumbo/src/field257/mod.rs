@@ -9,18 +9,20 @@
 //! - **Symbols** are the numbers 0 to 256, and sums are modulo 257 in place of the exclusive or.
 //!   Lengths count symbols; images and states stay bytes, and their lengths count bytes.
 //! - **A number above 256** is [`Refusal::Number`](crate::Refusal::Number) where the call looks at
-//!   it. [`test()`] looks at every symbol before it answers, [`store`] at the data, [`recover`] at
-//!   the trays that are not listed, the share calls at the rack or tray and, where they add, at the
-//!   shares too, a repair at the share symbols and sound host symbols of its own groups,
-//!   [`repair_correcting`] at those of all groups, [`card_test`] and [`card_repair`] at the card's
-//!   multipliers, which are numbers 0 to 256 too, [`write_image`] at the symbols, [`scrub`] at the
-//!   layers it tests. This holds where the call would be refused on a later ground too. No call looks at what it only writes, at lost and
+//!   it. [`test()`] looks at every symbol before it answers, [`store`] at the data, [`recover`],
+//!   [`recover_correcting()`] and [`test_kept()`] at the trays that are not listed, the share calls
+//!   at the rack or tray and, where they add, at the shares too, a repair at the share symbols and
+//!   sound host symbols of its own groups, [`repair_correcting`] at those of all groups,
+//!   [`card_test`] and [`card_repair`] at the card's multipliers, which are numbers 0 to 256 too,
+//!   [`write_image`] at the symbols, [`scrub`] at the layers it tests. This holds where the call
+//!   would be refused on a later ground too. No call looks at what it only writes, at lost and
 //!   erased trays, or at other groups and layers; [`read_part`] and a call for no lost tray look at
 //!   no symbol at all.
 //! - **Signs.** Nothing cancels: a tray fed twice to a share counts twice.
 //! - **Images** have edition 2 and two bytes a symbol, low byte first: 24 + 2·L bytes. A reader of
 //!   one edition takes an image of the other for malformed, and one with a symbol above 256 is
-//!   malformed too. [`read_image`] copies the symbols to places that it is lent.
+//!   malformed too. [`read_image`] copies the symbols to places that it is lent. For [`states`],
+//!   [`gather`] and [`gather_rack`] each place has 24 + 2·L bytes.
 //! - **Pieces.** What is promised of repairs and walks cut into pieces is promised for symbols 0 to
 //!   256.
 //!
@@ -52,28 +54,34 @@
 
 mod card;
 mod correcting;
+mod gather;
 mod image;
 mod margin;
 mod measure;
 mod numbers;
 mod reading;
 mod recover;
+mod recover_correcting;
 mod repair;
 mod scrub;
 mod share;
 mod store;
 mod test;
+mod test_kept;
 
 pub use card::{card, card_repair, card_test};
 pub use correcting::repair_correcting;
+pub use gather::{gather, gather_rack, states};
 pub use image::{read_image, write_image};
 pub use margin::margin;
 pub use measure::measure;
 pub use numbers::numbers;
 pub use reading::read_part;
 pub use recover::recover;
+pub use recover_correcting::recover_correcting;
 pub use repair::{repair, repair_many};
 pub use scrub::{scrub, scrub_handed, scrub_reset, scrub_reset_handed};
 pub use share::{share, share_add, share_add_many, share_many};
 pub use store::store;
 pub use test::test;
+pub use test_kept::test_kept;

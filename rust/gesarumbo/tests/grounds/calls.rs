@@ -31,24 +31,236 @@ fn testing() {
     refused(Refusal::Length, length, |codeword| test(GOOD, codeword));
 }
 
+/// All that recovering looks at, up to ground 5: the calls over erased trays have these alike.
+fn erased_trays() -> Vec<(Refusal, Layout, usize, Vec<u32>)> {
+    let all_wrong = vec![N, 1, 1, 2, 3, 4, 5];
+    vec![
+        (Refusal::Layout, BAD, CODEWORD - 1, all_wrong.clone()),
+        (Refusal::Length, GOOD, CODEWORD - 1, all_wrong.clone()),
+        (Refusal::Number, GOOD, CODEWORD, all_wrong),
+        (Refusal::Order, GOOD, CODEWORD, vec![0, 1, 1, 2, 3, 4, 5]),
+        (Refusal::Count, GOOD, CODEWORD, (0..=R).collect()),
+    ]
+}
+
 #[test]
 fn recovering() {
-    let too_many: Vec<u32> = (0..=R).collect();
-    for (ground, layout, length, erased) in [
-        (
-            Refusal::Layout,
-            BAD,
-            CODEWORD - 1,
-            &[N, 1, 1, 2, 3, 4, 5][..],
-        ),
-        (Refusal::Length, GOOD, CODEWORD - 1, &[N, 1, 1, 2, 3, 4, 5]),
-        (Refusal::Number, GOOD, CODEWORD, &[N, 1, 1, 2, 3, 4, 5]),
-        (Refusal::Order, GOOD, CODEWORD, &[0, 1, 1, 2, 3, 4, 5]),
-        (Refusal::Count, GOOD, CODEWORD, &too_many),
-        (Refusal::Survivors, GOOD, CODEWORD, &[0, 1, 2]),
-        (Refusal::Survivors, GOOD, CODEWORD, &[]),
+    for (ground, layout, length, erased) in erased_trays() {
+        refused(ground, length, |c| recover(layout, c, &trays(&erased)));
+    }
+    for erased in [&[0, 1, 2][..], &[]] {
+        refused(Refusal::Survivors, CODEWORD, |c| {
+            recover(GOOD, c, &trays(erased))
+        });
+    }
+}
+
+/// A codeword of GOOD.
+fn stored() -> Vec<Symbol> {
+    let data: Vec<Symbol> = (0..DATA).map(|at| (at * 13 % 251) as Symbol).collect();
+    let mut codeword = zeros(CODEWORD);
+    store(GOOD, &data, &mut codeword).expect("data are stored");
+    codeword
+}
+
+/// A symbol that is not this one.
+fn another(symbol: Symbol) -> Symbol {
+    Symbol::from(symbol == 0)
+}
+
+#[test]
+fn recovering_though_one_is_wrong() {
+    for (ground, layout, length, erased) in erased_trays() {
+        refused(ground, length, |c| {
+            recover_correcting(layout, c, &trays(&erased))
+        });
+    }
+    let whole = stored();
+    for erased in 0..=R {
+        let (erased, checks) = (trays(&(0..erased).collect::<Vec<_>>()), R - erased);
+        let mut wrong = whole.clone();
+        wrong[..erased.len() * 16].fill(7);
+        let mut codeword = wrong.clone();
+        let none = Recovered { tray: None, checks };
+        assert_eq!(recover_correcting(GOOD, &mut codeword, &erased), Ok(none));
+        assert_eq!(codeword, whole);
+        // The last tray is wrong in two layers, and then the one before it in another.
+        for at in [CODEWORD - 1, CODEWORD - 9] {
+            wrong[at] = another(wrong[at]);
+        }
+        let named = Recovered {
+            tray: Some(Tray::new(N - 1)),
+            checks,
+        };
+        codeword = wrong.clone();
+        let recovered = recover_correcting(GOOD, &mut codeword, &erased);
+        match checks {
+            0 => assert_eq!(recovered, Ok(none)),
+            1 => assert_eq!((recovered, &codeword), (Err(Refusal::Survivors), &wrong)),
+            _ => assert_eq!((recovered, &codeword), (Ok(named), &whole)),
+        }
+        wrong[CODEWORD - 20] = another(wrong[CODEWORD - 20]);
+        codeword = wrong.clone();
+        let recovered = recover_correcting(GOOD, &mut codeword, &erased);
+        match checks {
+            0 => assert_eq!(recovered, Ok(none)),
+            _ => assert_eq!((recovered, &codeword), (Err(Refusal::Survivors), &wrong)),
+        }
+    }
+}
+
+#[test]
+fn testing_with_trays_missing() {
+    for (ground, layout, length, erased) in erased_trays() {
+        refused(ground, length, |c| test_kept(layout, c, &trays(&erased)));
+    }
+    let whole = stored();
+    for erased in 0..=R {
+        let (erased, checks) = (trays(&(0..erased).collect::<Vec<_>>()), R - erased);
+        let mut kept = whole.clone();
+        kept[..erased.len() * 16].fill(7);
+        let sound = Ok(Kept::Sound { checks });
+        assert_eq!(test_kept(GOOD, &kept, &erased), sound);
+        for layer in [11, 4] {
+            let at = CODEWORD - 16 + layer as usize;
+            kept[at] = another(kept[at]);
+            let layer = Layer::new(layer);
+            let bad = match checks {
+                0 => sound,
+                _ => Ok(Kept::Bad { layer, checks }),
+            };
+            assert_eq!(test_kept(GOOD, &kept, &erased), bad);
+        }
+    }
+}
+
+/// The images of the trays of a codeword of GOOD, all of volume 7.
+fn images(codeword: &[Symbol]) -> Vec<u8> {
+    let mut images = vec![0; N as usize * IMAGE];
+    for (tray, image) in (0..).map(Tray::new).zip(images.chunks_mut(IMAGE)) {
+        let symbols = &codeword[tray.number() as usize * 16..][..16];
+        let written = write_image(GOOD, tray, LIVE.into(), 7, symbols, image);
+        assert_eq!(written, Ok(()));
+    }
+    images
+}
+
+/// What is no live image of place 2, each with its ground and the state of the place: as malformed,
+/// demonstration, of another volume, of another layout and of another place.
+fn foreign() -> Vec<(Refusal, u8, Vec<u8>)> {
+    let mut reset = image_of(GOOD, DEMONSTRATION, 7);
+    reset[12..16].fill(0); // a reset tray comes up with volume 0
+    let mut elsewhere = image_of(GOOD, LIVE, 7);
+    elsewhere[8] = 3;
+    let demonstration = image_of(GOOD, DEMONSTRATION, 8);
+    vec![
+        (Refusal::Malformed, ABSENT, vec![0; IMAGE]),
+        (Refusal::Malformed, ABSENT, reset),
+        (Refusal::Demonstration, DEMONSTRATION, demonstration),
+        (Refusal::Other, ABSENT, image_of(GOOD, LIVE, 8)),
+        (Refusal::Other, ABSENT, image_of(LESS, LIVE, 7)),
+        (Refusal::Other, ABSENT, elsewhere),
+    ]
+}
+
+#[test]
+fn telling_states() {
+    let (all, trays) = (N as usize * IMAGE, N as usize);
+    for (ground, layout, images, length) in [
+        (Refusal::Layout, BAD, all - 1, trays - 1),
+        (Refusal::Length, GOOD, all - 1, trays),
+        (Refusal::Length, GOOD, all, trays + 1),
     ] {
-        refused(ground, length, |c| recover(layout, c, &trays(erased)));
+        refused(ground, length, |out| {
+            states(layout, 7, &vec![0; images], out)
+        });
+    }
+    let good = images(&stored());
+    for (_, state, image) in foreign() {
+        let mut images = good.clone();
+        images[2 * IMAGE..3 * IMAGE].copy_from_slice(&image);
+        let mut found = vec![9; trays];
+        assert_eq!(states(GOOD, 7, &images, &mut found), Ok(()));
+        let mut due = vec![LIVE; trays];
+        due[2] = state;
+        assert_eq!(found, due);
+    }
+}
+
+#[test]
+fn gathering() {
+    let (all, length) = (N as usize * IMAGE, N as usize);
+    for (ground, layout, images, codeword, list) in [
+        (Refusal::Layout, BAD, all - 1, CODEWORD - 1, length - 1),
+        (Refusal::Length, GOOD, all - 1, CODEWORD, length),
+        (Refusal::Length, GOOD, all, CODEWORD - 1, length),
+        (Refusal::Length, GOOD, all, CODEWORD, length + 1),
+        (Refusal::Length, GOOD, all, CODEWORD, 0),
+    ] {
+        let mut missing = trays(&vec![77; list]);
+        refused(ground, codeword, |out| {
+            gather(layout, 7, &vec![0; images], out, &mut missing)
+        });
+        assert_eq!(missing, trays(&vec![77; list]));
+    }
+    let whole = stored();
+    for (_, _, image) in foreign() {
+        let mut images = images(&whole);
+        images[2 * IMAGE..3 * IMAGE].copy_from_slice(&image);
+        let (mut codeword, mut missing) = (vec![9; CODEWORD], trays(&vec![77; length]));
+        let gathered = gather(GOOD, 7, &images, &mut codeword, &mut missing);
+        assert_eq!(gathered, Ok(1));
+        let mut due = trays(&vec![77; length]);
+        due[0] = Tray::new(2);
+        assert_eq!(missing, due);
+        assert_eq!(codeword[2 * 16..3 * 16], [0; 16]);
+        assert_eq!(recover(GOOD, &mut codeword, &missing[..1]), Ok(()));
+        assert_eq!(codeword, whole);
+    }
+    let (mut codeword, mut missing) = (vec![9; CODEWORD], trays(&vec![77; length]));
+    let none = gather(GOOD, 8, &images(&whole), &mut codeword, &mut missing);
+    assert_eq!((none, codeword), (Ok(length), zeros(CODEWORD)));
+    assert_eq!(missing, trays(&(0..N).collect::<Vec<_>>()));
+}
+
+#[test]
+fn gathering_a_rack() {
+    let of_rack = U as usize * IMAGE;
+    for (ground, layout, rack, lost, images, length) in [
+        (Refusal::Layout, BAD, 4, &[U, 1, 1][..], of_rack - 1, RACK - 1),
+        (Refusal::Length, GOOD, 4, &[U, 1, 1], of_rack - 1, RACK),
+        (Refusal::Length, GOOD, 4, &[U, 1, 1], of_rack, RACK - 1),
+        (Refusal::Number, GOOD, 4, &[1, 1], of_rack, RACK),
+        (Refusal::Number, GOOD, 0, &[U, 1, 1], of_rack, RACK),
+        (Refusal::Number, GOOD, 0, &[N, 1, 1], of_rack, RACK),
+        (Refusal::Order, GOOD, 0, &[1, 1], of_rack, RACK),
+        (Refusal::Order, GOOD, 0, &[1, 0], of_rack, RACK),
+        (Refusal::Malformed, GOOD, 0, &[1], of_rack, RACK),
+    ] {
+        let (rack, lost) = (Rack::new(rack), trays(lost));
+        refused(ground, length, |out| {
+            gather_rack(layout, 7, rack, &lost, &vec![0; images], out)
+        });
+    }
+    let whole = stored();
+    let good = images(&whole)[..of_rack].to_vec();
+    for (ground, _, image) in foreign() {
+        let mut images = good.clone();
+        images[2 * IMAGE..3 * IMAGE].copy_from_slice(&image);
+        refused(ground, RACK, |out| {
+            gather_rack(GOOD, 7, Rack::new(0), &[], &images, out)
+        });
+        let mut out = vec![9; RACK];
+        let lost = [Tray::new(2)];
+        assert_eq!(gather_rack(GOOD, 7, Rack::new(0), &lost, &images, &mut out), Ok(()));
+        assert_eq!(out[..2 * 16], whole[..2 * 16]);
+        assert_eq!(out[2 * 16..3 * 16], [9; 16]);
+        assert_eq!(out[3 * 16..], whole[3 * 16..RACK]);
+        // The first ground over all images: a malformed one beside it comes first.
+        images[..IMAGE].fill(0);
+        refused(Refusal::Malformed, RACK, |out| {
+            gather_rack(GOOD, 7, Rack::new(0), &[], &images, out)
+        });
     }
 }
 
@@ -525,5 +737,10 @@ fn nothing_lent_is_a_wrong_length() {
     refused(length, 0, |i| write_image(GOOD, tray, 1, 7, nothing, i));
     assert_eq!(read_tray(GOOD, 7, &[]), Err(Refusal::Malformed));
     assert_eq!(margin(GOOD, &[]), Err(length));
+    refused(length, 0, |codeword| recover_correcting(GOOD, codeword, &[]));
+    refused(length, 0, |codeword| test_kept(GOOD, codeword, &[]));
+    refused(length, 0, |out| states(GOOD, 7, &[], out));
+    refused(length, 0, |out| gather(GOOD, 7, &[], out, &mut []));
+    refused(length, 0, |out| gather_rack(GOOD, 7, rack, &[], &[], out));
     record_left(length, [0, 0, 16], |r| scrub(GOOD, nothing, r, 1));
 }

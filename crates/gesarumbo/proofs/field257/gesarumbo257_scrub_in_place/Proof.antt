@@ -21,4 +21,5 @@ gesarumbo257-scrub-in-place-spec 𝓤 H 𝓜 𝓖 𝓡 =
     entered 𝓤 H (tripleOf 𝓤 H (𝓖 .A) f.signature (f.spec 𝓤 H (𝓖 .A) (𝓜 .mem) (𝓡 .run)))
     (tables 𝓤 H 𝓜 𝓡 code.env .C) (tables 𝓤 H 𝓜 𝓡 code.env .Λ) key.name code.function (code.unfolded 𝓤 H 𝓜 𝓡)
     (step-in-place w16 by-value.name (scrubbed gf257) 𝓤 H (𝓖 .A) (givenOf 𝓤 H 𝓜 𝓖) (tablesOf 𝓤 H 𝓜 (tables 𝓤 H 𝓜 𝓡 code.env))
-    (cited 𝓤 H (Handed w16 by-value.name (scrubbed gf257) 𝓤 H (𝓖 .A)) 𝓜 𝓡 code.env by-value.name by-value.routine code.calls-gesarumbo·field257·gesarumbo257-scrub (by-value-met.met 𝓤 H 𝓜 𝓖 𝓡)))
+    (cited 𝓤 H (Handed w16 by-value.name (scrubbed gf257) 𝓤 H (𝓖 .A))
+    𝓜 𝓡 code.env by-value.name by-value.routine code.calls-gesarumbo·field257·gesarumbo257-scrub (by-value-met.met 𝓤 H 𝓜 𝓖 𝓡)))

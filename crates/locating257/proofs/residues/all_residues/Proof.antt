@@ -67,12 +67,16 @@ all-residues-spec =
           .first-long) (c2 .loop .inv .2),
     ))
     (λ c.
-    let c1 = c .before .before .before .before .before .before .before .before .before .before .before .before .before .before .before .before .before .before .before .before .before .before in
+    let c1 =
+    c .before .before .before .before .before .before .before .before .before .before .before .before .before .before .before .before .before .before .before .before
+    .before .before in
     let c2 = c1 .before .before .before .before in
     let c3 = c2 .before .before .before .before .before .before .before .before .before .before in
     next-fits (c3 .args .l) _ _ _ _ (c3 .pre .0 .chosen .adm) (c2 .group-count .ensures) (omega arith) (c1 .block-at .ensures .1))
     (λ c.
-    let c1 = c .before .before .before .before .before .before .before .before .before .before .before .before .before .before .before .before .before .before .before .before .before .before in
+    let c1 =
+    c .before .before .before .before .before .before .before .before .before .before .before .before .before .before .before .before .before .before .before .before
+    .before .before in
     let c2 = c1 .before in
     omega (arith, c1 .block-at .ensures .2, c2 .loop-test .taken))
     (λ c.

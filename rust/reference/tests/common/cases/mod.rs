@@ -1,5 +1,4 @@
-//! Calls of documents 01 and 02 with all they are given, and the faults for
-//! which they are refused.
+//! The calls with all they are given, and the faults for which they are refused.
 
 mod cards;
 mod codewords;
@@ -9,6 +8,7 @@ mod margins;
 mod parts;
 mod repairs;
 mod shares;
+mod trays;
 mod walks;
 
 pub use cards::{CardPrint, CardRepair, CardTest};
@@ -19,6 +19,7 @@ pub use margins::Margin;
 pub use parts::ReadPart;
 pub use repairs::{Repair, RepairMany};
 pub use shares::{fed, Share, ShareAdd, ShareAddMany, ShareMany};
+pub use trays::{images, Gather, GatherRack, RecoverCorrecting, TestKept, VOLUME};
 pub use walks::Scrub;
 
 use super::Tried;

@@ -1,0 +1,11 @@
+pub mod Steps
+pub mod Entries
+pub mod Parts
+pub mod Fed
+pub mod Nibbles
+pub mod Eights
+pub mod Loops
+pub mod Falling
+pub mod Divided
+pub mod Unique
+pub mod Claims

@@ -1,0 +1,4 @@
+pub mod Checksum
+pub mod Remainder
+pub mod Claims
+pub mod Inner

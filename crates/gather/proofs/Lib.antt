@@ -1,0 +1,12 @@
+pub mod Missing
+pub mod Taking
+pub mod Parts
+pub mod Whole
+pub mod Racks
+pub mod Counted
+pub mod Exactly
+pub mod Present
+pub mod Returns
+pub mod Wrong
+pub mod RackReturns
+pub mod Claims

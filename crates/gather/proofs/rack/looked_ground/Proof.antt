@@ -1,0 +1,13 @@
+use borrow.Author.Needs.{needs}
+use Rattle.gather.proofs.Racks.{looked-lost, looked-told}
+use Rattle.gather.proofs.rack.looked_ground.Statement.{statement}
+use Rattle.gather.proofs.rack.looked_ground.Tie as tie
+
+pub looked-ground-spec : {M : Type 1} → statement M
+looked-ground-spec =
+    tie.close
+    (tie.spec
+    (λ c κs. search needs)
+    (λ c. search looked-lost)
+    (λ c κs. search needs)
+    (λ c. search looked-told))

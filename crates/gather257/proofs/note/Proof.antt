@@ -1,0 +1,10 @@
+-- Made by tools/twin.py from crates/gather/proofs/note/Proof.antt.
+use Rattle.gather.proofs.Taking.{there-not}
+use borrow.Author.Needs.{needs}
+use Rattle.gather257.proofs.note.Statement.{statement}
+use Rattle.gather257.proofs.note.Tie as tie
+
+pub note-spec : {M : Type 1} → statement M
+note-spec =
+    tie.close (tie.spec (λ c. search needs) (λ c. search needs) (λ c. search needs) (λ c. search needs) (λ c. search needs)
+    (λ c. (there-not _ _ _ (c .if1 .left), there-not _ _ _ (c .if1 .left))))

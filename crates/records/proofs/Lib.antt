@@ -1,0 +1,3 @@
+pub mod Racks
+pub mod Repairs
+pub mod Records

@@ -1,0 +1,3 @@
+pub mod RecoverCorrecting
+pub mod Claims
+pub mod Inner

@@ -1,0 +1,6 @@
+pub mod Blocks
+pub mod Solutions
+pub mod Settled
+pub mod Answers
+pub mod Whole
+pub mod Claims

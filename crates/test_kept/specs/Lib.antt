@@ -1,0 +1,3 @@
+pub mod TestKept
+pub mod Claims
+pub mod Inner
