@@ -20,17 +20,49 @@ pub enum Failure {
     File(String),
 }
 
-/// Exit statuses above the refusals' numbers, with their meaning; those of sysexits.h.
-pub const STATUSES: [(u8, &str); 4] = [
+/// How a command ended that did its work.
+#[derive(Clone, Copy, PartialEq, Eq, PartialOrd, Ord, Debug, Default)]
+pub enum Outcome {
+    #[default]
+    Done,
+    /// Something that was wrong is named and has been put right.
+    Healed,
+    /// Not all of it could be held against checks or checksums.
+    NotTested,
+}
+
+impl Outcome {
+    /// The exit status.
+    pub fn status(self) -> u8 {
+        match self {
+            Outcome::Done => 0,
+            Outcome::NotTested => NOT_TESTED,
+            Outcome::Healed => HEALED,
+        }
+    }
+}
+
+/// Exit statuses above the refusals' numbers, with their meaning; from 64 on those of sysexits.h.
+pub const STATUSES: [(u8, &str); 6] = [
+    (
+        NOT_TESTED,
+        "done, but not all of it could be tested: trays are missing, or there is no tray to spare",
+    ),
+    (
+        HEALED,
+        "done, and what was wrong is named and was put right in what was written",
+    ),
     (USAGE, "the command line makes no sense"),
     (
         CONTENTS,
-        "a file's contents cannot be used, or test or scrub found a bad layer",
+        "a file's contents cannot be used, or test or scrub found something wrong",
     ),
     (INTERNAL, "building failed, or command and library disagree"),
     (FILE, "a file or folder cannot be read or written"),
 ];
 
+const NOT_TESTED: u8 = 16;
+const HEALED: u8 = 17;
 const USAGE: u8 = 64;
 const CONTENTS: u8 = 65;
 const INTERNAL: u8 = 70;
@@ -38,7 +70,7 @@ const FILE: u8 = 74;
 
 /// Every refusal, in order of their numbers.
 pub fn refusals() -> impl Iterator<Item = Refusal> {
-    (1..u32::from(USAGE)).filter_map(Refusal::from_number)
+    (1..u32::from(NOT_TESTED)).filter_map(Refusal::from_number)
 }
 
 impl Failure {

@@ -7,13 +7,18 @@
 
 mod code;
 mod commands;
+mod disk;
 mod drawing;
 mod failure;
 mod files;
 mod repair;
 mod scrub;
+#[cfg(test)]
+mod simulation;
+mod storing;
 mod terminal;
 
+use disk::system::System;
 use std::env;
 use std::ffi::OsString;
 use std::io::{self, Write};
@@ -23,9 +28,9 @@ use terminal::screen::Screen;
 fn main() -> ExitCode {
     let line: Vec<OsString> = env::args_os().skip(1).collect();
     let mut screen = Screen::open();
-    let ended = commands::run(&line, &mut screen);
-    match ended.and(screen.close()) {
-        Ok(()) => ExitCode::SUCCESS,
+    let ended = commands::run(&line, &System, &mut screen);
+    match ended.and_then(|outcome| screen.close().map(|()| outcome)) {
+        Ok(outcome) => ExitCode::from(outcome.status()),
         Err(failure) => {
             // Nobody may be reading; the status says it all the same.
             let _ = writeln!(io::stderr(), "cabinet: {failure}");

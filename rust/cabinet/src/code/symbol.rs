@@ -2,13 +2,13 @@
 
 use crate::code::field::Field;
 use gesarumbo::{
-    field257, Corrected, Layout, Numbers, Rack, Refusal, Repaired, ScrubRecord, Scrubbed, Tested,
-    Tray,
+    field257, Corrected, Kept, Layout, Numbers, Rack, Recovered, Refusal, Repaired, ScrubRecord,
+    Scrubbed, Tray,
 };
 use std::ops::Range;
 
 /// A symbol of one of the fields.
-pub trait Symbol: Copy + Default + PartialEq + From<u8> + Into<u16> + 'static {
+pub trait Symbol: Copy + Default + PartialEq + From<u8> + Into<u16> + Into<u32> + 'static {
     const FIELD: Field;
     /// How many bytes it has in files and images.
     const WIDTH: usize;
@@ -16,6 +16,12 @@ pub trait Symbol: Copy + Default + PartialEq + From<u8> + Into<u16> + 'static {
 
     /// Its bytes in files and images, low byte first.
     fn bytes(self) -> impl Iterator<Item = u8>;
+
+    /// Whether it is one of the field.
+    fn is_symbol(self) -> bool {
+        let number: u32 = self.into();
+        number < Self::FIELD.number()
+    }
 
     /// The symbol of as many bytes as it has.
     fn of_bytes(bytes: &[u8]) -> Option<Self>;
@@ -40,9 +46,12 @@ type Answer<T> = Result<T, Refusal>;
 #[allow(clippy::type_complexity)] // they have as many parameters
 pub struct Calls<S: 'static> {
     pub numbers: fn(Layout) -> Answer<Numbers>,
-    pub test: fn(Layout, &[S]) -> Answer<Tested>,
     pub store: fn(Layout, &[S], &mut [S]) -> Answer<()>,
     pub recover: fn(Layout, &mut [S], &[Tray]) -> Answer<()>,
+    pub recover_correcting: fn(Layout, &mut [S], &[Tray]) -> Answer<Recovered>,
+    pub test_kept: fn(Layout, &[S], &[Tray]) -> Answer<Kept>,
+    pub gather: fn(Layout, u32, &[u8], &mut [S], &mut [Tray]) -> Answer<usize>,
+    pub gather_rack: fn(Layout, u32, Rack, &[Tray], &[u8], &mut [S]) -> Answer<()>,
     pub share: fn(Layout, Rack, Rack, &[S], &mut [S]) -> Answer<()>,
     pub share_many: fn(Layout, u32, Rack, Rack, &[S], &mut [S]) -> Answer<()>,
     pub repair_many:
@@ -63,9 +72,12 @@ macro_rules! calls {
     ($module:ident) => {
         Calls {
             numbers: $module::numbers,
-            test: $module::test,
             store: $module::store,
             recover: $module::recover,
+            recover_correcting: $module::recover_correcting,
+            test_kept: $module::test_kept,
+            gather: $module::gather,
+            gather_rack: $module::gather_rack,
             share: $module::share,
             share_many: $module::share_many,
             repair_many: $module::repair_many,
@@ -123,7 +135,8 @@ impl Symbol for u16 {
 
 /// The bytes of data that symbols are; the place of the first that is no byte, if one is not.
 pub fn to_data<S: Symbol>(symbols: &[S]) -> Result<Vec<u8>, usize> {
-    let bytes = symbols.iter().map(|symbol| u8::try_from((*symbol).into()));
+    let number = |symbol: &S| -> u16 { (*symbol).into() };
+    let bytes = symbols.iter().map(|symbol| u8::try_from(number(symbol)));
     bytes
         .enumerate()
         .map(|(place, byte)| byte.map_err(|_| place))

@@ -4,8 +4,9 @@ use super::Command;
 use crate::code::field::{in_field, Field, FIELD};
 use crate::code::numbers::Numbers;
 use crate::code::symbol::Symbol;
-use crate::failure::Failure;
-use crate::files;
+use crate::disk::Disk;
+use crate::failure::{Failure, Outcome};
+use crate::files::output;
 use crate::repair::card;
 use crate::terminal::arguments::{needed, Arguments, Setting};
 use crate::terminal::screen::{Paint, Screen};
@@ -49,7 +50,7 @@ struct Place {
     group: u64,
 }
 
-fn run(arguments: &Arguments, screen: &mut Screen) -> Result<(), Failure> {
+fn run(arguments: &Arguments, disk: &dyn Disk, screen: &mut Screen) -> Result<Outcome, Failure> {
     let (action, arguments) = arguments.action()?;
     if !["print", "test"].contains(&action.as_str()) {
         return Err(Failure::Usage("print or test is needed".to_string()));
@@ -67,9 +68,10 @@ fn run(arguments: &Arguments, screen: &mut Screen) -> Result<(), Failure> {
     };
     let path = Path::new(file);
     match action.as_str() {
-        "print" => in_field!(field, print(&place, path, screen)),
-        _ => in_field!(field, test(&place, path, screen)),
-    }
+        "print" => in_field!(field, print(&place, disk, path, screen)),
+        _ => in_field!(field, test(&place, disk, path, screen)),
+    }?;
+    Ok(Outcome::Done)
 }
 
 impl Place {
@@ -89,7 +91,12 @@ impl Place {
     }
 }
 
-fn print<S: Symbol>(place: &Place, path: &Path, screen: &mut Screen) -> Result<(), Failure> {
+fn print<S: Symbol>(
+    place: &Place,
+    disk: &dyn Disk,
+    path: &Path,
+    screen: &mut Screen,
+) -> Result<(), Failure> {
     let Place {
         numbers,
         lost,
@@ -104,17 +111,22 @@ fn print<S: Symbol>(place: &Place, path: &Path, screen: &mut Screen) -> Result<(
     lines
         .iter()
         .for_each(|line| screen.line(format!("  {line}")));
-    files::write_one(path, (lines.join("\n") + "\n").as_bytes())
+    output::write_named(disk, path, (lines.join("\n") + "\n").as_bytes())
 }
 
-fn test<S: Symbol>(place: &Place, path: &Path, screen: &mut Screen) -> Result<(), Failure> {
+fn test<S: Symbol>(
+    place: &Place,
+    disk: &dyn Disk,
+    path: &Path,
+    screen: &mut Screen,
+) -> Result<(), Failure> {
     let Place {
         numbers,
         lost,
         helpers,
         group,
     } = place;
-    let card: Vec<S> = card::read(path)?;
+    let card: Vec<S> = card::read(disk, path)?;
     let about = format!("{}: {}", path.display(), place.name());
     (S::CALLS.card_test)(numbers.layout, *lost, helpers, &card, *group)
         .map_err(Failure::refused(about))?;

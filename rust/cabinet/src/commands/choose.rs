@@ -3,8 +3,10 @@
 use super::Command;
 use crate::code::conditions::MOST_TRAYS;
 use crate::code::field::Field;
-use crate::failure::Failure;
-use crate::files::cabinet::HEADER;
+use crate::disk::Disk;
+use crate::failure::{Failure, Outcome};
+use crate::files::geometry::{many, CHECKSUM, HEADER};
+use crate::files::label;
 use crate::terminal::arguments::{needed, Arguments, Setting};
 use crate::terminal::screen::Screen;
 use crate::terminal::traffic::percent;
@@ -103,7 +105,7 @@ impl Asked {
     }
 }
 
-fn run(arguments: &Arguments, screen: &mut Screen) -> Result<(), Failure> {
+fn run(arguments: &Arguments, _: &dyn Disk, screen: &mut Screen) -> Result<Outcome, Failure> {
     let asked = Asked::read(arguments)?;
     let fields = [Field::Of256, Field::Of257];
     let all = fields.map(|field| {
@@ -128,7 +130,7 @@ fn run(arguments: &Arguments, screen: &mut Screen) -> Result<(), Failure> {
         0 => {}
         left => screen.line(format!("  {left} more with {}", ALL.name)),
     }
-    Ok(())
+    Ok(Outcome::Done)
 }
 
 /// An admissible layout of a field.
@@ -224,7 +226,9 @@ impl Choice {
         }
         let of_stripes = |bytes: usize| grouped(stripes as usize * bytes);
         let symbols = |count: usize| count * self.width();
-        let file = of_stripes(HEADER + symbols(self.numbers.layers));
+        let segments = stripes.div_ceil(many(self.numbers.layers, self.width()).into());
+        let around = label::SIZE + segments as usize * (HEADER + CHECKSUM);
+        let file = grouped(stripes as usize * symbols(self.numbers.layers) + around);
         let crossing = of_stripes(symbols(self.numbers.traffic));
         let stripes = count(stripes as usize, "stripe");
         format!("{stripes}, {file} bytes a tray, {crossing} in its repair")

@@ -1,23 +1,25 @@
 //! `cabinet demo`: a cabinet's life in six steps, then one with racks of four and one with a stale
 //! share.
 
-use super::{racks_of_four, stale_rack, store, Command};
+use super::{racks_of_four, stale_rack, Command};
 use crate::code::field::Field;
 use crate::code::numbers::Numbers;
-use crate::failure::Failure;
-use crate::files;
+use crate::disk::Disk;
+use crate::failure::{Failure, Outcome};
 use crate::files::cabinet::Cabinet;
-use crate::files::description::Description;
-use crate::files::stripe::{Found, Stripe};
-use crate::files::survey;
-use crate::repair::in_groups::GroupRepair;
+use crate::files::description::{Description, Format};
+use crate::files::label::SIZE;
+use crate::files::segment::Segment;
+use crate::files::{output, remove, survey};
+use crate::repair::in_groups::{GroupRepair, Means};
 use crate::repair::shares::Shares;
 use crate::repair::stripe_repair::judge;
 use crate::repair::{spare_path, Repair};
+use crate::storing;
 use crate::terminal::arguments::{Arguments, Setting};
 use crate::terminal::screen::{Paint, Screen};
 use crate::terminal::{cabinet_map, traffic};
-use gesarumbo::{Layout, Rack, Tray, DEMONSTRATION};
+use gesarumbo::{checksum, Layout, Rack, Tray, DEMONSTRATION};
 use std::path::Path;
 use std::{env, fs, process};
 
@@ -46,11 +48,15 @@ although a rack sends a stale share, and names that rack.
 ";
 
 const DESCRIPTION: Description = Description {
+    format: Format::Second,
     layout: Layout::new(4, 3, 8, 3),
     field: Field::Of256,
     volume: 7,
+    generation: 0,
     stripes: 1,
+    many: 256,
     length: Some(128),
+    checksum: None,
 };
 const LOST: Tray = Tray::new(4);
 const HELPERS: [Rack; 3] = [Rack::new(0), Rack::new(2), Rack::new(3)];
@@ -73,34 +79,45 @@ pub const RECORDS: [&[u8]; 8] = [
 /// What a factory-reset tray comes up with.
 const RESET: &[u8] = b"XX 00:00 Cl 9.9\n";
 
-fn run(arguments: &Arguments, screen: &mut Screen) -> Result<(), Failure> {
+fn run(arguments: &Arguments, disk: &dyn Disk, screen: &mut Screen) -> Result<Outcome, Failure> {
     let [] = arguments.words([])?;
     if let Some(folder) = arguments.value(KEEP) {
-        return tell(Path::new(folder), screen);
+        tell(disk, Path::new(folder), screen)?;
+        return Ok(Outcome::Done);
     }
     let folder = env::temp_dir().join(format!("cabinet-demo-{}", process::id()));
     fs::create_dir(&folder).map_err(Failure::file(&folder))?;
-    let told = tell(&folder, screen);
+    let told = tell(disk, &folder, screen);
     let cleared = fs::remove_dir_all(&folder).map_err(Failure::file(&folder));
-    told.and(cleared)
+    told.and(cleared).map(|()| Outcome::Done)
 }
 
 /// The eight steps.
-fn tell(path: &Path, screen: &mut Screen) -> Result<(), Failure> {
-    let cabinet = Cabinet::new(path, DESCRIPTION)?;
+fn tell(disk: &dyn Disk, path: &Path, screen: &mut Screen) -> Result<(), Failure> {
+    let description = Description {
+        checksum: Some(checksum(0, &RECORDS.concat())),
+        ..DESCRIPTION
+    };
+    let cabinet = Cabinet::new(disk, path, description)?;
     introduce(&cabinet.numbers, screen);
-    let stored = store_records(&cabinet, screen)?;
-    lose_a_tray(&cabinet, screen)?;
-    meet_a_reset_tray(&cabinet, screen)?;
-    repair_in_pieces(&cabinet, screen)?;
-    compare(&cabinet, &stored, screen)?;
+    let numbers = cabinet.numbers;
+    let stored = store_records(cabinet, screen)?;
+    lose_a_tray(disk, path, screen)?;
+    meet_a_reset_tray(disk, path, screen)?;
+    repair_in_pieces(disk, path, screen)?;
+    compare(disk, path, &stored, screen)?;
     screen.gap();
     screen.heading("6. Traffic of the repair");
-    traffic::print(&cabinet.numbers, screen);
+    traffic::print(&numbers, screen);
     screen.gap();
     racks_of_four::tell(screen)?;
     screen.gap();
     stale_rack::tell(screen)
+}
+
+/// The cabinet as it is in its folder.
+fn found<'d>(disk: &'d dyn Disk, path: &Path) -> Result<Cabinet<'d>, Failure> {
+    Cabinet::find(disk, path, &Arguments::parse(&[], &[])?)
 }
 
 fn introduce(numbers: &Numbers, screen: &mut Screen) {
@@ -115,24 +132,27 @@ fn introduce(numbers: &Numbers, screen: &mut Screen) {
     screen.gap();
 }
 
-fn store_records(cabinet: &Cabinet, screen: &mut Screen) -> Result<Vec<u8>, Failure> {
+fn store_records(cabinet: Cabinet, screen: &mut Screen) -> Result<Vec<u8>, Failure> {
     screen.heading("1. Store eight records, one to a tray");
     for (tray, record) in RECORDS.iter().enumerate() {
         print_record(tray, record, screen);
     }
-    store::store::<u8>(cabinet, &RECORDS.concat()[..], screen)?;
+    let (disk, path) = (cabinet.disk, cabinet.folder().to_path_buf());
+    let mut silent = Screen::silent();
+    storing::store::<u8>(cabinet, &mut &RECORDS.concat()[..], false, &mut silent)?;
+    let cabinet = found(disk, &path)?;
     screen.line(format!(
         "  {}: {} tray images are written",
         cabinet.description.words(),
         cabinet.numbers.trays
     ));
     screen.gap();
-    stripe(cabinet)?.codeword()
+    Ok(segment(&cabinet)?.stripe(0).codeword)
 }
 
-/// The only stripe.
-fn stripe(cabinet: &Cabinet) -> Result<Stripe<'_, u8>, Failure> {
-    cabinet.stripe(0)
+/// The only segment.
+fn segment<'a>(cabinet: &'a Cabinet<'a>) -> Result<Segment<'a, u8>, Failure> {
+    cabinet.segment_with(0)
 }
 
 fn print_record(tray: usize, record: &[u8], screen: &mut Screen) {
@@ -142,12 +162,13 @@ fn print_record(tray: usize, record: &[u8], screen: &mut Screen) {
     ));
 }
 
-fn lose_a_tray(cabinet: &Cabinet, screen: &mut Screen) -> Result<(), Failure> {
+fn lose_a_tray(disk: &dyn Disk, path: &Path, screen: &mut Screen) -> Result<(), Failure> {
     screen.heading(format!("2. Lose tray {LOST}"));
-    files::remove(&cabinet.image_path(LOST))?;
-    let kinds = stripe(cabinet)?.kinds();
+    remove(disk, &found(disk, path)?.image_path(LOST))?;
+    let cabinet = found(disk, path)?;
+    let kinds = segment(&cabinet)?.kinds();
     cabinet_map::print(&cabinet.numbers, &kinds, screen);
-    let margin = survey::margin::<u8>(cabinet, &kinds)?;
+    let margin = survey::margin::<u8>(&cabinet, &kinds)?;
     screen.line(format!(
         "  margin {margin}: any {margin} trays more may be lost"
     ));
@@ -155,16 +176,23 @@ fn lose_a_tray(cabinet: &Cabinet, screen: &mut Screen) -> Result<(), Failure> {
     Ok(())
 }
 
-fn meet_a_reset_tray(cabinet: &Cabinet, screen: &mut Screen) -> Result<(), Failure> {
+/// Puts a tray in that is as the factory made it: its header says so, and its label says nothing.
+fn reset(cabinet: &Cabinet) -> Result<(), Failure> {
+    let image = cabinet.segment_bytes_as(DEMONSTRATION, 0, LOST, RESET)?;
+    let bytes = [&[0; SIZE][..], &image].concat();
+    output::write_own(cabinet.disk, &cabinet.image_path(LOST), &bytes)
+}
+
+fn meet_a_reset_tray(disk: &dyn Disk, path: &Path, screen: &mut Screen) -> Result<(), Failure> {
     screen.heading("3. Meet a factory-reset tray");
-    let image = cabinet.image_as(DEMONSTRATION, 0, LOST, RESET)?;
-    files::write_one(&cabinet.image_path(LOST), &image)?;
+    reset(&found(disk, path)?)?;
+    let cabinet = found(disk, path)?;
     screen.line(format!(
         "  A new tray stands in for tray {LOST}. It comes up with demonstration contents:"
     ));
     print_record(LOST.number() as usize, RESET, screen);
-    let stripe = stripe(cabinet)?;
-    let Some(why) = stripe.found(LOST).why_not() else {
+    let segment = segment(&cabinet)?;
+    let Some(why) = segment.found(LOST).why_not() else {
         return Err(Failure::Internal(
             "a demonstration tray was handed out".to_string(),
         ));
@@ -172,13 +200,14 @@ fn meet_a_reset_tray(cabinet: &Cabinet, screen: &mut Screen) -> Result<(), Failu
     let why = screen.paint(Paint::Warning, &why);
     screen.line(format!("  {why}"));
     screen.line("  Its symbols are not handed out: no record and no repair sees them.");
-    cabinet_map::print(&cabinet.numbers, &stripe.kinds(), screen);
+    cabinet_map::print(&cabinet.numbers, &segment.kinds(), screen);
     screen.gap();
     Ok(())
 }
 
-fn repair_in_pieces(cabinet: &Cabinet, screen: &mut Screen) -> Result<(), Failure> {
+fn repair_in_pieces(disk: &dyn Disk, path: &Path, screen: &mut Screen) -> Result<(), Failure> {
     screen.heading(format!("4. Repair tray {LOST} in pieces"));
+    let cabinet = found(disk, path)?;
     let repair = Repair {
         lost: vec![LOST],
         helpers: HELPERS.to_vec(),
@@ -187,26 +216,42 @@ fn repair_in_pieces(cabinet: &Cabinet, screen: &mut Screen) -> Result<(), Failur
     screen.line(format!(
         "  Racks 0, 2 and 3 send {} symbols each to rack {}.",
         cabinet.numbers.groups,
-        repair.host(cabinet)
+        repair.host(&cabinet)
     ));
-    let open = || GroupRepair::<u8>::open(cabinet, &repair, spare_path(cabinet, &repair.lost));
-    open()?.work(&mut Shares::OfTrays, &[], 0..BROKEN_OFF, screen)?;
+    let spare = || spare_path(&cabinet, &repair.lost);
+    let mut means = Means {
+        shares: &mut Shares::OfTrays,
+        cards: &[],
+    };
+    let mut silent = Screen::silent();
+    GroupRepair::<u8>::open(&cabinet, &repair, spare(), &mut silent)?.work(
+        &mut means,
+        0..BROKEN_OFF,
+        screen,
+    )?;
     screen.line("  The power fails here; the spare is kept, and the repair goes on from it.");
-    let mut work = open()?;
+    let mut work = GroupRepair::<u8>::open(&cabinet, &repair, spare(), &mut silent)?;
     let rest = work.position()..cabinet.numbers.groups as u64;
-    work.work(&mut Shares::OfTrays, &[], rest, screen)?;
+    work.work(&mut means, rest, screen)?;
     work.finish(screen)?;
     screen.gap();
     Ok(())
 }
 
-fn compare(cabinet: &Cabinet, stored: &[u8], screen: &mut Screen) -> Result<(), Failure> {
+fn compare(
+    disk: &dyn Disk,
+    path: &Path,
+    stored: &[u8],
+    screen: &mut Screen,
+) -> Result<(), Failure> {
     screen.heading("5. Compare with what was stored");
-    let stripe = stripe(cabinet)?;
-    if let Found::Live(symbols) = stripe.found(LOST) {
+    let cabinet = found(disk, path)?;
+    let stripe = segment(&cabinet)?;
+    let stripe = stripe.stripe(0);
+    if let Ok(symbols) = stripe.symbols(LOST) {
         print_record(LOST.number() as usize, symbols, screen);
     }
-    if stripe.codeword()? != stored {
+    if !stripe.not_live().is_empty() || stripe.codeword != stored {
         return Err(Failure::Internal(
             "the repaired cabinet differs from the stored one".to_string(),
         ));

@@ -3,23 +3,28 @@
 use super::Command;
 use crate::code::field::in_field;
 use crate::code::symbol::{to_data, Symbol};
-use crate::failure::Failure;
+use crate::disk::{folder_of, Disk};
+use crate::failure::{Failure, Outcome};
 use crate::files::cabinet::Cabinet;
 use crate::files::description;
 use crate::files::draft::{self, Draft};
+use crate::files::faults::Faults;
+use crate::files::mend::{mend, Held, Mended};
+use crate::files::output;
+use crate::files::segment::Segment;
 use crate::files::survey::Unused;
 use crate::terminal::arguments::{Arguments, Setting};
 use crate::terminal::progress;
-use crate::terminal::screen::Screen;
+use crate::terminal::screen::{Paint, Screen};
 use crate::terminal::words::count;
-use gesarumbo::Tray;
+use gesarumbo::{checksum, Tray};
 use std::path::Path;
 
 const ERASE: Setting = Setting::with("--erase", "a,b,..", "do not use these trays, live or not");
 const LENGTH: Setting = Setting::with(
     "--length",
     "N",
-    "the length of the data, in place of that in cabinet.txt",
+    "the length of the data, in place of that in the labels",
 );
 
 pub const COMMAND: Command = Command {
@@ -41,27 +46,32 @@ const HELP: &str = "\
 cabinet get DIR FILE [--erase a,b,..] [--length N]
 
 Writes the data of DIR to FILE, exactly as long as they were. Trays that are
-absent, unreadable or refused are done without: any k live trays of a stripe
-will do. More are held against one another, and no FILE is written if they do
-not fit together (8). FILE lies outside of DIR, and no tray is changed. Where
-cabinet.txt does not say how long the data are, all k*L bytes of each stripe are
-given.
+absent, unreadable, refused or of another generation are done without: any k
+trays of a stripe will do. Every stripe is put right by itself, wherever code
+and checksums can: trays with a wrong checksum are left out first, then the code
+finds one more. What was wrong is named, tray by tray with its stripes (17); the
+data are right all the same. They must have the checksum that the labels say,
+and no FILE is written if they have not (65), or if a stripe cannot be put right
+(5, 8). Where nothing was left to hold them against, which is so only in
+cabinets of the first format with just k trays, it says so (16). FILE lies
+outside of DIR, and no tray is changed.
 
 Data with a symbol that is no byte, 256 in the field of 257, are not written
 (65).
 ";
 
-fn run(arguments: &Arguments, screen: &mut Screen) -> Result<(), Failure> {
+fn run(arguments: &Arguments, disk: &dyn Disk, screen: &mut Screen) -> Result<Outcome, Failure> {
     let [folder, file] = arguments.words(["DIR", "FILE"])?;
     let named = arguments.list(ERASE)?.unwrap_or_default();
     let named: Vec<Tray> = named.into_iter().map(Tray::new).collect();
-    let cabinet = Cabinet::find(folder, arguments)?;
+    let cabinet = Cabinet::find(disk, folder, arguments)?;
     let length = length(&cabinet, arguments)?;
     let file = Path::new(file);
-    if is_in(file, cabinet.folder()) {
+    if is_in(disk, file, cabinet.folder()) {
         let words = "is among the cabinet's own files; name a place outside of its folder";
         return Err(Failure::Usage(format!("{}: {words}", file.display())));
     }
+    output::guard(disk, file)?;
     in_field!(
         cabinet.description.field,
         get(&cabinet, &named, length, file, screen)
@@ -69,12 +79,8 @@ fn run(arguments: &Arguments, screen: &mut Screen) -> Result<(), Failure> {
 }
 
 /// Whether a file lies in a folder, or would: there it could take a tray's place.
-fn is_in(file: &Path, folder: &Path) -> bool {
-    let parent = match file.parent() {
-        Some(parent) if parent != Path::new("") => parent,
-        _ => Path::new("."),
-    };
-    match (parent.canonicalize(), folder.canonicalize()) {
+fn is_in(disk: &dyn Disk, file: &Path, folder: &Path) -> bool {
+    match (disk.canonical(folder_of(file)), disk.canonical(folder)) {
         (Ok(parent), Ok(folder)) => parent == folder,
         _ => false,
     }
@@ -95,29 +101,95 @@ fn length(cabinet: &Cabinet, arguments: &Arguments) -> Result<u64, Failure> {
     }
 }
 
+/// The data as far as they are written.
+struct Getting<'d> {
+    draft: Draft<'d>,
+    left: u64,
+    /// Of what is written.
+    checksum: u64,
+    faults: Faults,
+    held: Held,
+}
+
 fn get<S: Symbol>(
     cabinet: &Cabinet,
     named: &[Tray],
     length: u64,
     file: &Path,
     screen: &mut Screen,
-) -> Result<(), Failure> {
-    let room = cabinet.numbers.data();
-    let mut draft = Draft::begin(file, "get")?;
-    let (mut left, mut unused) = (length, None);
-    for stripe in cabinet.stripes::<S>(0) {
-        Unused::begin_or_say(&mut unused, &stripe, screen);
-        let codeword = stripe.recovered(named).map_err(stripe.named())?;
-        let here = usize::try_from(left).map_or(room, |left| left.min(room));
-        let data = bytes(&codeword[..here]).map_err(stripe.named())?;
-        draft.write(&data)?;
-        left -= data.len() as u64;
-        progress::stripes(cabinet, stripe.number + 1, screen);
+) -> Result<Outcome, Failure> {
+    let mut getting = Getting {
+        draft: Draft::begin(cabinet.disk, file, "get", None)?,
+        left: length,
+        checksum: 0,
+        faults: Faults::default(),
+        held: Held::Checks,
+    };
+    let mut unused = None;
+    for segment in cabinet.segments::<S>(0) {
+        let segment = segment?;
+        Unused::begin_or_say(&mut unused, &segment, screen);
+        let mended = mend(&segment, named)?;
+        getting.faults.add(&segment, &mended);
+        getting.write(&segment, &mended)?;
+        progress::segment(cabinet, &segment.stripes, screen);
     }
-    draft::publish(vec![draft])?;
-    let bytes = count(length as usize, "byte");
-    screen.line(format!("  {bytes} written to {}", file.display()));
-    Ok(())
+    getting.faults.add_labels(cabinet, &Unused::trays(unused));
+    getting.faults.say(cabinet, screen);
+    getting.finish(cabinet, length, file, screen)
+}
+
+impl Getting<'_> {
+    /// Writes the data of a segment.
+    fn write<S: Symbol>(
+        &mut self,
+        segment: &Segment<S>,
+        mended: &[Mended<S>],
+    ) -> Result<(), Failure> {
+        let room = segment.cabinet.numbers.data();
+        for (number, one) in segment.stripes.clone().zip(mended) {
+            let here = usize::try_from(self.left).map_or(room, |left| left.min(room));
+            let data = bytes(&one.codeword[..here]);
+            let place = segment.cabinet.place(number);
+            let data = data.map_err(|failure| failure.at(&place))?;
+            self.draft.write(&data)?;
+            self.checksum = checksum(self.checksum, &data);
+            self.left -= data.len() as u64;
+            self.held = self.held.min(one.held);
+        }
+        Ok(())
+    }
+
+    /// Compares the checksum of all data, and gives the file its name.
+    fn finish(
+        self,
+        cabinet: &Cabinet,
+        length: u64,
+        file: &Path,
+        screen: &mut Screen,
+    ) -> Result<Outcome, Failure> {
+        let is_all = cabinet.description.length == Some(length);
+        let stored = cabinet.description.checksum.filter(|_| is_all);
+        if stored.is_some_and(|stored| stored != self.checksum) {
+            return Err(Failure::Contents(
+                "the data do not have the checksum that they were stored with; no file is written"
+                    .to_string(),
+            ));
+        }
+        draft::publish(vec![self.draft])?;
+        let bytes = count(length as usize, "byte");
+        screen.line(format!("  {bytes} written to {}", file.display()));
+        let is_clear = self.faults.is_empty();
+        match (stored.is_some(), self.held, is_clear) {
+            (false, Held::Nothing, _) => {
+                let words = screen.paint(Paint::Warning, "not tested: no tray to spare");
+                screen.line(format!("  {words}"));
+                Ok(Outcome::NotTested)
+            }
+            (_, _, true) => Ok(Outcome::Done),
+            (_, _, false) => Ok(Outcome::Healed),
+        }
+    }
 }
 
 /// Symbols of data as bytes; a symbol of 256 is none.

@@ -3,23 +3,26 @@
 use super::Command;
 use crate::code::field::{in_field, Field};
 use crate::code::symbol::Symbol;
-use crate::failure::{ground, Failure};
+use crate::disk::{folder_of, read_part, Disk, Handle};
+use crate::failure::{Failure, Outcome};
 use crate::files;
-use crate::files::cabinet::HEADER;
+use crate::files::cabinet::Cabinet;
+use crate::files::census::{Census, TrayFile};
 use crate::files::description::{self, Description};
+use crate::files::found::Found;
+use crate::files::geometry::HEADER;
 use crate::files::header::Header;
-use crate::files::tray_files::next_image;
+use crate::files::label::{Label, SIZE};
+use crate::files::segment::Segment;
 use crate::terminal::arguments::Arguments;
 use crate::terminal::screen::{Paint, Screen};
 use crate::terminal::words::count;
-use gesarumbo::{Layout, Refusal, Tray};
-use std::fs::File;
-use std::io::{self, BufReader, Read, Seek};
+use gesarumbo::{Layout, Tray};
 use std::path::Path;
 
 pub const COMMAND: Command = Command {
     name: "inspect",
-    summary: "say what tray images are, and whether they are handed out",
+    summary: "say what tray files are, and whether they are handed out",
     help: HELP,
     settings: &description::SETTINGS,
     run,
@@ -28,123 +31,142 @@ pub const COMMAND: Command = Command {
 const HELP: &str = "\
 cabinet inspect FILE..
 
-Puts the header of each tray file's first image into words and says whether the
-library hands out the images of all stripes as live ones of one tray, or on
-which ground and from which stripe on it does not. Expected are the layout,
-volumes, field and stripes given, else those of cabinet.txt beside the file,
-else those that the first image and the file's length claim (edition 2: the
-field of 257). The first file that is refused or cannot be read decides the exit
-status.
+Puts the label and the first header of each tray file into words and says
+whether the library takes the headers of all segments as live ones of one tray
+and their checksums are right, or on which ground and from which stripe on not.
+Expected is what the settings say, else what the other trays' labels or
+cabinet.txt beside the file say, else what the file itself claims by its label
+or its first header (edition 2: the field of 257). The first file that is
+refused or cannot be read decides the exit status.
 ";
 
 /// A layout that is admissible in either field: what an image is held against whose own layout is
 /// not.
 const ANY: Layout = Layout::new(2, 1, 1, 1);
 
-fn run(arguments: &Arguments, screen: &mut Screen) -> Result<(), Failure> {
-    let mut ended = Ok(());
+fn run(arguments: &Arguments, disk: &dyn Disk, screen: &mut Screen) -> Result<Outcome, Failure> {
+    let mut ended = Ok(Outcome::Done);
     for name in arguments.some_words("FILE")? {
-        ended = ended.and(inspect(Path::new(name), arguments, screen));
+        ended = ended.and(inspect(disk, Path::new(name), arguments, screen));
     }
     ended
 }
 
-fn inspect(path: &Path, arguments: &Arguments, screen: &mut Screen) -> Result<(), Failure> {
+/// A tray file as it was opened.
+struct Opened {
+    file: Box<dyn Handle>,
+    length: u64,
+    label: Option<Label>,
+    /// The first header, after the label if there is one.
+    header: Option<Header>,
+}
+
+fn inspect(
+    disk: &dyn Disk,
+    path: &Path,
+    arguments: &Arguments,
+    screen: &mut Screen,
+) -> Result<Outcome, Failure> {
     screen.heading(path.display().to_string());
-    let opened = files::open_existing(path).and_then(|(file, length)| {
-        let mut file = BufReader::new(file);
-        let start = start(&mut file).map_err(Failure::file(path))?;
-        Ok((file, length, start))
-    });
-    let (file, length, start) = opened.inspect_err(|failure| {
+    let opened = open(disk, path).inspect_err(|failure| {
         let words = screen.paint(Paint::Bad, "cannot be read");
         screen.line(format!("  {words}: {failure}"));
     })?;
-    let header = Header::of(&start);
-    describe(header.as_ref(), length, screen);
-    let expected = expected(path, arguments, header.as_ref(), length)?;
-    let found = in_field!(expected.field, look(file, &expected));
-    let found = found.map_err(Failure::file(path))?;
-    answer(path, &expected, found, screen)
+    describe(&opened, screen);
+    let expected = expected(disk, path, arguments, &opened)?;
+    if let Some(label) = opened
+        .label
+        .filter(|label| label.cabinet != expected.of_folder)
+    {
+        let words = match label.cabinet.generation == expected.of_folder.generation {
+            true => "its label is of another cabinet than the folder's".to_string(),
+            false => format!(
+                "its label is of generation {}, the folder's cabinet has {}",
+                label.cabinet.generation, expected.of_folder.generation
+            ),
+        };
+        return Err(refused(
+            &words,
+            Failure::Contents(format!("{}: {words}", path.display())),
+            screen,
+        ));
+    }
+    in_field!(
+        expected.cabinet.field,
+        look(disk, path, opened, &expected.cabinet, screen)
+    )
 }
 
-/// The first bytes of a file, which is read again from there.
-fn start(file: &mut BufReader<File>) -> io::Result<Vec<u8>> {
-    let mut bytes = Vec::new();
-    file.take(HEADER as u64).read_to_end(&mut bytes)?;
-    file.rewind()?;
-    Ok(bytes)
+fn open(disk: &dyn Disk, path: &Path) -> Result<Opened, Failure> {
+    let (file, length) = files::open_existing(disk, path)?;
+    let block = read_part(&*file, 0, SIZE).map_err(Failure::file(path))?;
+    let label = Label::parse(&block);
+    let is_labelled = label.is_some() || block.starts_with(b"cabinet format");
+    let header = match is_labelled {
+        true => read_part(&*file, SIZE as u64, HEADER).map_err(Failure::file(path))?,
+        false => block,
+    };
+    Ok(Opened {
+        file,
+        length,
+        label,
+        header: Header::of(&header),
+    })
 }
 
-/// What the images of a file are: all of one tray, or the first stripe that is not, and why.
-enum Found {
-    Tray(Tray),
-    Refused(u32, Refusal),
-    Other(u32, Tray),
-}
-
-/// Reads the images of all stripes.
-fn look<S: Symbol>(mut file: BufReader<File>, expected: &Description) -> io::Result<Found> {
-    let layers = (S::CALLS.numbers)(expected.layout).map_or(0, |numbers| numbers.layers);
-    let size = HEADER + S::WIDTH * layers;
-    let mut tray = None;
-    for stripe in 0..expected.stripes {
-        let last = stripe + 1 == expected.stripes;
-        let image = next_image(&mut file, size, last)?;
-        match S::read_image(expected.layout, expected.volume + stripe, &image) {
-            Err(refusal) => return Ok(Found::Refused(stripe, refusal)),
-            Ok((found, _)) if tray.is_some_and(|tray| tray != found) => {
-                return Ok(Found::Other(stripe, found));
+/// Reads all segments, and says whether they are handed out.
+fn look<S: Symbol>(
+    disk: &dyn Disk,
+    path: &Path,
+    opened: Opened,
+    expected: &Description,
+    screen: &mut Screen,
+) -> Result<Outcome, Failure> {
+    let mut cabinet = Cabinet::new(disk, folder_of(path), *expected)?;
+    let claimed = opened.header.as_ref().map(Header::tray);
+    let tray = claimed.filter(|tray| (tray.number() as usize) < cabinet.numbers.trays);
+    let tray = tray.unwrap_or(Tray::new(0));
+    let place = tray.number() as usize;
+    cabinet.trays[place] = Some(TrayFile::alone(tray, path, opened.file));
+    for number in 0..cabinet.geometry.segments() {
+        let segment = Segment::<S>::read(&cabinet, number, &|other| other == tray)?;
+        let place = cabinet.place(segment.stripes.start);
+        match segment.found(tray) {
+            Found::Live => {}
+            found => {
+                let words = found.why_not().unwrap_or_default();
+                let failure = found.failure(path).at(&place);
+                return Err(refused(&format!("{place}{words}"), failure, screen));
             }
-            Ok((found, _)) => tray = Some(found),
         }
     }
-    Ok(Found::Tray(tray.unwrap_or(Tray::new(0))))
-}
-
-/// Says what was found.
-fn answer(
-    path: &Path,
-    expected: &Description,
-    found: Found,
-    screen: &mut Screen,
-) -> Result<(), Failure> {
-    let place = |stripe| match expected.stripes {
+    let words = screen.paint(Paint::Good, "handed out");
+    let stripes = match expected.stripes {
         1 => String::new(),
-        _ => format!("stripe {stripe}: "),
+        stripes => format!(", {}", count(stripes as usize, "stripe")),
     };
-    let (words, failure) = match found {
-        Found::Tray(tray) => {
-            let words = screen.paint(Paint::Good, "handed out");
-            let stripes = match expected.stripes {
-                1 => String::new(),
-                stripes => format!(", {}", count(stripes as usize, "stripe")),
-            };
-            screen.line(format!("  answer    {words} as live tray {tray}{stripes}"));
-            return Ok(());
-        }
-        Found::Refused(stripe, refusal) => {
-            let about = format!("{}: {}", path.display(), place(stripe));
-            let about = about.trim_end_matches([':', ' ']).to_string();
-            (
-                format!("{}{}", place(stripe), ground(refusal)),
-                Failure::refused(about)(refusal),
-            )
-        }
-        Found::Other(stripe, tray) => {
-            let words = format!("{}an image of tray {tray}", place(stripe));
-            let failure = Failure::Contents(format!("{}: {words}", path.display()));
-            (words, failure)
-        }
-    };
-    let words = screen.paint(Paint::Bad, &words);
-    screen.line(format!("  answer    {words}"));
-    Err(failure)
+    screen.line(format!("  answer    {words} as live tray {tray}{stripes}"));
+    Ok(Outcome::Done)
 }
 
-fn describe(header: Option<&Header>, length: u64, screen: &mut Screen) {
-    screen.line(format!("  length    {length} bytes"));
-    match header {
+/// Says why a file is not handed out.
+fn refused(words: &str, failure: Failure, screen: &mut Screen) -> Failure {
+    let words = screen.paint(Paint::Bad, words);
+    screen.line(format!("  answer    {words}"));
+    failure
+}
+
+fn describe(opened: &Opened, screen: &mut Screen) {
+    screen.line(format!("  length    {} bytes", opened.length));
+    if let Some(label) = &opened.label {
+        let Label { cabinet, tray } = label;
+        let generation = cabinet.generation;
+        screen.line(format!(
+            "  label     tray {tray} of generation {generation}, {}",
+            count(cabinet.stripes as usize, "stripe")
+        ));
+    }
+    match &opened.header {
         None => screen.line("  header    none: too few bytes"),
         Some(header) => header
             .words()
@@ -153,28 +175,43 @@ fn describe(header: Option<&Header>, length: u64, screen: &mut Screen) {
     }
 }
 
-/// What the images of this file must be.
-fn expected(
-    path: &Path,
-    arguments: &Arguments,
-    header: Option<&Header>,
-    length: u64,
-) -> Result<Description, Failure> {
-    let claimed = header.and_then(|header| claimed(header, length));
-    let folder = path.parent().unwrap_or(Path::new(""));
-    let fallback = claimed.unwrap_or(Description {
-        layout: ANY,
-        volume: 0,
-        field: Field::default(),
-        stripes: 1,
-        length: None,
-    });
-    Description::expected(folder, arguments, Some(fallback))
+/// What is expected of a file, and of its folder.
+struct Expected {
+    of_folder: Description,
+    cabinet: Description,
 }
 
-/// What an image claims whose layout is admissible, in a file of this length: as many stripes as
-/// there are images in it.
-fn claimed(header: &Header, length: u64) -> Option<Description> {
+/// What this file must be.
+fn expected(
+    disk: &dyn Disk,
+    path: &Path,
+    arguments: &Arguments,
+    opened: &Opened,
+) -> Result<Expected, Failure> {
+    let claimed = opened.header.as_ref();
+    let claimed = claimed.and_then(|header| claimed_by(header, opened.length));
+    let folder = folder_of(path);
+    let described = Description::of(disk, folder);
+    let agreed = Census::take(disk, folder)?.agreed(described.as_ref().ok().copied().flatten());
+    let beside = match (agreed, described) {
+        (Some(agreed), _) => Some(agreed),
+        (None, Ok(described)) => described,
+        (None, Err(_)) if Description::of_settings(arguments)?.is_some() => None,
+        (None, Err(failure)) => return Err(failure),
+    };
+    let own = opened.label.map(|label| label.cabinet);
+    let named = Description::of_settings(arguments)?.filter(|_| own.is_none());
+    let any = Description::first(ANY, Field::default(), 0);
+    let of_folder = beside.or(own).or(claimed).or(named).unwrap_or(any);
+    Ok(Expected {
+        of_folder,
+        cabinet: of_folder.with_settings(arguments)?,
+    })
+}
+
+/// What an image claims whose layout is admissible, in a file of the first format of this length: as
+/// many stripes as there are images in it.
+fn claimed_by(header: &Header, length: u64) -> Option<Description> {
     let size = header.image_size()? as u64;
     let first = header.claimed();
     let stripes = u32::try_from(length / size).ok()?.max(1);

@@ -3,13 +3,15 @@
 use super::Command;
 use crate::code::field::in_field;
 use crate::code::symbol::Symbol;
-use crate::failure::Failure;
+use crate::disk::Disk;
+use crate::failure::{Failure, Outcome};
 use crate::files::cabinet::Cabinet;
 use crate::files::description;
-use crate::files::survey::Survey;
+use crate::files::survey::{stripes, Survey};
 use crate::terminal::arguments::Arguments;
 use crate::terminal::cabinet_map;
 use crate::terminal::screen::{Paint, Screen};
+use crate::terminal::words::trays;
 use gesarumbo::{ABSENT, DEMONSTRATION, LIVE};
 
 pub const COMMAND: Command = Command {
@@ -23,20 +25,20 @@ pub const COMMAND: Command = Command {
 const HELP: &str = "\
 cabinet margin DIR
 
-Draws the cabinet and says its loss margin, the least of its stripes. A tray
-counts as live in a stripe if its image is handed out, as demonstration if it is
-refused for that, and else as absent; in the drawing it is live if it is in
-every stripe. A margin below zero is an answer too (0): the records cannot be
-recovered.
+Draws the cabinet and says its loss margin, the least of its segments. A tray
+counts as live in a segment if its header is taken and its checksum is right, as
+demonstration if it is refused for that, and else as absent; in the drawing it
+is live if it is in every segment. Trays with wrong checksums are named. A
+margin below zero is an answer too (0): the records cannot be recovered.
 ";
 
-fn run(arguments: &Arguments, screen: &mut Screen) -> Result<(), Failure> {
+fn run(arguments: &Arguments, disk: &dyn Disk, screen: &mut Screen) -> Result<Outcome, Failure> {
     let [folder] = arguments.words(["DIR"])?;
-    let cabinet = Cabinet::find(folder, arguments)?;
+    let cabinet = Cabinet::find(disk, folder, arguments)?;
     in_field!(cabinet.description.field, margin(&cabinet, screen))
 }
 
-fn margin<S: Symbol>(cabinet: &Cabinet, screen: &mut Screen) -> Result<(), Failure> {
+fn margin<S: Symbol>(cabinet: &Cabinet, screen: &mut Screen) -> Result<Outcome, Failure> {
     let survey = Survey::of::<S>(cabinet, screen)?;
     cabinet_map::print(&cabinet.numbers, &survey.kinds, screen);
     let count = |state| {
@@ -50,10 +52,15 @@ fn margin<S: Symbol>(cabinet: &Cabinet, screen: &mut Screen) -> Result<(), Failu
     ));
     let place = match (cabinet.description.stripes, live == cabinet.numbers.trays) {
         (1, _) | (_, true) => String::new(),
-        _ => format!(" in stripe {}, the first with the least", survey.worst),
+        _ => format!(" in {}, the first with the least", stripes(&survey.worst)),
     };
+    if !survey.rotten.is_empty() {
+        let words = screen.paint(Paint::Bad, "wrong checksums");
+        let trays = trays(&survey.rotten);
+        screen.line(format!("  {words}: {trays}; cabinet test says where"));
+    }
     say(survey.margin.into(), &place, screen);
-    Ok(())
+    Ok(Outcome::Done)
 }
 
 /// The margin, and what it means: trays may be lost as long as live ones, which alone hold

@@ -1,6 +1,7 @@
 //! The table of commands: one entry each, one file each.
 
-use crate::failure::Failure;
+use crate::disk::Disk;
+use crate::failure::{Failure, Outcome};
 use crate::terminal::arguments::{Arguments, Setting};
 use crate::terminal::help;
 use crate::terminal::screen::Screen;
@@ -15,7 +16,7 @@ mod margin;
 mod plan;
 mod racks_of_four;
 mod read;
-mod recover;
+pub mod recover;
 mod repair;
 mod scrub;
 mod share;
@@ -32,7 +33,7 @@ pub struct Command {
     /// The whole help text.
     pub help: &'static str,
     pub settings: &'static [Setting],
-    pub run: fn(&Arguments, &mut Screen) -> Result<(), Failure>,
+    pub run: fn(&Arguments, &dyn Disk, &mut Screen) -> Result<Outcome, Failure>,
 }
 
 /// All commands, in the order in which help lists them.
@@ -55,7 +56,7 @@ pub const COMMANDS: &[Command] = &[
 ];
 
 /// Does what a command line asks for.
-pub fn run(line: &[OsString], screen: &mut Screen) -> Result<(), Failure> {
+pub fn run(line: &[OsString], disk: &dyn Disk, screen: &mut Screen) -> Result<Outcome, Failure> {
     let Some((name, rest)) = line.split_first() else {
         help::print_all(screen);
         return Err(Failure::Usage("name a command".to_string()));
@@ -64,16 +65,21 @@ pub fn run(line: &[OsString], screen: &mut Screen) -> Result<(), Failure> {
         (Some("--version" | "version"), _) => screen.line(help::VERSION),
         (Some("--help" | "-h"), _) | (Some("help"), []) => help::print_all(screen),
         (Some("help"), [command, ..]) => help::print(find(command)?, screen),
-        _ => return run_one(find(name)?, rest, screen),
+        _ => return run_one(find(name)?, rest, disk, screen),
     }
-    Ok(())
+    Ok(Outcome::Done)
 }
 
-fn run_one(command: &Command, rest: &[OsString], screen: &mut Screen) -> Result<(), Failure> {
+fn run_one(
+    command: &Command,
+    rest: &[OsString],
+    disk: &dyn Disk,
+    screen: &mut Screen,
+) -> Result<Outcome, Failure> {
     let mut settings = rest.iter().take_while(|word| *word != "--");
     if settings.any(|word| word == "--help" || word == "-h") {
         help::print(command, screen);
-        return Ok(());
+        return Ok(Outcome::Done);
     }
     let see = |failure| match failure {
         Failure::Usage(words) => Failure::Usage(format!(
@@ -83,7 +89,7 @@ fn run_one(command: &Command, rest: &[OsString], screen: &mut Screen) -> Result<
         other => other,
     };
     Arguments::parse(rest, command.settings)
-        .and_then(|arguments| (command.run)(&arguments, screen))
+        .and_then(|arguments| (command.run)(&arguments, disk, screen))
         .map_err(see)
 }
 

@@ -4,9 +4,10 @@ use super::Command;
 use crate::code::conditions::{conditions, Verdict};
 use crate::code::field::{Field, FIELD};
 use crate::code::numbers::Numbers;
+use crate::disk::Disk;
 use crate::drawing::layout_picture;
-use crate::failure::Failure;
-use crate::files;
+use crate::failure::{Failure, Outcome};
+use crate::files::output;
 use crate::terminal::arguments::{Arguments, Setting};
 use crate::terminal::screen::{Paint, Screen};
 use crate::terminal::traffic::{self, percent};
@@ -34,7 +35,7 @@ against a plain recovery from k trays. For a layout that is not admissible (1)
 it says which conditions fail.
 ";
 
-fn run(arguments: &Arguments, screen: &mut Screen) -> Result<(), Failure> {
+fn run(arguments: &Arguments, disk: &dyn Disk, screen: &mut Screen) -> Result<Outcome, Failure> {
     let (layout, []) = arguments.layout_and([])?;
     let field = Field::asked(arguments)?.unwrap_or_default();
     let numbers = Numbers::of(layout, field);
@@ -44,11 +45,11 @@ fn run(arguments: &Arguments, screen: &mut Screen) -> Result<(), Failure> {
     print_traffic(&numbers, screen);
     if let Some(path) = arguments.value(SVG) {
         let path = Path::new(path);
-        files::write_one(path, layout_picture::draw(&numbers).as_bytes())?;
+        output::write_named(disk, path, layout_picture::draw(&numbers).as_bytes())?;
         screen.gap();
         screen.line(format!("Drawn in {}", path.display()));
     }
-    Ok(())
+    Ok(Outcome::Done)
 }
 
 /// Each condition, and whether this layout meets it.

@@ -3,10 +3,12 @@
 use super::Command;
 use crate::code::field::in_field;
 use crate::code::symbol::Symbol;
-use crate::failure::Failure;
-use crate::files;
+use crate::disk::Disk;
+use crate::failure::{Failure, Outcome};
 use crate::files::cabinet::Cabinet;
 use crate::files::description;
+use crate::files::mend::Held;
+use crate::files::output;
 use crate::files::stripe::Stripe;
 use crate::files::survey::introduce;
 use crate::repair::reading::{Origin, Reading, Source};
@@ -65,9 +67,9 @@ be live.
 
 Nothing is handed out (65) of a checkpoint of another cabinet, of another tray
 or of several, nor where the trays of DIR are not those that the spare was made
-from, nor of layers that do not fit to the other trays. Where trays are missing
-for this, it says so. Cabinets with E = 1 are not read so (1): their repairs
-have no pieces.
+from, nor of layers that do not fit to the other trays. Where no tray is left to
+hold them against, and no checksum, it says so (16). Cabinets with E = 1 are not
+read so (1): their repairs have no pieces.
 ";
 
 /// What the command line asks for.
@@ -95,10 +97,10 @@ impl Asked {
     }
 }
 
-fn run(arguments: &Arguments, screen: &mut Screen) -> Result<(), Failure> {
+fn run(arguments: &Arguments, disk: &dyn Disk, screen: &mut Screen) -> Result<Outcome, Failure> {
     let [folder] = arguments.words(["DIR"])?;
     let asked = Asked::read(arguments)?;
-    let cabinet = Cabinet::find(folder, arguments)?;
+    let cabinet = Cabinet::find(disk, folder, arguments)?;
     in_field!(
         cabinet.description.field,
         read(&cabinet, &asked, arguments, screen)
@@ -110,24 +112,46 @@ fn read<S: Symbol>(
     asked: &Asked,
     arguments: &Arguments,
     screen: &mut Screen,
-) -> Result<(), Failure> {
-    let stripe = cabinet.stripe::<S>(asked.stripe)?;
-    introduce(&stripe, screen);
+) -> Result<Outcome, Failure> {
+    let segment = cabinet.segment_with::<S>(asked.stripe)?;
+    introduce(&segment, screen);
+    let stripe = segment.stripe(asked.stripe);
     let reading = match asked.lost {
         None => Reading::of_store(&stripe, asked.tray),
         Some(lost) => under_repair(&stripe, lost, arguments, screen)?,
     };
-    let (part, source) = reading
+    let (part, source, held) = reading
         .read(asked.tray, asked.layers.clone())
         .inspect_err(|failure| say_readable(failure, &reading, screen))
         .map_err(stripe.named())?;
     say_place(asked, part, source, cabinet, screen);
+    let outcome = say_held(part, held, screen);
     match arguments.value(OUT) {
-        Some(path) => files::write_one(Path::new(path), &S::to_bytes(part)),
+        Some(path) => output::write_named(cabinet.disk, Path::new(path), &S::to_bytes(part))?,
         None => {
             let lines = dump::lines(asked.layers.start, part);
             lines.iter().for_each(|line| screen.line(line));
-            Ok(())
+        }
+    }
+    Ok(outcome)
+}
+
+/// Says what the symbols were held against.
+fn say_held<S>(part: &[S], held: Held, screen: &mut Screen) -> Outcome {
+    match held {
+        _ if part.is_empty() => Outcome::Done,
+        Held::Checks => {
+            screen.line("  tested: they fit to the other trays");
+            Outcome::Done
+        }
+        Held::Checksums => {
+            screen.line("  tested: the tray's checksum is right; no tray to spare for checks");
+            Outcome::Done
+        }
+        Held::Nothing => {
+            let words = screen.paint(Paint::Warning, "not tested: no tray to spare");
+            screen.line(format!("  {words}"));
+            Outcome::NotTested
         }
     }
 }
@@ -139,7 +163,7 @@ fn under_repair<'a, S: Symbol>(
     arguments: &Arguments,
     screen: &mut Screen,
 ) -> Result<Reading<'a, S>, Failure> {
-    let path = checkpoint_path(arguments, stripe.cabinet, &[lost]);
+    let path = checkpoint_path(arguments, stripe.cabinet, &[lost])?;
     let (reading, origin) = Reading::open(stripe, lost, &path)?;
     let (done, groups) = (reading.done, stripe.cabinet.numbers.groups);
     screen.line(format!(
@@ -158,7 +182,7 @@ fn under_repair<'a, S: Symbol>(
     Ok(reading)
 }
 
-/// Says what was read, where it lies, and whether it was tested.
+/// Says what was read, and where it lies.
 fn say_place<S: Symbol>(
     asked: &Asked,
     part: &[S],
@@ -176,14 +200,7 @@ fn say_place<S: Symbol>(
     match source {
         _ if part.is_empty() => screen.line(what),
         Source::Store => screen.line(format!("{what} of the store, from {unit} {in_store} on")),
-        Source::Tested => {
-            screen.line(format!("{what} of the spare, from {unit} {first} on"));
-            screen.line("  tested: they fit to the other trays");
-        }
-        Source::Untested => {
-            screen.line(format!("{what} of the spare, from {unit} {first} on"));
-            screen.line("  not tested, other trays are missing");
-        }
+        Source::Spare => screen.line(format!("{what} of the spare, from {unit} {first} on")),
     }
 }
 

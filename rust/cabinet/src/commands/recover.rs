@@ -2,33 +2,41 @@
 
 use super::Command;
 use crate::code::field::in_field;
-use crate::code::symbol::Symbol;
-use crate::failure::Failure;
+use crate::code::symbol::{to_data, Symbol};
+use crate::disk::Disk;
+use crate::failure::{Failure, Outcome};
 use crate::files::cabinet::Cabinet;
 use crate::files::checkpoint::Checkpoint;
+use crate::files::description;
+use crate::files::faults::Faults;
+use crate::files::mend::{mend, union, Held, Mended};
 use crate::files::rebuild::{Rebuild, Rebuilding};
-use crate::files::stripe::Stripe;
+use crate::files::segment::Segment;
 use crate::files::survey::Survey;
-use crate::files::{description, fingerprint};
 use crate::terminal::arguments::{Arguments, Setting};
 use crate::terminal::progress;
 use crate::terminal::screen::{Paint, Screen};
 use crate::terminal::words::trays;
-use gesarumbo::Tray;
+use gesarumbo::{checksum, Tray};
 use std::path::Path;
 
 const ERASE: Setting = Setting::with(
     "--erase",
     "a,b,..",
-    "bring back these trays too, live or not",
+    "write these trays anew too, as the others say they should be",
+);
+const INSIST: Setting = Setting::plain(
+    "--insist",
+    "write trays that are named by --erase anew though nothing is left to test the others by",
 );
 
 pub const COMMAND: Command = Command {
     name: "recover",
-    summary: "bring back trays from any k that are left",
+    summary: "bring back missing trays, and put wrong ones right",
     help: HELP,
     settings: &[
         ERASE,
+        INSIST,
         description::LAYOUT,
         description::VOLUME,
         description::FIELD,
@@ -38,18 +46,22 @@ pub const COMMAND: Command = Command {
 };
 
 const HELP: &str = "\
-cabinet recover DIR [--erase a,b,..]
+cabinet recover DIR [--erase a,b,.. [--insist]]
 
-Brings back every tray of DIR that is absent, unreadable, refused (malformed,
-demonstration, of another layout or volume) or of another place, from the live
-ones, and writes live images of them. A tray that is not live in some stripes
-still serves in the others. Any k live trays of a stripe will do; more are held
-against one another, and nothing is written if they do not fit together (8).
-With no tray to bring back it is a test.
+Brings back every tray of DIR that is absent, damaged, refused (malformed,
+demonstration, of another layout or volume), of another place or of another
+generation, and writes every tray anew that holds wrong symbols, a wrong
+checksum or a label that cannot be read. Every stripe is put right by itself,
+wherever code and checksums can; a tray that is wrong in some stripes still
+serves in the others. What was wrong is named (17). Nothing is written if a
+stripe cannot be put right (5, 8), if the data do not have the checksum that the
+labels say (65), nor where a tray may not be read for another reason than damage
+(74). With no tray to write it is a test. Where nothing was
+left to test by, it says so (16).
 
 The new files stand beside the old ones until they are whole. A checkpoint,
-recover.txt, lets a recovery that was cut go on where it ended. cabinet get
-gives the data back.
+recover.txt, lets a recovery that was cut go on where it ended; it looks at all
+that it has written before. cabinet get gives the data back.
 ";
 
 /// The checkpoint's file in a cabinet's folder.
@@ -58,58 +70,182 @@ pub const NAME: &str = "recover.txt";
 /// What the work is called in the names of work files.
 const WORK: &str = "recover";
 
-fn run(arguments: &Arguments, screen: &mut Screen) -> Result<(), Failure> {
+fn run(arguments: &Arguments, disk: &dyn Disk, screen: &mut Screen) -> Result<Outcome, Failure> {
     let [folder] = arguments.words(["DIR"])?;
     let named = arguments.list(ERASE)?.unwrap_or_default();
     let named: Vec<Tray> = named.into_iter().map(Tray::new).collect();
-    let cabinet = Cabinet::find(folder, arguments)?;
-    in_field!(cabinet.description.field, recover(&cabinet, &named, screen))
+    let insists = arguments.has(INSIST);
+    let cabinet = Cabinet::find(disk, folder, arguments)?;
+    in_field!(
+        cabinet.description.field,
+        recover(&cabinet, &named, insists, screen)
+    )
+}
+
+/// What a recovery is to do, and what it has found.
+struct Recovery<'a> {
+    cabinet: &'a Cabinet<'a>,
+    named: &'a [Tray],
+    faults: Faults,
+    held: Held,
+    /// Of the data of the stripes examined so far.
+    checksum: u64,
+    /// Bytes of data that are not examined yet.
+    left: u64,
 }
 
 fn recover<S: Symbol>(
     cabinet: &Cabinet,
     named: &[Tray],
+    insists: bool,
     screen: &mut Screen,
-) -> Result<(), Failure> {
+) -> Result<Outcome, Failure> {
     let survey = Survey::of::<S>(cabinet, screen)?;
-    let mut erased = survey.damaged();
-    erased.extend(named);
-    erased.sort();
-    erased.dedup();
     judge::<S>(cabinet, named)?;
-    let mut rebuild = open::<S>(cabinet, &erased, screen)?;
-    let layers = cabinet.numbers.layers;
-    for stripe in cabinet.stripes::<S>(rebuild.next) {
-        let codeword = stripe.recovered(named).map_err(stripe.named())?;
-        let symbols = |tray: &Tray| &codeword[tray.number() as usize * layers..][..layers];
-        rebuild.write(erased.iter().map(symbols))?;
-        progress::stripes(cabinet, rebuild.next, screen);
-        if rebuild.is_due() && !erased.is_empty() {
-            rebuild.save(0, fingerprint(&stripe), Vec::new())?;
-        }
+    if let Some((tray, words)) = survey.closed.iter().find(|(tray, _)| !named.contains(tray)) {
+        let path = cabinet.image_path(*tray);
+        return Err(Failure::File(format!(
+            "{}: {words}; this is not taken for damage (see --erase)",
+            path.display()
+        )));
     }
-    rebuild.publish()?;
-    report(&erased, screen);
-    Ok(())
+    let mut recovery = Recovery {
+        cabinet,
+        named,
+        faults: Faults::default(),
+        held: Held::Checks,
+        checksum: 0,
+        left: cabinet.description.length.unwrap_or(0),
+    };
+    recovery.examine::<S>()?;
+    if recovery.held == Held::Nothing && !named.is_empty() && !insists {
+        return Err(Failure::Contents(format!(
+            "nothing is left to test the others by: {} may hold the only right symbols ({} writes \
+             them anew all the same)",
+            trays(named),
+            INSIST.name
+        )));
+    }
+    let mut erased = union(&survey.damaged(), named);
+    erased = union(&erased, &recovery.faults.trays());
+    erased = union(&erased, &cabinet.unlabelled());
+    recovery.faults.add_labels(cabinet, &survey.damaged());
+    recovery.rebuild::<S>(&erased, screen)?;
+    recovery.faults.say(cabinet, screen);
+    Ok(recovery.report(&erased, screen))
 }
 
 /// Lets the library judge the trays that are named: a recovery of these alone, of zeros.
 fn judge<S: Symbol>(cabinet: &Cabinet, named: &[Tray]) -> Result<(), Failure> {
-    let mut named = named.to_vec();
-    named.sort();
-    named.dedup();
+    let named = union(named, &[]);
     let mut zeros = vec![S::default(); cabinet.numbers.codeword()];
     let about = format!("recovery of {} trays", named.len());
     (S::CALLS.recover)(cabinet.description.layout, &mut zeros, &named)
         .map_err(Failure::refused(about))
 }
 
+impl Recovery<'_> {
+    /// Puts all stripes right once, without writing: which trays are wrong is known before any is
+    /// written.
+    fn examine<S: Symbol>(&mut self) -> Result<(), Failure> {
+        for segment in self.cabinet.segments::<S>(0) {
+            let segment = segment?;
+            let mended = mend(&segment, self.named)?;
+            self.faults.add(&segment, &mended);
+            let held = mended.iter().map(|one| one.held).min();
+            self.held = self.held.min(held.unwrap_or(Held::Checks));
+            mended.iter().for_each(|one| self.sum(&one.codeword));
+        }
+        let stored = self.cabinet.description.checksum;
+        match stored.is_none_or(|stored| stored == self.checksum) {
+            true => Ok(()),
+            false => Err(Failure::Contents(
+                "the data do not have the checksum that they were stored with; no tray is written"
+                    .to_string(),
+            )),
+        }
+    }
+
+    /// Takes the checksum of a stripe's data on; a symbol that is no byte is none of data.
+    fn sum<S: Symbol>(&mut self, codeword: &[S]) {
+        let room = self.cabinet.numbers.data();
+        let here = usize::try_from(self.left).map_or(room, |left| left.min(room));
+        let data = to_data(&codeword[..here]).unwrap_or_default();
+        self.checksum = checksum(self.checksum, &data);
+        self.left -= here as u64;
+    }
+
+    /// Writes these trays anew.
+    fn rebuild<S: Symbol>(&self, erased: &[Tray], screen: &mut Screen) -> Result<(), Failure> {
+        if erased.is_empty() {
+            return Ok(());
+        }
+        let cabinet = self.cabinet;
+        let mut rebuild = open::<S>(cabinet, erased, screen)?;
+        let first = cabinet.geometry.segment_of(rebuild.next);
+        for segment in cabinet.segments::<S>(first) {
+            let segment = segment?;
+            let mended = mend(&segment, self.named)?;
+            write(&mut rebuild, &segment, &mended, erased)?;
+            progress::segment(cabinet, &segment.stripes, screen);
+            if rebuild.is_due() {
+                let over = segment.stripe(segment.stripes.end - 1).fingerprint();
+                rebuild.save(0, over, &[])?;
+            }
+        }
+        rebuild.publish()
+    }
+
+    fn report(&self, erased: &[Tray], screen: &mut Screen) -> Outcome {
+        let (words, outcome) = match self.held {
+            Held::Nothing => {
+                let words = screen.paint(Paint::Warning, "not tested");
+                (format!("{words}: no tray to spare"), Outcome::NotTested)
+            }
+            held => {
+                let sound = screen.paint(Paint::Good, "sound");
+                let by = match held {
+                    Held::Checksums => ", by the checksums of those that were left",
+                    _ => "",
+                };
+                let outcome = match self.faults.is_empty() {
+                    true => Outcome::Done,
+                    false => Outcome::Healed,
+                };
+                (format!("all are {sound}{by}"), outcome)
+            }
+        };
+        screen.line(match erased {
+            [] => format!("  no tray to bring back; {words}"),
+            _ => format!("  brought back: {}; {words}", trays(erased)),
+        });
+        outcome
+    }
+}
+
+/// Writes the trays' symbols of all stripes of a segment that are not written yet.
+fn write<S: Symbol>(
+    rebuild: &mut Rebuild<S>,
+    segment: &Segment<S>,
+    mended: &[Mended<S>],
+    erased: &[Tray],
+) -> Result<(), Failure> {
+    let layers = segment.cabinet.numbers.layers;
+    for (number, one) in segment.stripes.clone().zip(mended) {
+        if number >= rebuild.next {
+            let symbols = |tray: &Tray| &one.codeword[tray.number() as usize * layers..][..layers];
+            rebuild.write(erased.iter().map(symbols))?;
+        }
+    }
+    Ok(())
+}
+
 /// The recovery as its checkpoint has it; a new one if there is none, or it is of another.
 fn open<'a, S: Symbol>(
-    cabinet: &'a Cabinet,
+    cabinet: &'a Cabinet<'a>,
     erased: &[Tray],
     screen: &mut Screen,
-) -> Result<Rebuild<'a>, Failure> {
+) -> Result<Rebuild<'a, S>, Failure> {
     let (names, key) = (trays(erased), cabinet.description.key());
     let what = || Rebuilding {
         trays: erased.to_vec(),
@@ -118,28 +254,25 @@ fn open<'a, S: Symbol>(
         path: cabinet.file(NAME),
     };
     let of_another = |_: &Path| Failure::Contents(String::new());
-    let found = Checkpoint::read(&what().path, |task| task == what().task, of_another);
+    let is_of = |task: &str| task == what().task;
+    let found = Checkpoint::read(cabinet.disk, &what().path, is_of, of_another);
     if let Ok(Some(checkpoint)) = found {
-        let last = cabinet.stripes::<S>(checkpoint.last()).next();
-        let is_same = last.is_some_and(|last| fingerprint(&last) == checkpoint.over);
-        let rebuild = Rebuild::go_on::<S>(cabinet, what(), checkpoint.stripe)?;
-        if let Some(rebuild) = rebuild.filter(|_| is_same) {
-            progress::goes_on(cabinet, rebuild.next, screen);
-            return Ok(rebuild);
+        if is_same::<S>(cabinet, &checkpoint)? {
+            if let Some((rebuild, _)) = Rebuild::go_on(cabinet, what(), &checkpoint)? {
+                progress::goes_on(cabinet, rebuild.next, screen);
+                return Ok(rebuild);
+            }
         }
     }
     Rebuild::begin(cabinet, what())
 }
 
-/// What the survivors of a stripe are known by.
-fn fingerprint<S: Symbol>(stripe: &Stripe<S>) -> u64 {
-    fingerprint::of(stripe.remains().iter())
-}
-
-fn report(erased: &[Tray], screen: &mut Screen) {
-    let sound = screen.paint(Paint::Good, "sound");
-    screen.line(match erased {
-        [] => format!("  no tray to bring back; all are {sound}"),
-        _ => format!("  brought back: {}; all are {sound}", trays(erased)),
-    });
+/// Whether the trays of the last stripe are those that it was worked on from.
+fn is_same<S: Symbol>(cabinet: &Cabinet, checkpoint: &Checkpoint) -> Result<bool, Failure> {
+    let last = checkpoint.last();
+    if last >= cabinet.description.stripes {
+        return Ok(false);
+    }
+    let segment = cabinet.segment_with::<S>(last)?;
+    Ok(segment.stripe(last).fingerprint() == checkpoint.over)
 }

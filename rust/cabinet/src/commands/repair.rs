@@ -4,10 +4,11 @@
 use super::Command;
 use crate::code::field::in_field;
 use crate::code::symbol::Symbol;
-use crate::failure::Failure;
+use crate::disk::Disk;
+use crate::failure::{Failure, Outcome};
 use crate::files::cabinet::Cabinet;
 use crate::files::description;
-use crate::repair::in_groups::{is_full_set, GroupRepair};
+use crate::repair::in_groups::{is_full_set, GroupRepair, Means};
 use crate::repair::shares::Shares;
 use crate::repair::stripe_repair::{judge, judge_correcting};
 use crate::repair::{card, checkpoint_path, correcting, Repair, SPARE};
@@ -73,13 +74,15 @@ Brings back tray X, or up to u - v trays of one rack, from the shares of d
 helper racks and the other trays of their rack, some groups at a time, stripe
 after stripe. From time to time, and where the budget ends, a checkpoint keeps
 the spare of the stripe under repair and the groups done, so a repair that is
-broken off goes on where it ended. When all groups of a stripe are done, the
-trays are tested with the others, if all are there, and their live images
-written beside the old files. When all stripes are done, the new files take the
-old ones' places and the checkpoint is removed. If the trays of a stripe do not
-fit together no file is replaced (65). A group of one lost tray can be done by a
-card, whoever has printed it: a card that is not right for the group is refused
-(15).
+broken off goes on where it ended, and looks at all that it has written before.
+When all groups of a stripe are done, the trays are tested with all others that
+are there; where these leave nothing to test by, it says so (16). Where trays of
+a stripe are wrong and code and checksums can tell which, the stripe is put
+right and they are named (17); else no file is replaced (65). When all stripes
+are done, the new files take the old ones' places, if the cabinet is still the
+one that the repair began with, and the checkpoint is removed. A group of one
+lost tray can be done by a card, whoever has printed it: a card that is not
+right for the group is refused (15).
 
 In a cabinet with E = 1 one of the d shares may be wrong. One tray is brought
 back, all groups of a stripe at once: the tray is right all the same, and the
@@ -109,10 +112,10 @@ impl Asked {
     }
 }
 
-fn run(arguments: &Arguments, screen: &mut Screen) -> Result<(), Failure> {
+fn run(arguments: &Arguments, disk: &dyn Disk, screen: &mut Screen) -> Result<Outcome, Failure> {
     let [folder] = arguments.words(["DIR"])?;
     let asked = Asked::read(arguments)?;
-    let cabinet = Cabinet::find(folder, arguments)?;
+    let cabinet = Cabinet::find(disk, folder, arguments)?;
     in_field!(
         cabinet.description.field,
         repair(&cabinet, &asked, arguments, screen)
@@ -124,7 +127,7 @@ fn repair<S: Symbol>(
     asked: &Asked,
     arguments: &Arguments,
     screen: &mut Screen,
-) -> Result<(), Failure> {
+) -> Result<Outcome, Failure> {
     match asked.repair.lost[..] {
         [_] if cabinet.numbers.errors > 0 && !arguments.has(CARD) => {
             at_once::<S>(cabinet, asked, arguments, screen)
@@ -139,7 +142,7 @@ fn at_once<S: Symbol>(
     asked: &Asked,
     arguments: &Arguments,
     screen: &mut Screen,
-) -> Result<(), Failure> {
+) -> Result<Outcome, Failure> {
     if let Some(setting) = [FIRST, BUDGET, SPARE].iter().find(|of| arguments.has(**of)) {
         let words = format!("{}: with E = 1 all groups are done at once", setting.name);
         return Err(Failure::Usage(words));
@@ -154,15 +157,15 @@ fn in_groups<S: Symbol>(
     asked: &Asked,
     arguments: &Arguments,
     screen: &mut Screen,
-) -> Result<(), Failure> {
+) -> Result<Outcome, Failure> {
     let (repair, total) = (&asked.repair, total(cabinet));
     // Within all stripes a first group is never too large for the library, past them it always is.
     let past = asked.first.filter(|first| *first > total);
     judge::<S>(&cabinet.numbers, repair, past.unwrap_or(0))?;
-    let cards = cards::<S>(repair, arguments)?;
+    let cards = cards::<S>(cabinet, repair, arguments)?;
     let mut shares = Shares::open::<S>(cabinet, repair, &arguments.values(SHARE))?;
-    let path = checkpoint_path(arguments, cabinet, &repair.lost);
-    let mut work = GroupRepair::<S>::open(cabinet, repair, path)?;
+    let path = checkpoint_path(arguments, cabinet, &repair.lost)?;
+    let mut work = GroupRepair::<S>::open(cabinet, repair, path, screen)?;
     let first = start(asked.first, &work)?;
     if work.position() > 0 {
         progress::goes_on(cabinet, work.stripe_number(), screen);
@@ -172,7 +175,11 @@ fn in_groups<S: Symbol>(
         _ if is_full_set(cabinet, &cards, first - work.stripe_start()) => total,
         cards => first + cards,
     };
-    work.work(&mut shares, &cards, first..end, screen)?;
+    let mut means = Means {
+        shares: &mut shares,
+        cards: &cards,
+    };
+    work.work(&mut means, first..end, screen)?;
     if work.is_whole() {
         return work.finish(screen);
     }
@@ -180,7 +187,7 @@ fn in_groups<S: Symbol>(
     screen.line(format!(
         "  the spare is kept in {place}; repair goes on with it"
     ));
-    Ok(())
+    Ok(Outcome::Done)
 }
 
 /// Groups of all stripes together.
@@ -189,7 +196,11 @@ fn total(cabinet: &Cabinet) -> u64 {
 }
 
 /// The cards that are named, each of one group.
-fn cards<S: Symbol>(repair: &Repair, arguments: &Arguments) -> Result<Vec<Vec<S>>, Failure> {
+fn cards<S: Symbol>(
+    cabinet: &Cabinet,
+    repair: &Repair,
+    arguments: &Arguments,
+) -> Result<Vec<Vec<S>>, Failure> {
     let files = arguments.values(CARD);
     let but = match repair.lost.len() {
         _ if files.is_empty() => None,
@@ -201,7 +212,7 @@ fn cards<S: Symbol>(repair: &Repair, arguments: &Arguments) -> Result<Vec<Vec<S>
         Some(words) => Err(Failure::Usage(format!("{}: {words}", CARD.name))),
         None => files
             .iter()
-            .map(|file| card::read(Path::new(file)))
+            .map(|file| card::read(cabinet.disk, Path::new(file)))
             .collect(),
     }
 }

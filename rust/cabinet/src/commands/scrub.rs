@@ -3,14 +3,15 @@
 use super::Command;
 use crate::code::field::in_field;
 use crate::code::symbol::Symbol;
+use crate::disk::Disk;
 use crate::drawing::scrub_picture;
-use crate::failure::Failure;
-use crate::files;
+use crate::failure::{Failure, Outcome};
 use crate::files::cabinet::Cabinet;
-use crate::files::description;
+use crate::files::{checkpoint, description, output};
+use crate::scrub::verdict::conclude;
 use crate::scrub::{self, Scrub};
 use crate::terminal::arguments::{Arguments, Setting};
-use crate::terminal::screen::{Paint, Screen};
+use crate::terminal::screen::Screen;
 use crate::terminal::scrub_map;
 use std::path::{Path, PathBuf};
 
@@ -52,24 +53,30 @@ pub const COMMAND: Command = Command {
 const HELP: &str = "\
 cabinet scrub DIR [--budget N] [--reset] [--record FILE] [--map] [--svg FILE]
 
-Tests whether the trays of DIR meet every parity check, some layers at a time,
-stripe after stripe. Between two calls, and from time to time within one, a
-checkpoint keeps how far it is and what is bad, so that a scrub that was cut
-goes on where it ended. It knows the trays of the last stripe it has looked at
-by their contents: if one is changed, it must be begun anew (65). At the end the
-file is removed. Bad layers are an answer, with exit status 65 when all layers
-have been seen. As soon as one has been seen, a map shows where they lie: a cell
-for each layer, or where there are several stripes, for each of these.
+Tests whether the trays of DIR meet every parity check and have the checksums
+that were written, some layers at a time, stripe after stripe. Trays that are
+missing are done without, and the others tested by the checks that are left
+(16). Trays that are wrong are named with their stripes at the end. Between two
+calls, and from time to time within one, a checkpoint keeps how far it is and
+what is bad, so that a scrub that was cut goes on where it ended; one of another
+cabinet or generation is not gone on with (65). At the end the file is removed.
+Bad layers are an answer, with exit status 65 when all layers have been seen. As
+soon as one has been seen, a map shows where they lie: a cell for each layer, or
+where there are several stripes, for each of these.
 ";
 
-fn run(arguments: &Arguments, screen: &mut Screen) -> Result<(), Failure> {
+fn run(arguments: &Arguments, disk: &dyn Disk, screen: &mut Screen) -> Result<Outcome, Failure> {
     let [folder] = arguments.words(["DIR"])?;
     let budget = arguments.number(BUDGET)?.unwrap_or(u64::MAX);
     let path = match arguments.value(RECORD) {
-        Some(file) => PathBuf::from(file),
+        Some(file) => {
+            let named = PathBuf::from(file);
+            checkpoint::guard(disk, &named)?;
+            named
+        }
         None => Path::new(folder).join(scrub::NAME),
     };
-    let cabinet = Cabinet::find(folder, arguments)?;
+    let cabinet = Cabinet::find(disk, folder, arguments)?;
     in_field!(
         cabinet.description.field,
         scrub(&cabinet, budget, path, arguments, screen)
@@ -82,7 +89,7 @@ fn scrub<S: Symbol>(
     path: PathBuf,
     arguments: &Arguments,
     screen: &mut Screen,
-) -> Result<(), Failure> {
+) -> Result<Outcome, Failure> {
     let mut scrub = match arguments.has(RESET) {
         true => Scrub::begin(cabinet, path),
         false => Scrub::go_on::<S>(cabinet, path)?,
@@ -98,7 +105,7 @@ fn scrub<S: Symbol>(
     screen.line(format!(
         "  the checkpoint is kept in {place}; scrub goes on with it"
     ));
-    Ok(())
+    Ok(Outcome::Done)
 }
 
 /// Where the bad layers lie: on the screen if there are any, and as it is asked for.
@@ -114,22 +121,8 @@ fn show(
     }
     if let Some(path) = arguments.value(SVG).map(Path::new) {
         let picture = scrub_picture::draw(&cabinet.description, findings);
-        files::write_one(path, picture.as_bytes())?;
+        output::write_named(cabinet.disk, path, picture.as_bytes())?;
         screen.line(format!("  drawn in {}", path.display()));
     }
-    Ok(())
-}
-
-/// What a scrub of all layers has found.
-fn conclude(scrub: &Scrub, cabinet: &Cabinet, screen: &mut Screen) -> Result<(), Failure> {
-    let findings = &scrub.findings;
-    if !findings.is_sound() {
-        return Err(Failure::Contents(findings.conclusion()));
-    }
-    let sound = screen.paint(Paint::Good, "sound");
-    let (layers, checks) = (findings.layer_count(), cabinet.numbers.checks);
-    screen.line(format!(
-        "  {sound}: each of {layers} layers meets all {checks} checks"
-    ));
     Ok(())
 }

@@ -2,7 +2,8 @@
 
 use super::Command;
 use crate::code::sixteen::{digits, read, Written, SIZE};
-use crate::failure::Failure;
+use crate::disk::Disk;
+use crate::failure::{Failure, Outcome};
 use crate::terminal::arguments::{needed, Arguments, Setting};
 use crate::terminal::screen::{Paint, Screen};
 use crate::terminal::words;
@@ -41,7 +42,7 @@ recover  fills the lost trays, at most 9; with none lost it is a test
 repair   brings back the one lost tray from one symbol of each of two racks
 ";
 
-fn run(arguments: &Arguments, screen: &mut Screen) -> Result<(), Failure> {
+fn run(arguments: &Arguments, _: &dyn Disk, screen: &mut Screen) -> Result<Outcome, Failure> {
     let words = arguments.some_words("word")?;
     let (action, rest) = words.split_first().expect("there is a word");
     let action = action.to_str().unwrap_or_default();
@@ -59,10 +60,10 @@ fn run(arguments: &Arguments, screen: &mut Screen) -> Result<(), Failure> {
         return Err(Failure::Usage(words));
     }
     match action {
-        "store" => store(rest, screen),
+        "store" => store(rest, screen).map(|()| Outcome::Done),
         "data" => data(rest, arguments, screen),
         "recover" => recover(rest, arguments, screen),
-        _ => repair(rest, arguments, screen),
+        _ => repair(rest, arguments, screen).map(|()| Outcome::Done),
     }
 }
 
@@ -94,26 +95,46 @@ fn about(values: &Written) -> String {
     format!("{trays}, {} of them lost", values.lost.len())
 }
 
-fn data(words: &[OsString], arguments: &Arguments, screen: &mut Screen) -> Result<(), Failure> {
+/// How a recovery ends: with the most lost trays there is nothing to hold the others against.
+fn tested(values: &Written) -> Outcome {
+    match values.lost.len() {
+        lost if lost == TRAYS - DATA => Outcome::NotTested,
+        _ => Outcome::Done,
+    }
+}
+
+fn data(
+    words: &[OsString],
+    arguments: &Arguments,
+    screen: &mut Screen,
+) -> Result<Outcome, Failure> {
     let values = survivors(words, arguments)?;
     let mut data = [0; DATA];
     sixteen::data(&values.symbols, &values.lost, &mut data)
         .map_err(Failure::refused(about(&values)))?;
     screen.line(digits(&data));
-    Ok(())
+    Ok(tested(&values))
 }
 
-fn recover(words: &[OsString], arguments: &Arguments, screen: &mut Screen) -> Result<(), Failure> {
+fn recover(
+    words: &[OsString],
+    arguments: &Arguments,
+    screen: &mut Screen,
+) -> Result<Outcome, Failure> {
     let mut values = survivors(words, arguments)?;
     let about = about(&values);
     sixteen::recover(&mut values.symbols, &values.lost).map_err(Failure::refused(about))?;
     print(&values.symbols, screen);
-    let sound = screen.paint(Paint::Good, "sound");
+    let outcome = tested(&values);
+    let end = match outcome {
+        Outcome::NotTested => "not tested: no tray to spare".to_string(),
+        _ => format!("all are {}", screen.paint(Paint::Good, "sound")),
+    };
     screen.line(match values.lost.as_slice() {
-        [] => format!("  no tray to bring back; all are {sound}"),
-        lost => format!("  brought back: {}; all are {sound}", words::trays(lost)),
+        [] => format!("  no tray to bring back; {end}"),
+        lost => format!("  brought back: {}; {end}", words::trays(lost)),
     });
-    Ok(())
+    Ok(outcome)
 }
 
 fn repair(words: &[OsString], arguments: &Arguments, screen: &mut Screen) -> Result<(), Failure> {

@@ -1,13 +1,16 @@
 //! A checkpoint: a small file from which a cut repair, scrub or recovery goes on.
 //!
 //! Its first line is the task, which names cabinet, trays and all else that its calls must have in
-//! common. The second says which stripe is under work, how far it is, and from which symbols the last
-//! stripe was worked on: where these are others now, the cabinet is another. What the task has found
-//! or made so far follows.
+//! common. The second says which stripe is under work, how far it is, from which symbols the last
+//! stripe was worked on (where these are others now, the cabinet is another), and the checksum of
+//! all the rest. What the task has found or made so far follows.
 
 use super::draft::work_name;
+use super::output::{self, NEW};
+use crate::disk::Disk;
 use crate::failure::Failure;
 use crate::files;
+use gesarumbo::checksum;
 use std::path::Path;
 
 /// How far a task is.
@@ -18,7 +21,7 @@ pub struct Checkpoint {
     pub stripe: u32,
     /// Groups or layers done of this stripe.
     pub step: u64,
-    /// The fingerprint of the symbols that the last stripe was worked on from.
+    /// The checksum of the symbols that the last stripe was worked on from.
     pub over: u64,
     /// The task's own part.
     pub rest: Vec<u8>,
@@ -37,11 +40,12 @@ impl Checkpoint {
     /// The checkpoint in a file, or nothing if there is no such file. One that cannot be read, or is
     /// not of this task, is the failure given.
     pub fn read(
+        disk: &dyn Disk,
         path: &Path,
         is_of: impl FnOnce(&str) -> bool,
         foreign: impl FnOnce(&Path) -> Failure,
     ) -> Result<Option<Checkpoint>, Failure> {
-        let Some(bytes) = files::read(path).map_err(Failure::file(path))? else {
+        let Some(bytes) = files::read(disk, path).map_err(Failure::file(path))? else {
             return Ok(None);
         };
         let checkpoint = Checkpoint::parse(&bytes).filter(|found| is_of(&found.task));
@@ -53,30 +57,58 @@ impl Checkpoint {
         let mut line = || str::from_utf8(parts.next()?).ok();
         let (task, place) = (line()?.to_string(), line()?);
         let words: Vec<&str> = place.split(' ').collect();
-        let ["stripe", stripe, "step", step, "over", over] = words[..] else {
+        let ["stripe", stripe, "step", step, "over", over, "check", _] = words[..] else {
             return None;
         };
-        Some(Checkpoint {
+        let found = Checkpoint {
             task,
             stripe: stripe.parse().ok()?,
             step: step.parse().ok()?,
             over: u64::from_str_radix(over, 16).ok()?,
             rest: parts.next()?.to_vec(),
-        })
+        };
+        (found.bytes() == bytes).then_some(found)
+    }
+
+    fn bytes(&self) -> Vec<u8> {
+        let (task, stripe, step, over) = (&self.task, self.stripe, self.step, self.over);
+        let lines = format!("{task}\nstripe {stripe} step {step} over {over:016x}");
+        let check = checksum(checksum(0, lines.as_bytes()), &self.rest);
+        [
+            format!("{lines} check {check:016x}\n").as_bytes(),
+            &self.rest,
+        ]
+        .concat()
     }
 
     /// Writes the file.
-    pub fn write(&self, path: &Path) -> Result<(), Failure> {
-        let (task, stripe, step, over) = (&self.task, self.stripe, self.step, self.over);
-        let lines = format!("{task}\nstripe {stripe} step {step} over {over:016x}\n");
-        files::write_one(path, &[lines.as_bytes(), &self.rest].concat())
+    pub fn write(&self, disk: &dyn Disk, path: &Path) -> Result<(), Failure> {
+        output::write_own(disk, path, &self.bytes())
     }
 }
 
 /// Removes a checkpoint, and what a command that was cut while it wrote one has left.
-pub fn remove(path: &Path) -> Result<(), Failure> {
-    files::remove(&work_name(path, files::NEW)?)?;
-    files::remove(path)
+pub fn remove(disk: &dyn Disk, path: &Path) -> Result<(), Failure> {
+    files::remove(disk, &work_name(path, NEW)?)?;
+    files::remove(disk, path)
+}
+
+/// Fails where a file that a person has named for a checkpoint is something else: it would be written
+/// over, and removed at the end.
+pub fn guard(disk: &dyn Disk, path: &Path) -> Result<(), Failure> {
+    output::guard(disk, path)?;
+    let found = files::read(disk, path).map_err(Failure::file(path))?;
+    let begins = |bytes: &Vec<u8>| {
+        let tasks: [&[u8]; 4] = [b"repair of ", b"scrub of ", b"recovery of ", b""];
+        tasks[..3].iter().any(|task| bytes.starts_with(task)) || bytes.is_empty()
+    };
+    match found.is_none_or(|bytes| begins(&bytes)) {
+        true => Ok(()),
+        false => Err(Failure::Contents(format!(
+            "{}: is no checkpoint, and is left as it is",
+            path.display()
+        ))),
+    }
 }
 
 /// What a checkpoint may be behind: so many bytes of codewords are done again after a cut.
@@ -86,38 +118,34 @@ pub const MOST_UNSAVED: u64 = 8 << 20;
 mod tests {
     use super::Checkpoint;
 
-    const TEXT: &[u8] = b"repair of tray 4\nstripe 2 step 5 over 000000000000beef\n\n\x00\xff";
-
-    #[test]
-    fn a_checkpoint_is_read_as_it_is_written() {
-        let found = Checkpoint::parse(TEXT).expect("a checkpoint");
-        let expected = Checkpoint {
+    fn checkpoint() -> Checkpoint {
+        Checkpoint {
             task: "repair of tray 4".to_string(),
             stripe: 2,
             step: 5,
             over: 0xBEEF,
             rest: b"\n\x00\xff".to_vec(),
-        };
-        assert_eq!(found, expected);
+        }
+    }
+
+    #[test]
+    fn a_checkpoint_is_read_as_it_is_written() {
+        let bytes = checkpoint().bytes();
+        let start = b"repair of tray 4\nstripe 2 step 5 over 000000000000beef check ";
+        assert!(bytes.starts_with(start));
+        assert_eq!(Checkpoint::parse(&bytes), Some(checkpoint()));
     }
 
     #[test]
     fn what_is_cut_or_changed_is_no_checkpoint() {
-        let end = TEXT.len() - 4;
-        for length in 0..=end {
-            assert_eq!(Checkpoint::parse(&TEXT[..length]), None, "{length}");
-        }
-        let text = String::from_utf8_lossy(&TEXT[..=end]).into_owned();
-        assert!(Checkpoint::parse(text.as_bytes()).is_some());
-        for (word, other) in [
-            ("2 step", "-2 step"),
-            ("5 over", "five over"),
-            ("beef", "beer"),
-            ("stripe", "strip"),
-            ("step 5", "step  5"),
-        ] {
-            let other = text.replace(word, other);
-            assert_eq!(Checkpoint::parse(other.as_bytes()), None, "{other}");
+        let bytes = checkpoint().bytes();
+        for at in 0..bytes.len() {
+            assert_eq!(Checkpoint::parse(&bytes[..at]), None, "cut at {at}");
+            for bit in 0..8 {
+                let mut other = bytes.clone();
+                other[at] ^= 1 << bit;
+                assert_eq!(Checkpoint::parse(&other), None, "byte {at}, bit {bit}");
+            }
         }
     }
 }

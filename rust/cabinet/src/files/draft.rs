@@ -1,98 +1,189 @@
 //! A file under a work name beside its own, until it is whole.
 //!
 //! The work name is always the same, so that a command that goes on or begins anew finds what a cut
-//! one left. A lock, which the system drops with the process, keeps two commands from one file.
+//! one left. A work file is always a new file: what stood under its name, a hard link of another file
+//! perhaps, is never written. A lock, which the system drops with the process, keeps two commands
+//! from one file.
 
+use crate::disk::{folder_of, Disk, Handle, Kind};
 use crate::failure::Failure;
 use std::ffi::OsString;
-use std::fs::{self, File, Metadata, OpenOptions, TryLockError};
-use std::io::{BufWriter, Seek, SeekFrom, Write};
-use std::os::unix::fs::MetadataExt;
+use std::io;
 use std::path::{Path, PathBuf};
 
 /// A file that is being written. If it is dropped before it is published, the work file is removed,
 /// unless it is to stay.
-pub struct Draft {
+pub struct Draft<'d> {
+    disk: &'d dyn Disk,
     path: PathBuf,
     work: PathBuf,
-    out: BufWriter<File>,
+    file: Box<dyn Handle>,
+    /// Where the buffer's bytes belong.
+    at: u64,
+    buffer: Vec<u8>,
     /// Whether the work file outlives the command.
     pub stays: bool,
 }
 
-impl Draft {
-    /// A file that begins anew, whatever the work file holds; `task` is what the work is called.
-    pub fn begin(path: &Path, task: &str) -> Result<Draft, Failure> {
+/// Bytes that are written at once.
+const AT_ONCE: usize = 1 << 16;
+
+impl<'d> Draft<'d> {
+    /// A file that begins anew, whatever the work file holds; `task` is what the work is called. It
+    /// gets the mode of the file it will replace, or else this one.
+    pub fn begin(
+        disk: &'d dyn Disk,
+        path: &Path,
+        task: &str,
+        mode: Option<u32>,
+    ) -> Result<Draft<'d>, Failure> {
         let work = work_name(path, task)?;
-        replaceable(path)?;
-        replaceable(&work)?;
-        let file = OpenOptions::new()
-            .write(true)
-            .create(true)
-            .truncate(false)
-            .open(&work)
-            .map_err(Failure::file(path))?;
-        Draft::of(path, work, file, 0)
+        let replaced = replaceable(disk, path)?;
+        clear(disk, path, &work)?;
+        let file = match disk.create(&work) {
+            Err(error) if error.kind() == io::ErrorKind::AlreadyExists => return Err(busy(path)),
+            other => other.map_err(Failure::file(path))?,
+        };
+        let draft = Draft::of(disk, path, work, file, 0)?;
+        if let Some(mode) = replaced.or(mode) {
+            draft.file.set_mode(mode).map_err(Failure::file(path))?;
+        }
+        Ok(draft)
     }
 
-    /// A file that goes on after so many bytes; nothing if the work file has not as many.
-    pub fn go_on(path: &Path, task: &str, written: u64) -> Result<Option<Draft>, Failure> {
+    /// A file that goes on after so many bytes; nothing if the work file has not as many, or is no
+    /// file of its own.
+    pub fn go_on(
+        disk: &'d dyn Disk,
+        path: &Path,
+        task: &str,
+        written: u64,
+    ) -> Result<Option<Draft<'d>>, Failure> {
         let work = work_name(path, task)?;
-        replaceable(path)?;
-        match fs::symlink_metadata(&work) {
-            Ok(metadata) if metadata.is_file() && metadata.len() >= written => {}
+        replaceable(disk, path)?;
+        match disk.look(&work).map_err(Failure::file(path))? {
+            Some(entry)
+                if entry.kind == Kind::File && entry.links == 1 && entry.length >= written => {}
             _ => return Ok(None),
         }
-        let file = OpenOptions::new().write(true).open(&work);
-        let mut draft = Draft::of(path, work, file.map_err(Failure::file(path))?, written)?;
+        let file = disk.change(&work).map_err(Failure::file(path))?;
+        let mut draft = Draft::of(disk, path, work, file, written)?;
         draft.stays = true;
+        draft
+            .file
+            .set_length(written)
+            .map_err(Failure::file(path))?;
         Ok(Some(draft))
     }
 
-    fn of(path: &Path, work: PathBuf, mut file: File, written: u64) -> Result<Draft, Failure> {
-        let locked = !matches!(file.try_lock(), Err(TryLockError::WouldBlock));
-        if !locked || !is_still_at(&work, &file) {
-            let words = format!("{}: another command is writing it", path.display());
-            return Err(Failure::File(words));
+    fn of(
+        disk: &'d dyn Disk,
+        path: &Path,
+        work: PathBuf,
+        file: Box<dyn Handle>,
+        at: u64,
+    ) -> Result<Draft<'d>, Failure> {
+        let locked = file.try_lock().map_err(Failure::file(path))?;
+        if !locked || !is_still_at(disk, &work, &*file) {
+            return Err(busy(path));
         }
-        file.set_len(written)
-            .and_then(|()| file.seek(SeekFrom::End(0)))
-            .map_err(Failure::file(path))?;
         Ok(Draft {
+            disk,
             path: path.to_path_buf(),
             work,
-            out: BufWriter::with_capacity(1 << 16, file),
+            file,
+            at,
+            buffer: Vec::new(),
             stays: false,
         })
     }
 
     pub fn write(&mut self, bytes: &[u8]) -> Result<(), Failure> {
-        self.out.write_all(bytes).map_err(Failure::file(&self.path))
+        self.buffer.extend_from_slice(bytes);
+        match self.buffer.len() >= AT_ONCE {
+            true => self.flush(),
+            false => Ok(()),
+        }
+    }
+
+    /// Writes over the first bytes of the file.
+    pub fn write_start(&mut self, bytes: &[u8]) -> Result<(), Failure> {
+        self.flush()?;
+        self.file
+            .write_at(0, bytes)
+            .map_err(Failure::file(&self.path))
+    }
+
+    fn flush(&mut self) -> Result<(), Failure> {
+        if !self.buffer.is_empty() {
+            self.file
+                .write_at(self.at, &self.buffer)
+                .map_err(Failure::file(&self.path))?;
+            self.at += self.buffer.len() as u64;
+            self.buffer.clear();
+        }
+        Ok(())
     }
 
     /// Brings all that is written onto the disk.
     pub fn sync(&mut self) -> Result<(), Failure> {
-        self.out
-            .flush()
-            .and_then(|()| self.out.get_ref().sync_all())
+        self.flush()?;
+        self.file.sync().map_err(Failure::file(&self.path))
+    }
+
+    /// Reads what is written, from a place on.
+    pub fn read_at(&self, at: u64, out: &mut [u8]) -> Result<usize, Failure> {
+        self.file
+            .read_at(at, out)
             .map_err(Failure::file(&self.path))
     }
 }
 
-/// Whether the file still has this name, which the command that had the lock may have changed.
-fn is_still_at(work: &Path, file: &File) -> bool {
-    let name = |metadata: Metadata| (metadata.dev(), metadata.ino());
-    let there = fs::symlink_metadata(work).map(name);
-    let here = file.metadata().map(name);
-    there.is_ok_and(|there| here.is_ok_and(|here| here == there))
+fn busy(path: &Path) -> Failure {
+    Failure::File(format!("{}: another command is writing it", path.display()))
 }
 
-impl Drop for Draft {
+/// Removes what a cut command left under a work name, unless a command is at it.
+fn clear(disk: &dyn Disk, path: &Path, work: &Path) -> Result<(), Failure> {
+    let Some(entry) = disk.look(work).map_err(Failure::file(path))? else {
+        return Ok(());
+    };
+    if entry.kind != Kind::File {
+        return Err(not_regular(work));
+    }
+    // One that may not be opened is no other command's that this user can harm.
+    if let Ok(old) = disk.open(work) {
+        let locked = entry.links > 1 || old.try_lock().map_err(Failure::file(path))?;
+        if !locked || !is_still_at(disk, work, &*old) {
+            return Err(busy(path));
+        }
+    }
+    disk.remove(work).map_err(Failure::file(path))
+}
+
+/// Whether the file still has this name, which the command that had the lock may have changed.
+fn is_still_at(disk: &dyn Disk, work: &Path, file: &dyn Handle) -> bool {
+    match (disk.look(work), file.entry()) {
+        (Ok(Some(there)), Ok(here)) => there.identity == here.identity,
+        _ => false,
+    }
+}
+
+impl Drop for Draft<'_> {
     fn drop(&mut self) {
         if !self.stays {
             // It may have got its own name already.
-            let _ = fs::remove_file(&self.work);
+            let _ = self.disk.remove(&self.work);
         }
+    }
+}
+
+/// Brings the files and their work names onto the disk.
+pub fn settle(drafts: &mut [Draft]) -> Result<(), Failure> {
+    drafts.iter_mut().try_for_each(Draft::sync)?;
+    match drafts.first() {
+        Some(draft) => sync_folder(draft.disk, folder_of(&draft.path)),
+        None => Ok(()),
     }
 }
 
@@ -103,25 +194,27 @@ pub fn publish(mut drafts: Vec<Draft>) -> Result<(), Failure> {
     rename(drafts)
 }
 
-/// Gives files that are on the disk their own names, in their order.
+/// Gives files that are on the disk their own names, in their order, and brings these onto the disk.
 pub fn rename(mut drafts: Vec<Draft>) -> Result<(), Failure> {
     drafts.iter_mut().for_each(|draft| draft.stays = true);
-    for Draft { path, work, .. } in &drafts {
-        fs::rename(work, path).map_err(Failure::file(path))?;
+    for draft in &drafts {
+        if !is_still_at(draft.disk, &draft.work, &*draft.file) {
+            return Err(busy(&draft.path));
+        }
+        draft
+            .disk
+            .rename(&draft.work, &draft.path)
+            .map_err(Failure::file(&draft.path))?;
     }
-    if let Some(Draft { path, .. }) = drafts.last() {
-        sync_folder(path);
+    match drafts.last() {
+        Some(draft) => sync_folder(draft.disk, folder_of(&draft.path)),
+        None => Ok(()),
     }
-    Ok(())
 }
 
-/// Brings the names onto the disk too. Where a system cannot, they are there a little later.
-fn sync_folder(path: &Path) {
-    let folder = match path.parent() {
-        Some(parent) if !parent.as_os_str().is_empty() => parent,
-        _ => Path::new("."),
-    };
-    let _ = File::open(folder).and_then(|folder| folder.sync_all());
+/// Brings the names of a folder onto the disk.
+pub fn sync_folder(disk: &dyn Disk, folder: &Path) -> Result<(), Failure> {
+    disk.sync_folder(folder).map_err(Failure::file(folder))
 }
 
 /// The name beside the file's own.
@@ -135,13 +228,14 @@ pub fn work_name(path: &Path, task: &str) -> Result<PathBuf, Failure> {
     Ok(path.with_file_name(work))
 }
 
-/// A link, folder or device is never replaced by a file.
-fn replaceable(path: &Path) -> Result<(), Failure> {
-    match fs::symlink_metadata(path) {
-        Ok(metadata) if !metadata.is_file() => Err(Failure::File(format!(
-            "{}: not a regular file",
-            path.display()
-        ))),
-        _ => Ok(()),
+/// The mode of the file that is there. A link, folder or device is never replaced by a file.
+fn replaceable(disk: &dyn Disk, path: &Path) -> Result<Option<u32>, Failure> {
+    match disk.look(path).map_err(Failure::file(path))? {
+        Some(entry) if entry.kind != Kind::File => Err(not_regular(path)),
+        entry => Ok(entry.map(|entry| entry.mode)),
     }
+}
+
+fn not_regular(path: &Path) -> Failure {
+    Failure::File(format!("{}: not a regular file", path.display()))
 }

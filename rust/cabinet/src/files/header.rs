@@ -1,10 +1,10 @@
 //! A tray image's header put into words, for people. Whether the image is handed out only the
 //! library decides.
 
-use super::cabinet::HEADER;
 use super::description::Description;
+use super::geometry::HEADER;
 use crate::code::field::Field;
-use gesarumbo::{Layout, DEMONSTRATION, LIVE};
+use gesarumbo::{Layout, Tray, DEMONSTRATION, LIVE};
 
 /// The header's numbers, whatever they are.
 pub struct Header([u8; HEADER]);
@@ -19,13 +19,13 @@ impl Header {
     /// The layout, volume and field that the image claims; bytes, if its edition is of no field.
     pub fn claimed(&self) -> Description {
         let [b, u, k, d, e] = [4, 5, 6, 7, 9].map(|at| u32::from(self.0[at]));
-        Description {
-            layout: Layout::with_errors(b, u, k, d, e),
-            volume: self.long(12),
-            field: Field::with_edition(self.0[2]).unwrap_or_default(),
-            stripes: 1,
-            length: None,
-        }
+        let field = Field::with_edition(self.0[2]).unwrap_or_default();
+        Description::first(Layout::with_errors(b, u, k, d, e), field, self.long(12))
+    }
+
+    /// The tray that the image claims to be of.
+    pub fn tray(&self) -> Tray {
+        Tray::new(self.0[8].into())
     }
 
     /// Bytes of an image of the layout that it claims, if that is admissible.
@@ -33,6 +33,13 @@ impl Header {
         let Description { layout, field, .. } = self.claimed();
         let layers = field.numbers(layout).ok()?.layers;
         Some(HEADER + field.width() * layers)
+    }
+
+    /// Whether the numbers that are the same in every image are as they should be.
+    pub fn is_whole(&self) -> bool {
+        let starts = [0x18, 0];
+        let known = [LIVE, DEMONSTRATION].contains(&self.0[3]);
+        self.0[..2] == starts && Field::with_edition(self.0[2]).is_some() && known
     }
 
     /// One line a number.

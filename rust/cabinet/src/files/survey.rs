@@ -1,11 +1,13 @@
-//! A look at every tray of every stripe: which trays are not live, and how many more may be lost.
+//! A look at every tray of every segment: which trays are not live, and how many more may be lost.
 
 use super::cabinet::Cabinet;
-use super::stripe::{Kind, Stripe};
+use super::found::{Found, Kind};
+use super::segment::Segment;
 use crate::code::symbol::Symbol;
 use crate::failure::Failure;
 use crate::terminal::screen::{Paint, Screen};
 use gesarumbo::Tray;
+use std::ops::Range;
 
 /// Says of each tray that is not live why it is not used, the first time it is met.
 #[derive(Default)]
@@ -14,87 +16,125 @@ pub struct Unused {
 }
 
 impl Unused {
-    /// Prints a line for each tray that is not live in this stripe, and was in those before it.
-    pub fn say<S: Symbol>(&mut self, stripe: &Stripe<S>, screen: &mut Screen) {
-        for tray in stripe.missing() {
-            if self.said.contains(&tray) {
+    /// Prints a line for each tray that cannot be used in this segment, and could in those before
+    /// it.
+    pub fn say<S: Symbol>(&mut self, segment: &Segment<S>, screen: &mut Screen) {
+        for tray in segment.cabinet.numbers.all_trays() {
+            let found = segment.found(tray);
+            if found.has_symbols() || self.said.contains(&tray) {
                 continue;
             }
             self.said.push(tray);
-            let found = stripe.found(tray);
             let why = screen.paint(Paint::Warning, &found.why_not().unwrap_or_default());
-            let place = match (found.kind(), stripe.cabinet.description.stripes) {
-                (Kind::Absent, _) | (_, 1) => String::new(),
-                _ => format!(" in stripe {}", stripe.number),
+            let place = match (found, segment.cabinet.geometry.segments()) {
+                (Found::Absent | Found::Other(_) | Found::Closed(_), _) | (_, 1) => String::new(),
+                _ => format!(" in {}", stripes(&segment.stripes)),
             };
             screen.line(format!("  tray {tray:>2} is not used{place}: {why}"));
         }
     }
 
-    /// Prints the heading with the first stripe, and a line for each tray that is not live.
+    /// Prints the heading with the first segment, and a line for each tray that cannot be used.
     pub fn begin_or_say<S: Symbol>(
         unused: &mut Option<Unused>,
-        stripe: &Stripe<S>,
+        segment: &Segment<S>,
         screen: &mut Screen,
     ) {
         match unused {
-            None => *unused = Some(introduce(stripe, screen)),
-            Some(unused) => unused.say(stripe, screen),
+            None => *unused = Some(introduce(segment, screen)),
+            Some(unused) => unused.say(segment, screen),
         }
+    }
+
+    /// The trays that were met and cannot be used.
+    pub fn trays(unused: Option<Unused>) -> Vec<Tray> {
+        let mut trays = unused.map(|unused| unused.said).unwrap_or_default();
+        trays.sort();
+        trays
     }
 }
 
-/// Prints whose stripe this is, and why each tray that is not live is not used.
-pub fn introduce<S: Symbol>(stripe: &Stripe<S>, screen: &mut Screen) -> Unused {
+/// A run of stripes in words.
+pub fn stripes(run: &Range<u32>) -> String {
+    match run.len() {
+        1 => format!("stripe {}", run.start),
+        _ => format!("stripes {}-{}", run.start, run.end - 1),
+    }
+}
+
+/// Prints whose segment this is, and why each tray that is not live is not used.
+pub fn introduce<S: Symbol>(segment: &Segment<S>, screen: &mut Screen) -> Unused {
     let mut unused = Unused::default();
-    screen.heading(stripe.cabinet.description.words());
-    unused.say(stripe, screen);
+    screen.heading(segment.cabinet.description.words());
+    unused.say(segment, screen);
     unused
 }
 
-/// What all stripes together are.
+/// What all segments together are.
 pub struct Survey {
-    /// One kind a tray: live if it is in every stripe, else that of the first stripe where it is
-    /// not.
+    /// One kind a tray: live if it is in every segment, else that of the first where it is not.
     pub kinds: Vec<Kind>,
-    /// The least margin of a stripe.
+    /// The trays with a wrong checksum somewhere.
+    pub rotten: Vec<Tray>,
+    /// The trays that may not be read by this command.
+    pub closed: Vec<(Tray, String)>,
+    /// The least margin of a segment.
     pub margin: i32,
-    /// The first stripe with it.
-    pub worst: u32,
+    /// The stripes of the first segment with it.
+    pub worst: Range<u32>,
 }
 
 impl Survey {
-    /// Looks at all stripes, and says why each tray that is not live is not used.
+    /// Looks at all segments, and says why each tray that is not live is not used.
     pub fn of<S: Symbol>(cabinet: &Cabinet, screen: &mut Screen) -> Result<Survey, Failure> {
-        let first = cabinet.stripe::<S>(0)?;
-        let mut unused = introduce(&first, screen);
-        let mut survey = Survey {
-            kinds: first.kinds(),
-            margin: margin::<S>(cabinet, &first.kinds())?,
-            worst: 0,
-        };
-        for stripe in cabinet.stripes::<S>(1) {
-            unused.say(&stripe, screen);
-            survey.add(&stripe)?;
+        let (mut survey, mut unused) = (None, None);
+        for segment in cabinet.segments::<S>(0) {
+            let segment = segment?;
+            Unused::begin_or_say(&mut unused, &segment, screen);
+            match &mut survey {
+                None => survey = Some(Survey::first(&segment)?),
+                Some(survey) => survey.add(&segment)?,
+            }
         }
+        survey.ok_or_else(|| Failure::Internal("a cabinet without stripes".to_string()))
+    }
+
+    fn first<S: Symbol>(segment: &Segment<S>) -> Result<Survey, Failure> {
+        let mut survey = Survey {
+            kinds: segment.kinds(),
+            rotten: Vec::new(),
+            closed: Vec::new(),
+            margin: i32::MAX,
+            worst: segment.stripes.clone(),
+        };
+        survey.add(segment)?;
         Ok(survey)
     }
 
-    fn add<S: Symbol>(&mut self, stripe: &Stripe<S>) -> Result<(), Failure> {
-        let kinds = stripe.kinds();
+    fn add<S: Symbol>(&mut self, segment: &Segment<S>) -> Result<(), Failure> {
+        let kinds = segment.kinds();
         for (known, here) in self.kinds.iter_mut().zip(&kinds) {
             if *known == Kind::Live {
                 *known = *here;
             }
         }
-        let margin = margin::<S>(stripe.cabinet, &kinds)?;
+        for tray in segment.cabinet.numbers.all_trays() {
+            match segment.found(tray) {
+                Found::Rotten if !self.rotten.contains(&tray) => self.rotten.push(tray),
+                Found::Closed(words) if self.closed.iter().all(|(known, _)| *known != tray) => {
+                    self.closed.push((tray, words.clone()));
+                }
+                _ => {}
+            }
+        }
+        let margin = margin::<S>(segment.cabinet, &kinds)?;
         if margin < self.margin {
-            (self.margin, self.worst) = (margin, stripe.number);
+            (self.margin, self.worst) = (margin, segment.stripes.clone());
         }
         Ok(())
     }
 
-    /// The trays that are not live in every stripe.
+    /// The trays that are not live in every segment.
     pub fn damaged(&self) -> Vec<Tray> {
         let trays = (0..).map(Tray::new).zip(&self.kinds);
         let damaged = trays.filter(|(_, kind)| **kind != Kind::Live);

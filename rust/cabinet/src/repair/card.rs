@@ -2,6 +2,7 @@
 //! multiplier for each helper.
 
 use crate::code::symbol::Symbol;
+use crate::disk::Disk;
 use crate::failure::Failure;
 use crate::files;
 use gesarumbo::Refusal;
@@ -9,14 +10,17 @@ use std::path::Path;
 
 /// The lines of a card for so many helpers.
 pub fn lines<S: Symbol>(card: &[S], helpers: usize) -> Vec<String> {
-    let number = |multiplier: &S| -> String { (*multiplier).into().to_string() };
+    let number = |multiplier: &S| {
+        let number: u16 = (*multiplier).into();
+        number.to_string()
+    };
     let line = |row: &[S]| row.iter().map(number).collect::<Vec<String>>().join(" ");
     card.chunks(helpers).map(line).collect()
 }
 
 /// The multipliers in a file. How many there must be only the library says.
-pub fn read<S: Symbol>(path: &Path) -> Result<Vec<S>, Failure> {
-    let bytes = files::read_existing(path)?;
+pub fn read<S: Symbol>(disk: &dyn Disk, path: &Path) -> Result<Vec<S>, Failure> {
+    let bytes = files::read_existing(disk, path)?;
     let text = String::from_utf8_lossy(&bytes);
     let multiplier = |word: &str| {
         let place = path.display();

@@ -1,27 +1,27 @@
 //! A repair some groups at a time, stripe after stripe, which can be cut anywhere.
 
 use super::meter::Meter;
+use super::ready::{settle, Ready};
 use super::shares::Shares;
 use super::stripe_repair::StripeRepair;
 use super::tally::Tally;
 use super::{foreign, Repair};
 use crate::code::symbol::Symbol;
-use crate::failure::Failure;
+use crate::failure::{Failure, Outcome};
 use crate::files::cabinet::Cabinet;
 use crate::files::checkpoint::Checkpoint;
 use crate::files::rebuild::Rebuild;
 use crate::files::stripe::Stripe;
 use crate::files::survey::Unused;
-use crate::terminal::screen::Screen;
-use gesarumbo::Tested;
+use crate::terminal::screen::{Paint, Screen};
 use std::ops::Range;
 use std::path::{Path, PathBuf};
 
 /// A repair as far as it has come.
 pub struct GroupRepair<'a, S> {
-    cabinet: &'a Cabinet,
+    cabinet: &'a Cabinet<'a>,
     repair: &'a Repair,
-    rebuild: Rebuild<'a>,
+    rebuild: Rebuild<'a, S>,
     /// The stripe under repair, the lost trays one after another.
     spare: Vec<S>,
     /// Groups done of this stripe, from group 0.
@@ -31,37 +31,59 @@ pub struct GroupRepair<'a, S> {
     tally: Tally,
 }
 
+/// What a run of groups is done with.
+pub struct Means<'r, S> {
+    pub shares: &'r mut Shares,
+    pub cards: &'r [Vec<S>],
+}
+
 impl<'a, S: Symbol> GroupRepair<'a, S> {
-    /// The repair as its checkpoint has it; a new one if there is none.
+    /// The repair as its checkpoint has it; a new one if there is none, or if what it has written is
+    /// not as it was written.
     pub fn open(
-        cabinet: &'a Cabinet,
+        cabinet: &'a Cabinet<'a>,
         repair: &'a Repair,
         path: PathBuf,
+        screen: &mut Screen,
     ) -> Result<GroupRepair<'a, S>, Failure> {
         let task = repair.task(cabinet);
-        let found = Checkpoint::read(&path, |of| of == task, foreign)?;
-        let what = repair.rebuilding(cabinet, path.clone());
+        let found = Checkpoint::read(cabinet.disk, &path, |of| of == task, foreign)?;
+        let what = || repair.rebuilding(cabinet, path.clone());
         let Some(checkpoint) = found else {
-            return Ok(GroupRepair {
-                cabinet,
-                repair,
-                rebuild: Rebuild::begin(cabinet, what)?,
-                spare: vec![S::default(); repair.lost.len() * cabinet.numbers.layers],
-                done: 0,
-                over: None,
-                tally: Tally::default(),
-            });
+            return GroupRepair::begin(cabinet, repair, path);
         };
-        let (tally, spare) = own_part(cabinet, &checkpoint).ok_or_else(|| foreign(&path))?;
-        let rebuild = Rebuild::go_on::<S>(cabinet, what, checkpoint.stripe)?;
+        let Some((rebuild, rest)) = Rebuild::go_on(cabinet, what(), &checkpoint)? else {
+            let words = screen.paint(Paint::Warning, "is not as it was written");
+            screen.line(format!("  the work file {words}: the repair begins anew"));
+            return GroupRepair::begin(cabinet, repair, path);
+        };
+        let own = own_part(cabinet, repair.lost.len(), checkpoint.step, &rest);
+        let (tally, spare) = own.ok_or_else(|| foreign(&path))?;
         Ok(GroupRepair {
             cabinet,
             repair,
-            rebuild: rebuild.ok_or_else(|| foreign(&path))?,
+            rebuild,
             spare,
             done: checkpoint.step,
             over: Some(checkpoint.over),
             tally,
+        })
+    }
+
+    fn begin(
+        cabinet: &'a Cabinet<'a>,
+        repair: &'a Repair,
+        path: PathBuf,
+    ) -> Result<GroupRepair<'a, S>, Failure> {
+        let what = repair.rebuilding(cabinet, path);
+        Ok(GroupRepair {
+            cabinet,
+            repair,
+            rebuild: Rebuild::begin(cabinet, what)?,
+            spare: vec![S::default(); repair.lost.len() * cabinet.numbers.layers],
+            done: 0,
+            over: None,
+            tally: Tally::default(),
         })
     }
 
@@ -97,8 +119,7 @@ impl<'a, S: Symbol> GroupRepair<'a, S> {
     /// checkpoint where the repair is not whole then.
     pub fn work(
         &mut self,
-        shares: &mut Shares,
-        cards: &[Vec<S>],
+        means: &mut Means<S>,
         run: Range<u64>,
         screen: &mut Screen,
     ) -> Result<(), Failure> {
@@ -109,13 +130,18 @@ impl<'a, S: Symbol> GroupRepair<'a, S> {
             (Some(_), 0) => self.rebuild.next.saturating_sub(1),
             _ => self.rebuild.next,
         };
-        shares.skip_to::<S>(cabinet, repair, from)?;
-        for stripe in cabinet.stripes::<S>(from) {
-            let is_done = stripe.number < self.rebuild.next;
-            self.stripe(&stripe, shares, cards, &mut unused, &mut meter, screen)
-                .map_err(stripe.named())?;
-            if meter.is_over() && !is_done {
-                break;
+        means.shares.skip_to::<S>(cabinet, repair, from)?;
+        for segment in cabinet.segments::<S>(cabinet.geometry.segment_of(from)) {
+            let segment = segment?;
+            Unused::begin_or_say(&mut unused, &segment, screen);
+            let ready = Ready::of(segment, repair, means.shares, &mut self.tally)?;
+            let stripes = ready.segment.stripes.clone();
+            for number in stripes.filter(|number| *number >= from) {
+                let is_done = number < self.rebuild.next;
+                self.stripe(&ready, number, means, &mut meter, screen)?;
+                if meter.is_over() && !is_done {
+                    return Ok(());
+                }
             }
         }
         Ok(())
@@ -124,26 +150,45 @@ impl<'a, S: Symbol> GroupRepair<'a, S> {
     /// Does the groups of one stripe, as far as the run goes.
     fn stripe(
         &mut self,
-        stripe: &Stripe<S>,
-        shares: &mut Shares,
-        cards: &[Vec<S>],
-        unused: &mut Option<Unused>,
+        ready: &Ready<S>,
+        number: u32,
+        means: &mut Means<S>,
         meter: &mut Meter,
         screen: &mut Screen,
     ) -> Result<(), Failure> {
-        let task = StripeRepair::new(stripe, self.repair, shares.next(stripe, self.repair)?)?;
-        if self
-            .over
-            .take()
-            .is_some_and(|over| over != task.fingerprint())
-        {
-            return Err(foreign(self.path()));
+        let stripe = ready.stripe(number);
+        let shares = means.shares.next(&stripe, self.repair);
+        let task = shares.and_then(|shares| StripeRepair::new(&stripe, self.repair, shares));
+        let task = task.map_err(stripe.named())?;
+        let over = self.over.take();
+        if over.is_some_and(|over| over != task.fingerprint()) {
+            return Err(foreign(self.path()).at(&self.cabinet.place(number)));
         }
-        if stripe.number < self.rebuild.next {
+        if number < self.rebuild.next {
             return Ok(());
         }
-        Unused::begin_or_say(unused, stripe, screen);
-        let first = meter.enter(stripe.number);
+        self.groups_of(&task, number, means.cards, meter, screen)
+            .map_err(stripe.named())?;
+        match self.done {
+            // Nothing was to be done, and the checkpoint of the stripe before stays.
+            0 if number > 0 => Ok(()),
+            done if done == self.groups() => self
+                .complete(ready, &stripe, &task, meter.is_over())
+                .map_err(stripe.named()),
+            _ => self.save(task.fingerprint()),
+        }
+    }
+
+    /// Does the groups of a stripe by cards, or by as many as a line of the meter has.
+    fn groups_of(
+        &mut self,
+        task: &StripeRepair<S>,
+        number: u32,
+        cards: &[Vec<S>],
+        meter: &mut Meter,
+        screen: &mut Screen,
+    ) -> Result<(), Failure> {
+        let first = meter.enter(number);
         // Cards for some groups only are for this stripe: the library refuses one past its last.
         let all = cards.is_empty() || is_full_set(self.cabinet, cards, first);
         loop {
@@ -155,37 +200,28 @@ impl<'a, S: Symbol> GroupRepair<'a, S> {
             self.done = self.done.max(group + done.groups);
             meter.advance(&done, screen);
             if meter.is_over() || (all && meter.is_past()) {
-                break;
+                return Ok(());
             }
-        }
-        match self.done {
-            // Nothing was to be done, and the checkpoint of the stripe before stays.
-            0 if stripe.number > 0 => Ok(()),
-            done if done == self.groups() => self.complete(stripe, &task, meter.is_over()),
-            _ => self.save(task.fingerprint()),
         }
     }
 
-    /// Tests the finished trays of a stripe with the others, and writes their images; with a
+    /// Tests the finished trays of a stripe with all others that are there, and writes them; with a
     /// checkpoint, if one is due or this was the last stripe of the run.
     fn complete(
         &mut self,
+        ready: &Ready<S>,
         stripe: &Stripe<S>,
         task: &StripeRepair<S>,
         is_last: bool,
     ) -> Result<(), Failure> {
-        match stripe.test_with(&self.repair.lost, &self.spare)? {
-            Some(Tested::Bad { layer, check }) => {
-                self.save(task.fingerprint())?;
-                let ((names, _), place) = (self.repair.names(), self.path().display());
-                return Err(Failure::Contents(format!(
-                    "{names} and the others do not fit together (layer {layer}, check {check}): \
-                     some tray or share holds wrong symbols; no image is written, the spare is \
-                     kept in {place}"
-                )));
-            }
-            Some(Tested::Sound) => {}
-            None => self.tally.untested += 1,
+        let lost = &self.repair.lost;
+        if let Some(layer) = settle(ready, stripe, lost, &mut self.spare, &mut self.tally)? {
+            self.save(task.fingerprint())?;
+            let ((names, _), place) = (self.repair.names(), self.path().display());
+            return Err(Failure::Contents(format!(
+                "{names} and the others do not fit together (layer {layer}): some tray or share \
+                 holds wrong symbols; no image is written, the spare is kept in {place}"
+            )));
         }
         self.rebuild
             .write(self.spare.chunks(self.cabinet.numbers.layers))?;
@@ -198,17 +234,32 @@ impl<'a, S: Symbol> GroupRepair<'a, S> {
     }
 
     fn save(&mut self, over: u64) -> Result<(), Failure> {
-        let mut rest = self.tally.line().into_bytes();
+        let mut rest = self.tally.lines().into_bytes();
         rest.extend(S::to_bytes(&self.spare));
-        self.rebuild.save(self.done, over, rest)
+        self.rebuild.save(self.done, over, &rest)
     }
 
     /// Says whether all trays together are sound, and puts the new files in their places.
-    pub fn finish(self, screen: &mut Screen) -> Result<(), Failure> {
+    pub fn finish(self, screen: &mut Screen) -> Result<Outcome, Failure> {
         let (names, are) = self.repair.names();
         let tested = self.tally.tested(self.cabinet, screen);
+        let outcome = self.tally.outcome();
+        self.tally.faults.say(self.cabinet, screen);
+        say_recovered(self.tally.recovered, screen);
+        self.rebuild.publish()?;
         screen.line(format!("  {names} {are} whole; {tested}"));
-        self.rebuild.publish()
+        Ok(outcome)
+    }
+}
+
+/// Says in how many stripes shares did not do.
+pub fn say_recovered(stripes: u32, screen: &mut Screen) {
+    if stripes > 0 {
+        let stripes = crate::terminal::words::count(stripes as usize, "stripe");
+        let words = screen.paint(Paint::Warning, "do not fit");
+        screen.line(format!(
+            "  shares {words} in {stripes}: recovered from the trays there"
+        ));
     }
 }
 
@@ -218,16 +269,16 @@ pub fn is_full_set<S>(cabinet: &Cabinet, cards: &[Vec<S>], first: u64) -> bool {
     first == 0 && cards.len() == cabinet.numbers.groups
 }
 
-/// The counts and the spare of a checkpoint, if its place is one of this cabinet.
-fn own_part<S: Symbol>(cabinet: &Cabinet, checkpoint: &Checkpoint) -> Option<(Tally, Vec<S>)> {
-    let (tally, spare) = Tally::parse(&checkpoint.rest)?;
-    let stripe = checkpoint.stripe < cabinet.description.stripes;
-    let step = checkpoint.step <= cabinet.numbers.groups as u64;
-    Some((tally, S::from_bytes(spare)?)).filter(|_| stripe && step)
-}
-
-/// The spare of a stripe as a checkpoint has it, and the groups done of it.
-pub fn spare_of<S: Symbol>(cabinet: &Cabinet, checkpoint: &Checkpoint) -> Option<(Vec<S>, u64)> {
-    let (_, spare) = own_part(cabinet, checkpoint)?;
-    Some((spare, checkpoint.step))
+/// The tally and the spare of a checkpoint, if its place is one of this cabinet.
+pub fn own_part<S: Symbol>(
+    cabinet: &Cabinet,
+    lost: usize,
+    step: u64,
+    rest: &[u8],
+) -> Option<(Tally, Vec<S>)> {
+    let (tally, spare) = Tally::parse(rest)?;
+    let spare: Vec<S> = S::from_bytes(spare)?;
+    let fits = step <= cabinet.numbers.groups as u64;
+    let fits = fits && spare.len() == lost * cabinet.numbers.layers;
+    fits.then_some((tally, spare))
 }

@@ -5,12 +5,14 @@ pub mod correcting;
 pub mod in_groups;
 mod meter;
 pub mod reading;
+pub mod ready;
 pub mod shares;
 pub mod stripe_repair;
 pub mod tally;
 
 use crate::failure::Failure;
 use crate::files::cabinet::Cabinet;
+use crate::files::checkpoint;
 use crate::files::rebuild::Rebuilding;
 use crate::terminal::arguments::{Arguments, Setting};
 use crate::terminal::words::trays;
@@ -79,9 +81,15 @@ fn subject(cabinet: &Cabinet, lost: &[Tray]) -> String {
 }
 
 /// The checkpoint that is named, or the one beside the trays' files.
-pub fn checkpoint_path(arguments: &Arguments, cabinet: &Cabinet, lost: &[Tray]) -> PathBuf {
-    let named = arguments.value(SPARE).map(PathBuf::from);
-    named.unwrap_or_else(|| spare_path(cabinet, lost))
+pub fn checkpoint_path(
+    arguments: &Arguments,
+    cabinet: &Cabinet,
+    lost: &[Tray],
+) -> Result<PathBuf, Failure> {
+    match arguments.value(SPARE).map(PathBuf::from) {
+        None => Ok(spare_path(cabinet, lost)),
+        Some(named) => checkpoint::guard(cabinet.disk, &named).map(|()| named),
+    }
 }
 
 /// The checkpoint beside the trays' files.
@@ -103,21 +111,26 @@ pub fn foreign(path: &Path) -> Failure {
 mod tests {
     use super::Repair;
     use crate::code::field::Field;
+    use crate::disk::system::System;
     use crate::files::cabinet::Cabinet;
-    use crate::files::description::Description;
+    use crate::files::description::{Description, Format};
     use gesarumbo::{Layout, Rack, Tray};
     use std::path::Path;
 
     const DESCRIPTION: Description = Description {
+        format: Format::Second,
         layout: Layout::new(4, 3, 8, 3),
         field: Field::Of256,
         volume: 7,
+        generation: 5,
         stripes: 2,
+        many: 256,
         length: Some(200),
+        checksum: Some(0xFEED),
     };
 
-    fn cabinet(description: Description) -> Cabinet {
-        Cabinet::new(Path::new("c"), description).expect("an admissible layout")
+    fn cabinet(description: Description) -> Cabinet<'static> {
+        Cabinet::new(&System, Path::new("c"), description).expect("an admissible layout")
     }
 
     #[test]
@@ -129,8 +142,10 @@ mod tests {
                 helpers: [0, 2, 3].map(Rack::new).to_vec(),
             };
             let task = repair.task(&cabinet);
-            let expected =
-                format!("repair of {words} of (4, 3, 8, 3) volume 7 stripes 2 by racks 0 2 3");
+            let expected = format!(
+                "repair of {words} of (4, 3, 8, 3) volume 7 stripes 2 generation 5 \
+                 000000000000feed by racks 0 2 3"
+            );
             assert_eq!(task, expected);
             assert_eq!(Repair::parse(&task, &cabinet, &repair.lost), Some(repair));
         }
@@ -138,7 +153,11 @@ mod tests {
 
     #[test]
     fn tasks_of_other_repairs_are_none() {
-        let line = "repair of tray 4 of (4, 3, 8, 3) volume 7 stripes 2 by racks 0 2 3";
+        let line = Repair {
+            lost: vec![Tray::new(4)],
+            helpers: [0, 2, 3].map(Rack::new).to_vec(),
+        };
+        let line = &line.task(&cabinet(DESCRIPTION))[..];
         let reads = |line: &str, description, lost| {
             Repair::parse(line, &cabinet(description), &[Tray::new(lost)]).is_some()
         };
@@ -150,26 +169,20 @@ mod tests {
             DESCRIPTION,
             4
         ));
-        let others = [
-            Description {
-                volume: 8,
-                ..DESCRIPTION
-            },
-            Description {
-                stripes: 1,
-                ..DESCRIPTION
-            },
-            Description {
-                layout: Layout::new(4, 3, 7, 3),
-                ..DESCRIPTION
-            },
-            Description {
-                layout: Layout::new(4, 1, 2, 3),
-                field: Field::Of257,
-                ..DESCRIPTION
+        let others: [fn(&mut Description); 6] = [
+            |other| other.volume = 8,
+            |other| other.stripes = 1,
+            |other| other.generation = 6,
+            |other| other.checksum = Some(0),
+            |other| other.layout = Layout::new(4, 3, 7, 3),
+            |other| {
+                other.layout = Layout::new(4, 1, 2, 3);
+                other.field = Field::Of257;
             },
         ];
-        for other in others {
+        for change in others {
+            let mut other = DESCRIPTION;
+            change(&mut other);
             assert!(!reads(line, other, 4));
         }
         for broken in ["", "repair", &line[..60], &line.replace("0 2", "0  2")] {

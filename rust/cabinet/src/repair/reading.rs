@@ -1,26 +1,27 @@
 //! Reading the trays of a stripe, one of which may be under repair.
 
-use super::in_groups::spare_of;
+use super::in_groups::own_part;
 use super::shares::of_trays;
 use super::stripe_repair::{judge, StripeRepair};
-use super::{foreign, Repair, WORK};
+use super::{foreign, Repair};
 use crate::code::symbol::Symbol;
 use crate::failure::Failure;
-use crate::files;
+use crate::files::cabinet::Cabinet;
 use crate::files::checkpoint::Checkpoint;
-use crate::files::draft::work_name;
+use crate::files::found::Found;
+use crate::files::mend::{union, Held};
+use crate::files::rebuild;
 use crate::files::stripe::Stripe;
-use gesarumbo::{Refusal, ScrubRecord, Tray};
-use std::io::{Read, Seek, SeekFrom};
+use gesarumbo::{Kept, Refusal, Tray};
 use std::ops::Range;
 use std::path::Path;
 
 /// What is read from: the store, and the spare of a lost tray.
 pub struct Reading<'a, S> {
     stripe: &'a Stripe<'a, S>,
-    /// With zeros for trays that are not live.
-    store: Vec<S>,
     lost: Tray,
+    /// Whether it is under repair, and its own image not looked at.
+    is_lost: bool,
     spare: Vec<S>,
     /// Groups done of the spare.
     pub done: u64,
@@ -40,12 +41,10 @@ pub enum Origin {
 /// Where symbols come from.
 #[derive(Clone, Copy, PartialEq, Eq)]
 pub enum Source {
-    /// From a live tray of the store.
+    /// From a tray of the store.
     Store,
-    /// From the spare, and they fit to the other trays.
-    Tested,
-    /// From the spare, and other trays are missing.
-    Untested,
+    /// From the spare.
+    Spare,
 }
 
 impl<'a, S: Symbol> Reading<'a, S> {
@@ -58,54 +57,53 @@ impl<'a, S: Symbol> Reading<'a, S> {
     ) -> Result<(Reading<'a, S>, Origin), Failure> {
         let cabinet = stripe.cabinet;
         let repair = |task: &str| Repair::parse(task, cabinet, &[lost]);
-        let found = Checkpoint::read(path, |task| repair(task).is_some(), foreign)?;
+        let is_of = |task: &str| repair(task).is_some();
+        let found = Checkpoint::read(cabinet.disk, path, is_of, foreign)?;
         let (spare, done, origin) = match &found {
             None => (zeros(stripe), 0, Origin::NoFile),
             Some(checkpoint) if checkpoint.stripe < stripe.number => {
                 (zeros(stripe), 0, Origin::Known)
             }
-            Some(checkpoint) if checkpoint.stripe > stripe.number => {
-                let spare = whole(stripe, lost).ok_or_else(|| foreign(path))?;
-                (spare, cabinet.numbers.groups as u64, Origin::Known)
-            }
             Some(checkpoint) => {
-                let spare = spare_of(cabinet, checkpoint);
-                let (spare, done) = spare.ok_or_else(|| foreign(path))?;
                 let repair = repair(&checkpoint.task).ok_or_else(|| foreign(path))?;
-                (spare, done, compare(stripe, &repair, checkpoint, path)?)
+                under_way(cabinet, stripe, &repair, checkpoint, path)?
             }
         };
-        Ok((Reading::of(stripe, lost, spare, done), origin))
+        let reading = Reading {
+            stripe,
+            lost,
+            is_lost: true,
+            spare,
+            done,
+        };
+        Ok((reading, origin))
     }
 
     /// Reading a tray while none is under repair: another one, not asked for, stands in as lost.
     pub fn of_store(stripe: &'a Stripe<'a, S>, tray: Tray) -> Reading<'a, S> {
-        let other = Tray::new(u32::from(tray.number() == 0));
-        Reading::of(stripe, other, zeros(stripe), 0)
-    }
-
-    fn of(stripe: &'a Stripe<'a, S>, lost: Tray, spare: Vec<S>, done: u64) -> Reading<'a, S> {
         Reading {
             stripe,
-            store: stripe.remains(),
-            lost,
-            spare,
-            done,
+            lost: Tray::new(u32::from(tray.number() == 0)),
+            is_lost: false,
+            spare: zeros(stripe),
+            done: 0,
         }
     }
 
-    /// Layers of a tray. A lost one is read from the spare, and must fit to the other trays if they
-    /// are all here; any other is read from the store, and must be live.
-    pub fn read(&self, tray: Tray, layers: Range<u32>) -> Result<(&[S], Source), Failure> {
+    /// Layers of a tray, where they come from, and what they were held against. A lost one is read
+    /// from the spare; any other from the store, where it must be. All trays that are there must fit
+    /// together in these layers.
+    pub fn read(&self, tray: Tray, layers: Range<u32>) -> Result<(&[S], Source, Held), Failure> {
         let about = format!("tray {tray}, layers {}..{}", layers.start, layers.end);
         let part = self
             .part(tray, layers.clone())
             .map_err(Failure::refused(about))?;
         let source = match tray == self.lost {
-            true => self.test(layers)?,
+            true => Source::Spare,
             false => self.stripe.symbols(tray).map(|_| Source::Store)?,
         };
-        Ok((part, source))
+        let held = self.test(tray, layers)?;
+        Ok((part, source, held))
     }
 
     /// The layers of the lost tray that can be read.
@@ -118,27 +116,45 @@ impl<'a, S: Symbol> Reading<'a, S> {
     /// The library's answer; for a tray that is not live it is a part of zeros.
     fn part(&self, tray: Tray, layers: Range<u32>) -> Result<&[S], Refusal> {
         let layout = self.stripe.cabinet.description.layout;
-        let (store, spare) = (&self.store, &self.spare);
+        let (store, spare) = (&self.stripe.codeword, &self.spare);
         (S::CALLS.read_part)(layout, store, spare, self.lost, self.done, tray, layers)
     }
 
-    /// Tests these layers of the spare with the other trays, by a scrub of no others.
-    fn test(&self, layers: Range<u32>) -> Result<Source, Failure> {
-        let (cabinet, lost) = (self.stripe.cabinet, self.lost);
-        let Some(codeword) = self.stripe.codeword_with(&[lost], &self.spare) else {
-            return Ok(Source::Untested);
-        };
-        let mut record = ScrubRecord::new(layers.start, 0, cabinet.numbers.layers as u32);
-        let budget = u64::from(layers.end - layers.start);
-        (S::CALLS.scrub)(cabinet.description.layout, &codeword, &mut record, budget)
-            .map_err(Failure::refused("test"))?;
-        match record.bad {
-            0 => Ok(Source::Tested),
-            _ => Err(Failure::Contents(format!(
-                "tray {lost} and the others do not fit together in layer {}: some tray, share or \
-                 the spare holds wrong symbols; nothing is handed out",
-                record.first
+    /// Holds these layers of a tray against all others that are there: in each of them a codeword
+    /// must have the symbols of the live trays, of this one, and of the spare as far as it is done.
+    fn test(&self, tray: Tray, layers: Range<u32>) -> Result<Held, Failure> {
+        let stripe = self.stripe;
+        let mut erased = stripe.not_live();
+        erased.retain(|other| *other != tray);
+        let mut codeword = stripe.codeword.clone();
+        if tray == self.lost {
+            codeword = stripe.codeword_with(&[tray], &self.spare);
+        } else if self.is_lost {
+            erased = union(&erased, &[self.lost]);
+        }
+        keep_only(stripe.cabinet, &mut codeword, &layers);
+        let checksum = tray != self.lost
+            && *stripe.found(tray) == Found::Live
+            && stripe.cabinet.geometry.has_checksums();
+        match stripe.kept(&codeword, &erased)? {
+            Kept::Sound { checks: 0 } if checksum => Ok(Held::Checksums),
+            Kept::Sound { checks: 0 } => Ok(Held::Nothing),
+            Kept::Sound { .. } => Ok(Held::Checks),
+            Kept::Bad { layer, .. } => Err(Failure::Contents(format!(
+                "tray {tray} and the others do not fit together in layer {layer}: some tray, share \
+                 or the spare holds wrong symbols; nothing is handed out (see cabinet test)"
             ))),
+        }
+    }
+}
+
+/// Sets all layers but these to zeros, which meet every check.
+fn keep_only<S: Symbol>(cabinet: &Cabinet, codeword: &mut [S], layers: &Range<u32>) {
+    for symbols in codeword.chunks_mut(cabinet.numbers.layers) {
+        for (layer, symbol) in (0..).zip(symbols) {
+            if !layers.contains(&layer) {
+                *symbol = S::default();
+            }
         }
     }
 }
@@ -148,21 +164,27 @@ fn zeros<S: Symbol>(stripe: &Stripe<S>) -> Vec<S> {
     vec![S::default(); stripe.cabinet.numbers.layers]
 }
 
-/// The lost tray's symbols of a stripe that is whole, from the repair's work file, if the library
-/// hands them out.
-fn whole<S: Symbol>(stripe: &Stripe<S>, lost: Tray) -> Option<Vec<S>> {
-    let cabinet = stripe.cabinet;
-    let path = work_name(&cabinet.image_path(lost), WORK).ok()?;
-    let (mut file, _) = files::open(&path).ok()??;
-    let mut image = vec![0; cabinet.image_size::<S>()];
-    let from = u64::from(stripe.number) * image.len() as u64;
-    file.seek(SeekFrom::Start(from)).ok()?;
-    file.read_exact(&mut image).ok()?;
-    let (layout, volume) = (cabinet.description.layout, cabinet.volume(stripe.number));
-    match S::read_image(layout, volume, &image) {
-        Ok((tray, symbols)) if tray == lost => Some(symbols),
-        _ => None,
+/// The spare of a stripe that the repair of a checkpoint has done or is at, the groups done of it,
+/// and what it was held against.
+fn under_way<S: Symbol>(
+    cabinet: &Cabinet,
+    stripe: &Stripe<S>,
+    repair: &Repair,
+    checkpoint: &Checkpoint,
+    path: &Path,
+) -> Result<(Vec<S>, u64, Origin), Failure> {
+    let what = repair.rebuilding(cabinet, path.to_path_buf());
+    if stripe.number < checkpoint.stripe {
+        let spare = rebuild::done_before(cabinet, &what, checkpoint, stripe.number)?;
+        let spare = spare.ok_or_else(|| foreign(path))?;
+        return Ok((spare, cabinet.numbers.groups as u64, Origin::Known));
     }
+    let held = rebuild::held::<S>(cabinet, 1, checkpoint);
+    let (_, rest) = held.ok_or_else(|| foreign(path))?;
+    let own = own_part(cabinet, 1, checkpoint.step, &rest);
+    let (_, spare) = own.ok_or_else(|| foreign(path))?;
+    let origin = compare(stripe, repair, checkpoint, path)?;
+    Ok((spare, checkpoint.step, origin))
 }
 
 /// Holds a checkpoint against the folder's own shares and trays, if they are all here.

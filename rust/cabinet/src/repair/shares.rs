@@ -2,14 +2,13 @@
 
 use super::Repair;
 use crate::code::symbol::Symbol;
+use crate::disk::{read_part, Handle};
 use crate::failure::Failure;
 use crate::files;
 use crate::files::cabinet::Cabinet;
 use crate::files::stripe::Stripe;
 use gesarumbo::Refusal;
 use std::ffi::OsStr;
-use std::fs::File;
-use std::io::{BufReader, Read, Seek, SeekFrom};
 use std::path::{Path, PathBuf};
 
 /// All helpers' shares.
@@ -17,7 +16,14 @@ pub enum Shares {
     /// Worked out from the helpers' trays.
     OfTrays,
     /// A file for each helper, in their order.
-    Files(Vec<(PathBuf, BufReader<File>)>),
+    Files(Vec<ShareFile>),
+}
+
+/// A helper's share in a file, as far as it is read.
+pub struct ShareFile {
+    path: PathBuf,
+    file: Box<dyn Handle>,
+    at: u64,
 }
 
 impl Shares {
@@ -38,9 +44,13 @@ impl Shares {
         let wanted = size::<S>(cabinet, repair) * u64::from(cabinet.description.stripes);
         let open = |name: &&OsStr| {
             let path = Path::new(name);
-            let (file, length) = files::open_existing(path)?;
+            let (file, length) = files::open_existing(cabinet.disk, path)?;
             match length == wanted {
-                true => Ok((path.to_path_buf(), BufReader::new(file))),
+                true => Ok(ShareFile {
+                    path: path.to_path_buf(),
+                    file,
+                    at: 0,
+                }),
                 false => {
                     let place = path.display();
                     let about = format!("{place}: {length} bytes, a share has {wanted}");
@@ -59,14 +69,11 @@ impl Shares {
         repair: &Repair,
         stripe: u32,
     ) -> Result<(), Failure> {
-        let Shares::Files(files) = self else {
-            return Ok(());
-        };
-        let from = size::<S>(cabinet, repair) * u64::from(stripe);
-        files.iter_mut().try_for_each(|(path, file)| {
-            let at = file.seek(SeekFrom::Start(from));
-            at.map(|_| ()).map_err(Failure::file(path))
-        })
+        if let Shares::Files(files) = self {
+            let from = size::<S>(cabinet, repair) * u64::from(stripe);
+            files.iter_mut().for_each(|file| file.at = from);
+        }
+        Ok(())
     }
 
     /// All helpers' shares of the next stripe.
@@ -93,14 +100,10 @@ fn size<S: Symbol>(cabinet: &Cabinet, repair: &Repair) -> u64 {
 }
 
 /// The next symbols of a share's file, as many as are there.
-fn read<S: Symbol>(
-    (path, file): &mut (PathBuf, BufReader<File>),
-    size: u64,
-) -> Result<Vec<S>, Failure> {
-    let mut bytes = Vec::new();
-    file.take(size)
-        .read_to_end(&mut bytes)
-        .map_err(Failure::file(path))?;
+fn read<S: Symbol>(share: &mut ShareFile, size: u64) -> Result<Vec<S>, Failure> {
+    let bytes = read_part(&*share.file, share.at, size as usize);
+    let bytes = bytes.map_err(Failure::file(&share.path))?;
+    share.at += size;
     Ok(S::from_bytes(&bytes).unwrap_or_default())
 }
 

@@ -5,8 +5,7 @@ use super::Repair;
 use crate::code::numbers::Numbers;
 use crate::code::symbol::Symbol;
 use crate::failure::Failure;
-use crate::files::fingerprint;
-use crate::files::stripe::Stripe;
+use crate::files::stripe::{fingerprint, Stripe};
 use gesarumbo::{Corrected, Refusal, Repaired};
 
 /// What stays fixed over all groups of a stripe.
@@ -65,7 +64,7 @@ impl<'a, S: Symbol> StripeRepair<'a, S> {
 
     /// What the shares and the sound trays beside the lost ones are known by.
     pub fn fingerprint(&self) -> u64 {
-        fingerprint::of(self.shares.iter().chain(&self.host))
+        fingerprint(&[&self.shares[..], &self.host].concat())
     }
 
     /// Does some groups from one on.

@@ -1,20 +1,26 @@
 //! What a repair has found in the stripes that it has done.
 
+use crate::failure::Outcome;
 use crate::files::cabinet::Cabinet;
+use crate::files::faults::Faults;
 use crate::terminal::screen::{Paint, Screen};
 use crate::terminal::words::count;
 use gesarumbo::Rack;
 use std::collections::BTreeMap;
 
-/// Counts of stripes.
+/// Counts of stripes, and the faults of trays.
 #[derive(Default, PartialEq, Eq, Debug)]
 pub struct Tally {
-    /// Those that could not be tested, since other trays are missing.
+    /// Those that could not be tested: there was no tray to spare.
     pub untested: u32,
+    /// Those whose shares did not give the tray that fits: it was recovered from the trays.
+    pub recovered: u32,
     /// Those in which a rack's share was wrong, by the rack.
     pub wrong: BTreeMap<u32, u32>,
     /// Those in which this rack's trays do not fit to the others.
     pub unfit: BTreeMap<u32, u32>,
+    /// What is wrong with trays that were used or held against.
+    pub faults: Faults,
 }
 
 impl Tally {
@@ -28,22 +34,35 @@ impl Tally {
         *self.unfit.entry(rack.number()).or_default() += 1;
     }
 
+    /// How a repair ends that has found this.
+    pub fn outcome(&self) -> Outcome {
+        let is_clear = self.recovered == 0 && self.wrong.is_empty() && self.faults.is_empty();
+        match (self.untested, is_clear) {
+            (0, true) => Outcome::Done,
+            (0, false) => Outcome::Healed,
+            _ => Outcome::NotTested,
+        }
+    }
+
     /// Whether all trays together are sound, in words.
     pub fn tested(&self, cabinet: &Cabinet, screen: &Screen) -> String {
         let stripes = cabinet.description.stripes;
         let place = match self.untested {
             0 => {
                 let sound = screen.paint(Paint::Good, "sound");
-                return format!("all trays together are {sound}");
+                return match self.faults.is_empty() {
+                    true => format!("all trays together are {sound}"),
+                    false => format!("all trays but {} are {sound}", self.faults.words()),
+                };
             }
             all if all == stripes => String::new(),
             some => format!(" in {some} of {}", count(stripes as usize, "stripe")),
         };
-        format!("not tested{place}, other trays are missing")
+        format!("not tested{place}: no tray to spare")
     }
 
-    /// The counts as a checkpoint has them.
-    pub fn line(&self) -> String {
+    /// The tally as a checkpoint has it, in two lines.
+    pub fn lines(&self) -> String {
         let pairs = |counts: &BTreeMap<u32, u32>| -> String {
             let pairs = counts
                 .iter()
@@ -51,22 +70,33 @@ impl Tally {
             pairs.collect()
         };
         let (wrong, unfit) = (pairs(&self.wrong), pairs(&self.unfit));
-        format!("untested {} wrong{wrong} unfit{unfit}\n", self.untested)
+        let (untested, recovered) = (self.untested, self.recovered);
+        let faults = self.faults.line();
+        format!("untested {untested} recovered {recovered} wrong{wrong} unfit{unfit}\n{faults}")
     }
 
-    /// The counts in front of a checkpoint's own part, and what is after them.
+    /// The tally in front of a checkpoint's own part, and what is after it.
     pub fn parse(rest: &[u8]) -> Option<(Tally, &[u8])> {
-        let end = rest.iter().position(|byte| *byte == b'\n')?;
-        let line = str::from_utf8(&rest[..end]).ok()?;
-        let (untested, counts) = line.strip_prefix("untested ")?.split_once(" wrong")?;
+        let (line, rest) = line(rest)?;
+        let (untested, counts) = line.strip_prefix("untested ")?.split_once(" recovered ")?;
+        let (recovered, counts) = counts.split_once(" wrong")?;
         let (wrong, unfit) = counts.split_once(" unfit")?;
+        let (faults, rest) = self::line(rest)?;
         let tally = Tally {
             untested: untested.parse().ok()?,
+            recovered: recovered.parse().ok()?,
             wrong: counts_of(wrong)?,
             unfit: counts_of(unfit)?,
+            faults: Faults::parse(faults)?,
         };
-        Some((tally, &rest[end + 1..]))
+        Some((tally, rest))
     }
+}
+
+/// The first line, and what follows.
+fn line(rest: &[u8]) -> Option<(&str, &[u8])> {
+    let end = rest.iter().position(|byte| *byte == b'\n')?;
+    Some((str::from_utf8(&rest[..end]).ok()?, &rest[end + 1..]))
 }
 
 fn counts_of(words: &str) -> Option<BTreeMap<u32, u32>> {
@@ -80,26 +110,32 @@ fn counts_of(words: &str) -> Option<BTreeMap<u32, u32>> {
 #[cfg(test)]
 mod tests {
     use super::{Rack, Tally};
+    use gesarumbo::Tray;
 
     #[test]
-    fn counts_are_read_as_they_are_written() {
+    fn a_tally_is_read_as_it_is_written() {
         let mut tally = Tally {
             untested: 3,
+            recovered: 1,
             ..Tally::default()
         };
-        assert_eq!(tally.line(), "untested 3 wrong unfit\n");
+        let empty = "untested 3 recovered 1 wrong unfit\nwrong unsummed unsure\n";
+        assert_eq!(tally.lines(), empty);
         tally.add_wrong(Rack::new(3));
         tally.add_wrong(Rack::new(3));
         tally.add_wrong(Rack::new(11));
         tally.add_unfit(Rack::new(3));
-        assert_eq!(tally.line(), "untested 3 wrong 3:2 11:1 unfit 3:1\n");
-        let rest = [tally.line().as_bytes(), b"more\n"].concat();
+        tally.faults.add_wrong(5, &[Tray::new(9)]);
+        let full = "untested 3 recovered 1 wrong 3:2 11:1 unfit 3:1\nwrong 9:5-6 unsummed unsure\n";
+        assert_eq!(tally.lines(), full);
+        let rest = [tally.lines().as_bytes(), b"more\n"].concat();
         assert_eq!(Tally::parse(&rest), Some((tally, &b"more\n"[..])));
         for broken in [
             "",
             "untested 3",
-            "untested x wrong unfit\n",
-            "untested 1 wrong 3 unfit\n",
+            "untested x recovered 0 wrong unfit\nwrong unsummed unsure\n",
+            "untested 1 recovered 0 wrong 3 unfit\nwrong unsummed unsure\n",
+            "untested 1 recovered 0 wrong unfit\n",
         ] {
             assert_eq!(Tally::parse(broken.as_bytes()), None, "{broken}");
         }

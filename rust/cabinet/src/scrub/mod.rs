@@ -1,18 +1,21 @@
 //! The test of a cabinet some layers at a time, stripe after stripe, which can be cut anywhere.
 
+pub mod examined;
 pub mod findings;
+pub mod verdict;
 
 use crate::code::symbol::Symbol;
 use crate::failure::Failure;
 use crate::files::cabinet::Cabinet;
 use crate::files::checkpoint::{self, Checkpoint, MOST_UNSAVED};
-use crate::files::fingerprint;
-use crate::files::stripe::Stripe;
+use crate::files::description::Format;
+use crate::files::faults::Faults;
 use crate::files::survey::Unused;
 use crate::terminal::progress::{self, Run};
 use crate::terminal::screen::Screen;
+use examined::Examined;
 use findings::Findings;
-use gesarumbo::ScrubRecord;
+use gesarumbo::{ScrubRecord, Tray};
 use std::path::{Path, PathBuf};
 
 /// The checkpoint's file in a cabinet's folder.
@@ -20,7 +23,7 @@ pub const NAME: &str = "scrub.txt";
 
 /// A scrub as far as it has come.
 pub struct Scrub<'a> {
-    cabinet: &'a Cabinet,
+    cabinet: &'a Cabinet<'a>,
     path: PathBuf,
     /// The stripe under test.
     stripe: u32,
@@ -29,13 +32,18 @@ pub struct Scrub<'a> {
     /// The fingerprint of the last stripe that was looked at.
     over: u64,
     pub findings: Findings,
+    pub faults: Faults,
+    /// The least number of checks that a stripe was tested with.
+    pub checks: u32,
+    /// The trays that could not be used somewhere, this time.
+    pub unused: Vec<Tray>,
     /// Bytes of codewords since the last checkpoint.
     unsaved: u64,
 }
 
 impl<'a> Scrub<'a> {
     /// A new scrub of a cabinet.
-    pub fn begin(cabinet: &'a Cabinet, path: PathBuf) -> Scrub<'a> {
+    pub fn begin(cabinet: &'a Cabinet<'a>, path: PathBuf) -> Scrub<'a> {
         Scrub {
             cabinet,
             path,
@@ -43,30 +51,52 @@ impl<'a> Scrub<'a> {
             next: 0,
             over: 0,
             findings: Findings::new(cabinet),
+            faults: Faults::default(),
+            checks: cabinet.numbers.checks as u32,
+            unused: Vec::new(),
             unsaved: 0,
         }
     }
 
     /// The scrub as its checkpoint has it; a new one if there is none.
-    pub fn go_on<S: Symbol>(cabinet: &'a Cabinet, path: PathBuf) -> Result<Scrub<'a>, Failure> {
+    pub fn go_on<S: Symbol>(cabinet: &'a Cabinet<'a>, path: PathBuf) -> Result<Scrub<'a>, Failure> {
         let mut scrub = Scrub::begin(cabinet, path);
         let task = scrub.task();
-        let found = Checkpoint::read(&scrub.path, |of| of == task, foreign)?;
+        let found = Checkpoint::read(cabinet.disk, &scrub.path, |of| of == task, foreign)?;
         let Some(checkpoint) = found else {
             return Ok(scrub);
         };
         judge::<S>(cabinet, &checkpoint)?;
-        let at = u64::from(checkpoint.stripe) * cabinet.numbers.layers as u64 + checkpoint.step;
-        let findings = Findings::parse(cabinet, at, &checkpoint.rest);
-        let findings = findings.filter(|_| checkpoint.stripe < cabinet.description.stripes);
-        scrub.findings = findings.ok_or_else(|| foreign(&scrub.path))?;
-        (scrub.stripe, scrub.next) = (checkpoint.stripe, checkpoint.step as u32);
-        scrub.over = checkpoint.over;
-        let last = cabinet.stripe::<S>(checkpoint.last())?;
-        match scrub.over == fingerprint::of(last.codeword()?.iter()) {
-            true => Ok(scrub),
-            false => Err(foreign(&scrub.path)),
+        scrub
+            .take_over(&checkpoint)
+            .ok_or_else(|| foreign(&scrub.path))?;
+        // The generation tells cabinets apart, where there is one.
+        if cabinet.description.format == Format::First {
+            let last = checkpoint.last();
+            let segment = cabinet.segment_with::<S>(last)?;
+            if scrub.over != segment.stripe(last).fingerprint() {
+                return Err(foreign(&scrub.path));
+            }
         }
+        Ok(scrub)
+    }
+
+    /// Takes over what a checkpoint says, if it can be of this scrub.
+    fn take_over(&mut self, checkpoint: &Checkpoint) -> Option<()> {
+        let cabinet = self.cabinet;
+        let at = u64::from(checkpoint.stripe) * cabinet.numbers.layers as u64 + checkpoint.step;
+        let text = str::from_utf8(&checkpoint.rest).ok()?;
+        let (first, rest) = text.split_once('\n')?;
+        let (faults, findings) = rest.split_once('\n')?;
+        if checkpoint.stripe >= cabinet.description.stripes {
+            return None;
+        }
+        self.checks = first.strip_prefix("checks ")?.parse().ok()?;
+        self.faults = Faults::parse(faults)?;
+        self.findings = Findings::parse(cabinet, at, findings.as_bytes())?;
+        (self.stripe, self.next) = (checkpoint.stripe, checkpoint.step as u32);
+        self.over = checkpoint.over;
+        Some(())
     }
 
     /// The checkpoint's first line.
@@ -95,93 +125,134 @@ impl<'a> Scrub<'a> {
             progress::goes_on(self.cabinet, self.stripe, screen);
         }
         let mut unused = None;
-        for stripe in self.cabinet.stripes::<S>(self.stripe) {
-            Unused::begin_or_say(&mut unused, &stripe, screen);
-            self.stripe(&stripe, &mut run, screen)
-                .map_err(stripe.named())?;
+        let first = self.cabinet.geometry.segment_of(self.stripe);
+        for segment in self.cabinet.segments::<S>(first) {
+            let segment = segment?;
+            Unused::begin_or_say(&mut unused, &segment, screen);
+            self.segment(Examined::new(segment), &mut run, screen)?;
             if run.is_over() {
                 break;
             }
         }
+        self.unused = Unused::trays(unused);
+        self.faults.add_labels(self.cabinet, &self.unused);
         Ok(())
     }
 
-    /// Looks at the next layers of one stripe.
-    fn stripe<S: Symbol>(
+    /// Looks at all layers, with a line for stripes alone and no checkpoint.
+    pub fn work_quietly<S: Symbol>(&mut self, screen: &mut Screen) -> Result<(), Failure> {
+        let mut unused = None;
+        let layers = self.cabinet.numbers.layers;
+        for segment in self.cabinet.segments::<S>(0) {
+            let segment = segment?;
+            Unused::begin_or_say(&mut unused, &segment, screen);
+            let stripes = segment.stripes.clone();
+            let mut examined = Examined::new(segment);
+            for number in stripes.clone() {
+                let place = self.cabinet.place(number);
+                let seen = examined.see(number).map_err(|failure| failure.at(&place))?;
+                let bad = seen.bad.iter();
+                bad.for_each(|layer| self.findings.add(number, *layer));
+                self.checks = self.checks.min(seen.checks);
+                self.findings.at += layers as u64;
+            }
+            self.add_faults(&examined);
+            progress::segment(self.cabinet, &stripes, screen);
+        }
+        self.unused = Unused::trays(unused);
+        self.faults.add_labels(self.cabinet, &self.unused);
+        Ok(())
+    }
+
+    fn add_faults<S: Symbol>(&mut self, examined: &Examined<S>) {
+        match &examined.mended {
+            Some(Ok(mended)) => self.faults.add(&examined.segment, mended),
+            Some(Err(_)) => self.faults.add_unsure(&examined.segment),
+            None => {}
+        }
+    }
+
+    /// Looks at the next layers of one segment.
+    fn segment<S: Symbol>(
         &mut self,
-        stripe: &Stripe<S>,
+        mut examined: Examined<S>,
         run: &mut Run,
         screen: &mut Screen,
     ) -> Result<(), Failure> {
-        let codeword = stripe.codeword()?;
-        let layers = self.cabinet.numbers.layers as u32;
-        let before = self.findings.at;
-        loop {
-            let left = u64::from(layers - self.next);
-            let done = self.look(&codeword, run.budget().min(left))?;
-            run.advance(done, || self.findings.bad_words(), screen);
-            if run.is_over() || self.next == layers {
+        let end = examined.segment.stripes.end;
+        while self.stripe < end {
+            let place = self.cabinet.place(self.stripe);
+            self.stripe(&mut examined, run, screen)
+                .map_err(|failure| failure.at(&place))?;
+            if run.is_over() {
                 break;
             }
         }
-        if self.next == layers {
-            (self.stripe, self.next) = (self.stripe + 1, 0);
-        }
-        self.unsaved += (S::WIDTH * codeword.len()) as u64;
+        self.add_faults(&examined);
         let is_due = self.unsaved >= MOST_UNSAVED;
-        // Where nothing is looked at, the last stripe is the one before.
-        let is_last = before == 0 || self.findings.at > before;
-        if is_last && (is_due || run.is_over()) {
-            self.over = fingerprint::of(codeword.iter());
-        }
-        match is_due && !run.is_over() {
+        match is_due && !run.is_over() && !self.is_over() {
             true => self.save(),
             false => Ok(()),
         }
     }
 
-    /// Looks at some layers at once, and singly where one of them is bad: a layer is bad when the
-    /// library counts one more. Gives how many they were.
-    fn look<S: Symbol>(&mut self, codeword: &[S], budget: u64) -> Result<u64, Failure> {
+    /// Looks at the next layers of one stripe.
+    fn stripe<S: Symbol>(
+        &mut self,
+        examined: &mut Examined<S>,
+        run: &mut Run,
+        screen: &mut Screen,
+    ) -> Result<(), Failure> {
         let layers = self.cabinet.numbers.layers as u32;
-        let call = |record: &mut ScrubRecord, budget| {
-            (S::CALLS.scrub)(self.cabinet.description.layout, codeword, record, budget)
-                .map_err(Failure::refused("scrub"))
-        };
-        let mut record = ScrubRecord::new(self.next, 0, layers);
-        call(&mut record, budget)?;
-        let end = record.next;
-        if record.bad > 0 {
-            for layer in self.next..end {
-                let mut alone = ScrubRecord::new(layer, 0, layers);
-                call(&mut alone, 1)?;
-                if alone.bad > 0 {
-                    self.findings.add(self.stripe, layer);
-                }
+        let before = self.findings.at;
+        let seen = examined.see(self.stripe)?;
+        loop {
+            let left = u64::from(layers - self.next);
+            let done = run.budget().min(left);
+            let end = self.next + done as u32;
+            let here = |layer: &&u32| (self.next..end).contains(*layer);
+            let bad: Vec<u32> = seen.bad.iter().filter(here).copied().collect();
+            bad.iter()
+                .for_each(|layer| self.findings.add(self.stripe, *layer));
+            self.findings.at += done;
+            self.next = end;
+            run.advance(done, || self.findings.bad_words(), screen);
+            if run.is_over() || self.next == layers {
+                break;
             }
         }
-        let done = u64::from(end - self.next);
-        self.findings.at += done;
-        self.next = end;
-        Ok(done)
+        // Where nothing is looked at, the last stripe is the one before.
+        if before == 0 || self.findings.at > before {
+            if self.cabinet.description.format == Format::First {
+                self.over = examined.segment.stripe(self.stripe).fingerprint();
+            }
+            self.checks = self.checks.min(seen.checks);
+            self.unsaved += (S::WIDTH * self.cabinet.numbers.codeword()) as u64;
+        }
+        if self.next == layers {
+            (self.stripe, self.next) = (self.stripe + 1, 0);
+        }
+        Ok(())
     }
 
     /// Writes the checkpoint.
     pub fn save(&mut self) -> Result<(), Failure> {
+        let (checks, faults) = (self.checks, self.faults.line());
+        let rest = format!("checks {checks}\n{faults}{}", self.findings.text());
         let checkpoint = Checkpoint {
             task: self.task(),
             stripe: self.stripe,
             step: self.next.into(),
             over: self.over,
-            rest: self.findings.text().into_bytes(),
+            rest: rest.into_bytes(),
         };
         self.unsaved = 0;
-        checkpoint.write(&self.path)
+        checkpoint.write(self.cabinet.disk, &self.path)
     }
 
     /// Removes the checkpoint: the scrub is over.
     pub fn discard(&self) -> Result<(), Failure> {
-        checkpoint::remove(&self.path)
+        checkpoint::remove(self.cabinet.disk, &self.path)
     }
 }
 

@@ -2,7 +2,7 @@
 
 use super::screen::{Paint, Screen};
 use crate::code::numbers::Numbers;
-use crate::files::stripe::Kind;
+use crate::files::found::Kind;
 use gesarumbo::{Rack, Tray};
 
 /// Prints the cabinet, and what the cells of trays that are not live mean.

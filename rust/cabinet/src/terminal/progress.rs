@@ -112,6 +112,17 @@ pub fn stripes(cabinet: &Cabinet, done: u32, screen: &mut Screen) {
     }
 }
 
+/// After a segment of such a task: a line if one was due within it.
+pub fn segment(cabinet: &Cabinet, stripes: &Range<u32>, screen: &mut Screen) {
+    let whole = u64::from(cabinet.description.stripes);
+    let size = whole.div_ceil(LINES);
+    let (start, end) = (u64::from(stripes.start), u64::from(stripes.end));
+    if whole > 1 && (end / size > start / size || end == whole) {
+        let place = Place::of(cabinet, 1, end);
+        screen.line(place.line("stripe", 0, ""));
+    }
+}
+
 /// Says with which stripe a task goes on that was cut, where there are several.
 pub fn goes_on(cabinet: &Cabinet, stripe: u32, screen: &mut Screen) {
     if cabinet.description.stripes > 1 {

@@ -28,6 +28,8 @@ impl Paint {
 pub struct Screen {
     colour: bool,
     trouble: Option<io::Error>,
+    /// What was printed, where it is kept and not seen.
+    pub kept: Option<String>,
 }
 
 impl Screen {
@@ -38,11 +40,26 @@ impl Screen {
         Screen {
             colour: io::stdout().is_terminal() && !unwanted && !dumb,
             trouble: None,
+            kept: None,
+        }
+    }
+
+    /// A screen on which nothing is seen.
+    pub fn silent() -> Screen {
+        Screen {
+            colour: false,
+            trouble: None,
+            kept: Some(String::new()),
         }
     }
 
     /// Prints one line, or several.
     pub fn line(&mut self, text: impl AsRef<str>) {
+        if let Some(kept) = &mut self.kept {
+            kept.push_str(text.as_ref());
+            kept.push('\n');
+            return;
+        }
         if self.trouble.is_none() {
             self.trouble = writeln!(io::stdout(), "{}", text.as_ref()).err();
         }

@@ -53,6 +53,20 @@ impl Bench {
         bench
     }
 
+    /// A cabinet (4, 3, 8, 3) of the first format, volume 7, with three stripes, in the folder
+    /// `first`: as it was written when there was no other format.
+    pub fn with_first_format() -> Bench {
+        let bench = Bench::new();
+        let kept = Path::new(env!("CARGO_MANIFEST_DIR")).join("tests/first-format");
+        fs::create_dir(bench.path("first")).expect("a folder can be made");
+        for entry in fs::read_dir(kept).expect("it is kept") {
+            let entry = entry.expect("an entry can be read");
+            let copy = bench.path("first").join(entry.file_name());
+            fs::copy(entry.path(), copy).expect("a file can be copied");
+        }
+        bench
+    }
+
     /// A file in the folder.
     pub fn path(&self, name: &str) -> PathBuf {
         self.place.join(name)
@@ -78,6 +92,28 @@ impl Bench {
     pub fn poke(&self, name: &str, at: usize, byte: u8) {
         let mut bytes = self.read(name);
         bytes[at] = byte;
+        self.write(name, &bytes);
+    }
+
+    /// Changes bits of a symbol of a tray; its checksum stays as it was.
+    pub fn flip(&self, name: &str, at: usize) {
+        let byte = self.read(name)[at];
+        self.poke(name, at, byte ^ 0x40);
+    }
+
+    /// Changes bits of a symbol of a tray of one segment, and its checksum with it: as if it had been
+    /// written so.
+    pub fn forge(&self, name: &str, at: usize) {
+        self.flip(name, at);
+        self.sum(name);
+    }
+
+    /// Writes the right checksum of a tray of one segment.
+    pub fn sum(&self, name: &str) {
+        let mut bytes = self.read(name);
+        let end = bytes.len() - 8;
+        let check = checksum(seed(&bytes), &bytes[LABEL..end]);
+        bytes[end..].copy_from_slice(&check.to_le_bytes());
         self.write(name, &bytes);
     }
 
@@ -126,6 +162,14 @@ impl Bench {
         ended.out
     }
 
+    /// Runs a line that must do its work and end with this status, and gives what it printed.
+    pub fn ends(&self, status: i32, line: &str) -> String {
+        let ended = self.run(line);
+        assert_eq!(ended.status, status, "{line}: {}{}", ended.out, ended.err);
+        assert_eq!(ended.err, "", "{line}");
+        ended.out
+    }
+
     /// Runs a line that must end with this status, and gives its message.
     pub fn fails(&self, status: i32, line: &str) -> String {
         let ended = self.run(line);
@@ -143,6 +187,43 @@ impl Bench {
         assert!(before == self.snapshot("."), "{line}: a file has changed");
         message
     }
+}
+
+/// Bytes of a tray's label, and of a label and a header.
+pub const LABEL: usize = 512;
+pub const SYMBOLS: usize = LABEL + 24;
+
+/// CRC-64 of xz, bit by bit.
+pub fn checksum(start: u64, bytes: &[u8]) -> u64 {
+    let step = |sum: u64| match sum & 1 {
+        1 => (sum >> 1) ^ 0xC96C_5795_D787_0F42,
+        _ => sum >> 1,
+    };
+    let add = |sum: u64, byte: &u8| (0..8).fold(sum ^ u64::from(*byte), |sum, _| step(sum));
+    !bytes.iter().fold(!start, add)
+}
+
+/// Where the checksums of a tray's segments start: the checksum of its label's lines but the tray's.
+pub fn seed(tray: &[u8]) -> u64 {
+    let is_own = |at: &usize| tray[*at..].starts_with(b"\ntray ");
+    let end = (0..LABEL).find(is_own).expect("a label has its tray") + 1;
+    checksum(0, &tray[..end])
+}
+
+/// A checkpoint that was changed, with the checksum that goes with it.
+pub fn checked(checkpoint: &[u8]) -> Vec<u8> {
+    let line = checkpoint
+        .iter()
+        .position(|byte| *byte == b'\n')
+        .unwrap_or(0)
+        + 1;
+    let end = checkpoint[line..].iter().position(|byte| *byte == b'\n');
+    let (lines, rest) = checkpoint.split_at(line + end.unwrap_or(0));
+    let lines = String::from_utf8_lossy(lines).into_owned();
+    let (lines, _) = lines.rsplit_once(" check ").unwrap_or((&lines, ""));
+    let rest = rest.strip_prefix(b"\n").unwrap_or_default();
+    let check = checksum(checksum(0, lines.as_bytes()), rest);
+    [format!("{lines} check {check:016x}\n").as_bytes(), rest].concat()
 }
 
 /// Runs a command up to its end.

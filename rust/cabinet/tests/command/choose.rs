@@ -146,22 +146,23 @@ fn a_size_says_stripes_files_and_traffic() {
     let bench = Bench::new();
     let text = bench.done("choose --trays 30 --survive 6 --rack 3 --size 100000000");
     assert_readable(&text);
-    // 24,576 bytes a stripe; 24 + 1,024 bytes and 4,608 symbols for each.
-    let wanted = "4,070 stripes, 4,265,360 bytes a tray, 18,754,560 in its repair";
+    // 24,576 bytes and 4,608 symbols that cross for a stripe; a label of 512 bytes, 1,024 symbols a
+    // stripe, and 24 + 8 bytes for each of 1,018 segments.
+    let wanted = "4,070 stripes, 4,200,768 bytes a tray, 18,754,560 in its repair";
     assert!(
         text.contains(&format!("18.8 %        3\n      {wanted}\n")),
         "{text}"
     );
-    // 480 bytes a stripe; 24 + 64 bytes and 64 symbols of two bytes.
+    // 480 bytes a stripe; 64 bytes of symbols, and 64 symbols of two bytes that cross.
     let text = bench.done("choose --trays 20 --survive 5 --rack 4 --size 481");
-    let wanted = "2 stripes, 176 bytes a tray, 256 in its repair";
+    let wanted = "2 stripes, 672 bytes a tray, 256 in its repair";
     assert!(
         text.contains(&format!("13.3 %        1\n      {wanted}\n")),
         "{text}"
     );
     let text = bench.done("choose --trays 20 --survive 5 --rack 4 --size 1");
     assert!(
-        text.contains("\n      1 stripe, 88 bytes a tray, 128 in its repair\n"),
+        text.contains("\n      1 stripe, 608 bytes a tray, 128 in its repair\n"),
         "{text}"
     );
     // A stripe has a volume number of its own, of 32 bits.

@@ -1,6 +1,6 @@
 //! Cabinets in the field of 257: the same commands, two bytes a symbol, and racks of four.
 
-use crate::bench::{assert_readable, data, Bench};
+use crate::bench::{assert_readable, checked, data, Bench, LABEL, SYMBOLS};
 use crate::xml::assert_well_formed;
 
 const REPAIR: &str = "repair c --lost 6 --helpers 0,2,3,4";
@@ -9,20 +9,21 @@ fn image(tray: usize) -> String {
     format!("c/tray-{tray:02}.img")
 }
 
-/// The symbols of a file from a place on.
-fn symbols(bench: &Bench, name: &str, from: usize) -> Vec<u16> {
+/// The symbols of a file, from a place on and up to so many bytes before its end.
+fn symbols(bench: &Bench, name: &str, from: usize, but: usize) -> Vec<u16> {
     let bytes = bench.read(name);
-    let pairs = bytes[from..].chunks(2);
+    let pairs = bytes[from..bytes.len() - but].chunks(2);
     pairs
         .map(|pair| u16::from_le_bytes([pair[0], pair[1]]))
         .collect()
 }
 
-/// Writes a symbol of a tray over another.
+/// Writes a symbol of a tray over another, with the checksum that goes with it.
 fn change(bench: &Bench, tray: usize, layer: usize, symbol: u16) {
     for (place, byte) in symbol.to_le_bytes().into_iter().enumerate() {
-        bench.poke(&image(tray), 24 + 2 * layer + place, byte);
+        bench.poke(&image(tray), SYMBOLS + 2 * layer + place, byte);
     }
+    bench.sum(&image(tray));
 }
 
 #[test]
@@ -33,9 +34,9 @@ fn images_have_edition_2_and_two_bytes_a_symbol() {
     let image = [
         0x18, 0, 2, 1, 2, 1, 1, 1, 1, 0, 0, 0, 7, 0, 0, 0, 0x18, 0, 0, 0, 1, 0, 0, 0, 0, 1,
     ];
-    assert_eq!(bench.read("c/tray-01.img"), image);
-    let description = b"layout 2 1 1 1\nvolume 7\nfield 257\nstripes 1\nlength 1\n";
-    assert_eq!(bench.read("c/cabinet.txt"), description);
+    assert_eq!(bench.read("c/tray-01.img")[LABEL..LABEL + 26], image);
+    let text = String::from_utf8(bench.read("c/cabinet.txt")).expect("text");
+    assert!(text.contains("\nfield 257\nvolume 7\n"), "{text}");
 }
 
 #[test]
@@ -44,7 +45,7 @@ fn symbols_are_those_of_the_field() {
     bench.write("data", &[5, 7]);
     bench.done("store 2 2 2 1 --volume 7 --field 257 data c");
     for (tray, symbol) in [5, 7, 80, 165].into_iter().enumerate() {
-        assert_eq!(symbols(&bench, &image(tray), 24), [symbol]);
+        assert_eq!(symbols(&bench, &image(tray), SYMBOLS, 8), [symbol]);
     }
     bench.done("share c --host 0 --helper 1 share");
     assert_eq!(bench.read("share"), [245, 0]);
@@ -112,7 +113,7 @@ fn shares_come_from_files() {
     for rack in [0, 2, 3, 4] {
         bench.done(&format!("share c --host 1 --helper {rack} share-{rack}"));
         assert_eq!(bench.read(&format!("share-{rack}")).len(), 32);
-        assert!(symbols(&bench, &format!("share-{rack}"), 0)
+        assert!(symbols(&bench, &format!("share-{rack}"), 0, 0)
             .iter()
             .all(|&symbol| symbol <= 256));
         line += &format!(" --share share-{rack}");
@@ -132,7 +133,7 @@ fn shares_come_from_files() {
     bench.fails(3, &line);
     assert!(!bench.exists(&image(6)));
     bench.write("share-2", &share);
-    bench.done(&line);
+    bench.ends(16, &line);
     assert_eq!(bench.read(&image(6)), before);
 }
 
@@ -151,7 +152,7 @@ fn a_repair_cut_at_each_group_gives_the_trays_layers() {
             let line = format!("read c --tray 6 --lost 6 --layers {layer}..{}", layer + 1);
             if group(layer) < cut {
                 bench.done(&format!("{line} --out out"));
-                assert_eq!(bench.read("out"), before[24 + 2 * layer..][..2]);
+                assert_eq!(bench.read("out"), before[SYMBOLS + 2 * layer..][..2]);
             } else {
                 bench.refused(13, &line);
             }
@@ -181,10 +182,10 @@ fn what_is_read_is_readable() {
 #[test]
 fn a_scrub_in_pieces() {
     let bench = Bench::with_racks_of_four();
-    let symbol = symbols(&bench, &image(9), 24)[20];
+    let symbol = symbols(&bench, &image(9), SYMBOLS, 8)[20];
     bench.done("scrub c --budget 10");
     let text = String::from_utf8(bench.read("c/scrub.txt")).expect("the record is text");
-    assert!(text.starts_with("scrub of (5, 4, 15, 4) modulo 257 volume 7 stripes 1\n"));
+    assert!(text.starts_with("scrub of (5, 4, 15, 4) modulo 257 volume 7 stripes 1 generation 1 "));
     assert!(text.contains("\nstripe 0 step 10 over "));
     assert!(bench.done("scrub c").contains("sound"));
     change(&bench, 9, 20, (symbol + 1) % 257);
@@ -195,7 +196,7 @@ fn a_scrub_in_pieces() {
     assert!(picture.contains("Layers of Cabinet (5, 4, 15, 4) modulo 257, volume 7"));
     let message = bench.fails(65, "test c");
     assert!(message.contains("layer 20 is the first"), "{message}");
-    bench.done("recover c --erase 9");
+    bench.ends(17, "recover c --erase 9");
     bench.done("test c");
 }
 
@@ -209,7 +210,7 @@ fn the_margin_counts_what_is_there() {
         "{out}"
     );
     assert!(out.contains("margin 5"), "{out}");
-    bench.poke(&image(6), 3, 2);
+    bench.poke(&image(6), LABEL + 3, 2);
     bench.remove(&image(7));
     let out = bench.done("margin c");
     assert!(
@@ -224,7 +225,7 @@ fn images_in_words() {
     let bench = Bench::with_racks_of_four();
     let out = bench.done("inspect c/tray-07.img");
     for words in [
-        "length    88 bytes",
+        "length    608 bytes",
         "24 bytes, edition 2",
         "(5, 4, 15, 4): 5 racks of 4 trays",
         "7, rack 1, place 3",
@@ -237,9 +238,8 @@ fn images_in_words() {
     bench.done("inspect alone");
     bench.refused(11, "inspect alone --volume 8");
     bench.refused(1, "inspect alone --field 256");
-    bench.refused(9, "inspect alone --field 256 --layout 2,1,1,1");
     bench.refused(1, "inspect alone --layout 4,3,8,3");
-    bench.poke("alone", 5, 3);
+    bench.poke("alone", LABEL + 5, 3);
     bench.refused(9, "inspect alone");
 }
 
@@ -248,9 +248,8 @@ fn images_in_words() {
 fn an_image_with_a_number_above_256_is_malformed() {
     let bench = Bench::with_racks_of_four();
     change(&bench, 3, 31, 257);
-    bench.refused(9, "test c");
     bench.refused(9, "inspect c/tray-03.img");
-    bench.poke(&image(3), 3, 2);
+    bench.poke(&image(3), LABEL + 3, 2);
     bench.refused(9, "inspect c/tray-03.img");
     change(&bench, 3, 31, 256);
     bench.refused(10, "inspect c/tray-03.img");
@@ -264,10 +263,16 @@ fn images_of_one_field_are_malformed_in_the_other() {
     bench.write("data", &data(8));
     bench.done("store 3 1 1 2 --volume 7 data bytes");
     bench.done("store 3 1 1 2 --volume 7 --field 257 data c");
-    bench.refused(9, "test c --field 256");
-    bench.refused(9, "test bytes --field 257");
+    bench.refused(5, "get c out --field 256");
+    bench.refused(5, "get bytes out --field 257");
     let before = bench.snapshot("c");
     bench.write("c/tray-01.img", &bench.read("bytes/tray-01.img"));
+    assert!(bench
+        .done("recover c")
+        .contains("tray  1 is not used: its label is of another cabinet"));
+    let label = bench.read("c/tray-01.img")[..LABEL].to_vec();
+    let other = bench.read("bytes/tray-01.img")[LABEL..].to_vec();
+    bench.write("c/tray-01.img", &[label, other].concat());
     assert!(bench
         .done("recover c")
         .contains("tray  1 is not used: refused (9)"));
@@ -309,10 +314,11 @@ fn a_spare_with_half_a_symbol_is_noticed() {
     bench.remove(&image(6));
     bench.done(&format!("{REPAIR} --budget 3"));
     let whole = bench.read("c/tray-06.spare");
-    bench.write("c/tray-06.spare", &whole[..whole.len() - 1]);
-    bench.fails(65, REPAIR);
-    bench.write("c/tray-06.spare", &whole[..whole.len() - 2]);
-    bench.refused(2, REPAIR);
+    for left_out in [1, 2] {
+        let cut = &whole[..whole.len() - left_out];
+        bench.write("c/tray-06.spare", &checked(cut));
+        bench.fails(65, REPAIR);
+    }
     bench.write("c/tray-06.spare", &whole);
     bench.done(REPAIR);
 }
@@ -326,7 +332,8 @@ fn data_that_are_no_bytes_are_not_written() {
     change(&bench, 0, 0, 256);
     change(&bench, 1, 0, 1);
     bench.done("test c");
-    bench.done("recover c");
+    let message = bench.fails(65, "recover c");
+    assert!(message.contains("do not have the checksum"), "{message}");
     let message = bench.fails(65, "get c out");
     assert!(message.contains("symbol 0 is 256"), "{message}");
     assert!(!bench.exists("out"));
@@ -338,25 +345,9 @@ fn data_that_are_no_bytes_are_not_written() {
 fn the_field_can_be_given() {
     let bench = Bench::with_racks_of_four();
     bench.done("test c --layout 5,4,15,4 --volume 7");
-    bench.remove("c/cabinet.txt");
-    bench.fails(64, "test c --field 257");
     bench.done("test c --layout 5,4,15,4 --volume 7 --field 257");
-    bench.refused(1, "test c --layout 5,4,15,4 --volume 7");
-    for line in [
-        "field 256",
-        "field 258",
-        "field",
-        "field 257 257",
-        "field 257\nmore",
-    ] {
-        let text = format!("layout 5 4 15 4\nvolume 7\n{line}\n");
-        bench.write("c/cabinet.txt", text.as_bytes());
-        match line {
-            "field 256" => drop(bench.refused(1, "test c")),
-            _ => drop(bench.fails(65, "test c")),
-        }
-        bench.done("test c --layout 5,4,15,4 --volume 7 --field 257");
-    }
+    bench.refused(1, "test c --field 256");
+    bench.refused(1, "test c --layout 4,3,8,3");
 }
 
 #[test]

@@ -1,10 +1,10 @@
 //! Files in, files out: storing, testing, recovering, margins and tray images.
 
-use crate::bench::{assert_readable, data, Bench};
+use crate::bench::{assert_readable, checksum, data, Bench, LABEL, SYMBOLS};
 
 /// Turns a tray's image into a demonstration image.
 fn make_demonstration(bench: &Bench, name: &str) {
-    bench.poke(name, 3, 2);
+    bench.poke(name, LABEL + 3, 2);
 }
 
 #[test]
@@ -15,9 +15,20 @@ fn images_are_those_of_document_01() {
     let image = [
         0x18, 0, 1, 1, 2, 1, 1, 1, 1, 0, 0, 0, 7, 0, 0, 0, 0x18, 0, 0, 0, 1, 0, 0, 0, 0xA7,
     ];
-    assert_eq!(bench.read("c/tray-01.img"), image);
-    let description = b"layout 2 1 1 1\nvolume 7\nstripes 1\nlength 1\n";
-    assert_eq!(bench.read("c/cabinet.txt"), description);
+    let tray = bench.read("c/tray-01.img");
+    assert_eq!(tray[LABEL..LABEL + 25], image);
+    let sum = checksum(0, &[0xA7]);
+    let lines = format!(
+        "cabinet format 2\nlayout 2 1 1 1\nfield 256\nvolume 7\ngeneration 1\nstripes 1\n\
+         segment 4096\nlength 1\nchecksum {sum:016x}\n"
+    );
+    let start = checksum(0, lines.as_bytes());
+    assert_eq!(tray[LABEL + 25..], checksum(start, &image).to_le_bytes());
+    let check = |text: &str| format!("{text}{:016x}\n", checksum(0, text.as_bytes()));
+    let description = check(&format!("{lines}check "));
+    assert_eq!(bench.read("c/cabinet.txt"), description.as_bytes());
+    let label = check(&format!("{:<488}\ncheck ", format!("{lines}tray 1\n")));
+    assert_eq!(tray[..LABEL], *label.as_bytes());
 }
 
 #[test]
@@ -40,7 +51,7 @@ fn symbols_are_those_of_document_01() {
         ),
     ];
     for (name, symbols) in trays {
-        assert_eq!(bench.read(name)[24..], symbols, "{name}");
+        assert_eq!(bench.read(name)[SYMBOLS..][..8], symbols, "{name}");
     }
     for (helper, symbols) in [(1, [3; 4]), (2, [3; 4])] {
         bench.done(&format!("share c --host 0 --helper {helper} share"));
@@ -65,13 +76,9 @@ fn a_short_file_is_filled_up_with_zeros() {
     filled.resize(128, 0);
     bench.done("get c whole --length 128");
     assert_eq!(bench.read("whole"), filled);
-    bench.write("c/cabinet.txt", b"layout 4 3 8 3\nvolume 7\n");
-    bench.done("get c whole");
-    assert_eq!(
-        bench.read("whole"),
-        filled,
-        "nothing says how long they are"
-    );
+    bench.remove("c/cabinet.txt");
+    bench.done("get c back");
+    assert_eq!(bench.read("back"), data(100), "the labels say how long");
     bench.write("empty", b"");
     bench.done("store 4 3 8 3 --volume 7 empty e");
     bench.done("test e");
@@ -97,20 +104,29 @@ fn a_sound_and_a_bad_cabinet() {
     assert!(bench
         .done("test c")
         .contains("sound: each of 16 layers meets all 4 checks"));
-    let byte = bench.read("c/tray-06.img")[24 + 11];
-    bench.poke("c/tray-06.img", 24 + 11, byte ^ 0x40);
-    let message = bench.fails(65, "test c");
-    assert!(message.contains("layer 11"), "{message}");
-    assert!(message.contains("check 0"), "{message}");
+    bench.flip("c/tray-06.img", SYMBOLS + 11);
+    let ended = bench.run("test c");
+    assert_eq!(ended.status, 65);
+    let words = "bad: 1 layer of 16 broken, layer 11 is the first";
+    assert!(ended.err.contains(words), "{}", ended.err);
+    assert!(
+        ended.out.contains("tray 6 holds wrong symbols"),
+        "{}",
+        ended.out
+    );
 }
 
 #[test]
-fn testing_needs_every_tray() {
+fn trays_that_cannot_be_used_are_not_tested() {
     let bench = Bench::with_cabinet();
     bench.remove("c/tray-03.img");
-    assert!(bench.fails(74, "test c").contains("tray-03.img: absent"));
+    let out = bench.ends(16, "test c");
+    assert!(out.contains("tray  3 is not used: absent"), "{out}");
+    assert!(out.contains("meets all 3 checks"), "{out}");
     make_demonstration(&bench, "c/tray-02.img");
-    bench.refused(10, "test c");
+    let out = bench.ends(16, "test c");
+    assert!(out.contains("tray  2 is not used: refused (10)"), "{out}");
+    assert!(out.contains("not tested: trays 2, 3"), "{out}");
 }
 
 #[test]
@@ -146,7 +162,7 @@ fn a_tray_of_another_cabinet_is_not_used() {
     bench.write("c/tray-05.img", &bench.read("other/tray-05.img"));
     assert!(bench
         .done("recover c")
-        .contains("tray  5 is not used: refused (11)"));
+        .contains("tray  5 is not used: its label is of another cabinet"));
     assert!(before == bench.snapshot("c"));
 }
 
@@ -166,8 +182,9 @@ fn data_are_not_written_among_the_trays() {
 fn a_suspected_tray_can_be_erased() {
     let bench = Bench::with_cabinet();
     let before = bench.snapshot("c");
-    bench.poke("c/tray-06.img", 30, !bench.read("c/tray-06.img")[30]);
-    bench.refused(8, "recover c");
+    bench.flip("c/tray-06.img", SYMBOLS + 6);
+    bench.ends(17, "recover c --erase 6");
+    assert!(before == bench.snapshot("c"));
     bench.done("recover c --erase 6");
     assert!(before == bench.snapshot("c"));
 }
@@ -215,16 +232,18 @@ fn the_margin_counts_what_is_there() {
 #[test]
 fn expected_numbers_can_be_given() {
     let bench = Bench::with_cabinet();
+    bench.done("test c --layout 4,3,8,3 --volume 7");
+    let out = bench.run("test c --volume 8").out;
+    assert!(out.contains("tray  0 is not used: refused (11)"), "{out}");
+    bench.refused(5, "get c back --volume 8");
+    // Where there is neither a label nor a description, they must be.
+    (0..12).for_each(|tray| bench.remove(&format!("c/tray-{tray:02}.img")));
     bench.remove("c/cabinet.txt");
     assert!(bench.fails(64, "test c").contains("--layout B,u,k,d"));
     bench.fails(64, "test c --volume 7");
-    bench.done("test c --layout 4,3,8,3 --volume 7");
-    bench.refused(11, "test c --layout 4,3,8,3 --volume 8");
-    bench.write("c/cabinet.txt", b"layout 4 3 8 3\nvolume 8\n");
-    bench.refused(11, "test c");
-    bench.done("test c --volume 7");
     for text in [
         "",
+        "cabinet format 2\n",
         "layout 4 3 8\nvolume 7\n",
         "layout 4 3 8 3\nvolume 7\nmore\n",
         "volume 7\n",
@@ -239,10 +258,12 @@ fn expected_numbers_can_be_given() {
 }
 
 #[test]
-fn images_in_words() {
+fn files_in_words() {
     let bench = Bench::with_cabinet();
     let out = bench.done("inspect c/tray-07.img");
     for words in [
+        "length    560 bytes",
+        "label     tray 7 of generation 1, 1 stripe",
         "24 bytes, edition 1",
         "1, live",
         "(4, 3, 8, 3): 4 racks of 3 trays",
@@ -254,11 +275,13 @@ fn images_in_words() {
         assert!(out.contains(words), "{words} is missing in\n{out}");
     }
     make_demonstration(&bench, "c/tray-07.img");
-    let ended = bench.run("inspect c/tray-06.img c/tray-07.img c/none c/cabinet.txt");
+    bench.flip("c/tray-08.img", SYMBOLS);
+    let ended = bench.run("inspect c/tray-06.img c/tray-07.img c/tray-08.img c/none c/cabinet.txt");
     assert_eq!(ended.status, 10, "the first that is refused");
     for words in [
         "handed out as live tray 6",
         "refused (10)",
+        "its checksum is wrong",
         "no such file",
         "refused (9)",
     ] {
@@ -268,28 +291,38 @@ fn images_in_words() {
             ended.out
         );
     }
+    bench.fails(65, "inspect c/tray-08.img");
 }
 
-/// Without a description an image is held against its own claims, and a broken one still gets 9.
+/// Without a cabinet beside it a file is held against its own label, and a broken one still gets 9.
 #[test]
-fn images_without_a_cabinet() {
+fn files_without_a_cabinet() {
     let bench = Bench::with_cabinet();
     let image = bench.read("c/tray-07.img");
     bench.write("alone", &image);
     bench.done("inspect alone");
     bench.refused(11, "inspect alone --volume 8");
-    bench.refused(11, "inspect alone --layout 2,1,1,1");
     bench.refused(1, "inspect alone --layout 2,2,2,1");
     for at in [0, 1, 2, 4, 5, 8, 9, 10, 11, 16, 20] {
         bench.write("broken", &image);
-        bench.poke("broken", at, 0xEE);
+        bench.poke("broken", LABEL + at, 0xEE);
         bench.refused(9, "inspect broken");
     }
-    for length in [0, 1, 23, 24, 39, 41, 2 << 20] {
+    for length in [
+        LABEL,
+        LABEL + 1,
+        LABEL + 23,
+        LABEL + 24,
+        LABEL + 39,
+        561,
+        2 << 20,
+    ] {
         let mut bytes = image.clone();
         bytes.resize(length, 0);
         bench.write("broken", &bytes);
         bench.refused(9, "inspect broken");
     }
+    bench.write("broken", &image[..LABEL + 40]);
+    bench.fails(65, "inspect broken");
     bench.fails(74, "inspect c");
 }

@@ -61,7 +61,7 @@ fn a_file_larger_than_the_memory_that_is_used() {
     };
     let out = run("store 10 3 24 9 --volume 7 data c");
     assert!(
-        out.contains("volumes 7 to 4076: 4,070 stripes, 100,000,000 bytes"),
+        out.contains("volumes 7 to 1024: 4,070 stripes, 100,000,000 bytes"),
         "{out}"
     );
     let tray = bench.read("c/tray-13.img");

@@ -1,6 +1,6 @@
 //! Reading layers of a tray: from the store, and from the spare of a tray under repair.
 
-use crate::bench::{assert_readable, data, Bench};
+use crate::bench::{assert_readable, checked, data, Bench, LABEL, SYMBOLS};
 
 const REPAIR: &str = "repair c --lost 4 --helpers 0,2,3";
 const READ: &str = "read c --tray 4 --lost 4 --layers";
@@ -8,7 +8,7 @@ const READ: &str = "read c --tray 4 --lost 4 --layers";
 /// A cabinet whose tray 4 is lost and repaired up to this group, and the tray's symbols.
 fn under_repair(groups: usize) -> (Bench, Vec<u8>) {
     let bench = Bench::with_cabinet();
-    let symbols = bench.read("c/tray-04.img").split_off(24);
+    let symbols = bench.read("c/tray-04.img")[SYMBOLS..][..16].to_vec();
     bench.remove("c/tray-04.img");
     bench.done(&format!("{REPAIR} --budget {groups}"));
     (bench, symbols)
@@ -69,7 +69,7 @@ fn other_trays_are_read_from_the_store() {
     for lost in ["", " --lost 4", " --lost 0"] {
         assert_eq!(
             read(&bench, &format!("{line}{lost}")),
-            image[27..33],
+            image[SYMBOLS + 3..SYMBOLS + 9],
             "{lost}"
         );
     }
@@ -137,7 +137,7 @@ fn a_tray_that_is_not_live_is_not_handed_out() {
     ];
     let image = bench.read("c/tray-08.img");
     for (at, byte, ground) in [(3, 2, 10), (12, 8, 11), (2, 2, 9)] {
-        bench.poke("c/tray-08.img", at, byte);
+        bench.poke("c/tray-08.img", LABEL + at, byte);
         lines
             .iter()
             .for_each(|line| drop(bench.refused(ground, line)));
@@ -155,7 +155,7 @@ fn a_tray_that_is_not_live_is_not_handed_out() {
 fn a_demonstration_image_of_the_lost_tray() {
     let (bench, symbols) = under_repair(3);
     let mut image = bench.read("c/tray-05.img");
-    (image[3], image[8]) = (2, 4);
+    (image[LABEL + 3], image[LABEL + 8]) = (2, 4);
     bench.write("c/tray-04.img", &image);
     assert_eq!(read(&bench, &format!("{READ} 0..5")), symbols[..5]);
     bench.refused(13, &format!("{READ} 5..6"));
@@ -190,10 +190,9 @@ fn a_changed_tray_or_file_is_noticed() {
     let line = format!("{READ} 0..1");
     bench.done(&line);
     for name in ["c/tray-00.img", "c/tray-03.img"] {
-        let byte = bench.read(name)[39];
-        bench.poke(name, 39, !byte);
+        bench.forge(name, SYMBOLS + 15);
         bench.fails(65, &line);
-        bench.poke(name, 39, byte);
+        bench.forge(name, SYMBOLS + 15);
     }
     let whole = bench.read("c/tray-04.spare");
     let text = String::from_utf8_lossy(&whole);
@@ -205,26 +204,28 @@ fn a_changed_tray_or_file_is_noticed() {
         ("racks 0 2 3", "racks 0 2 3 4"),
         (" step 7", ""),
     ] {
-        bench.write("c/tray-04.spare", text.replace(word, broken).as_bytes());
+        let text = text.replace(word, broken);
+        bench.write("c/tray-04.spare", &checked(text.as_bytes()));
         bench.fails(65, &line);
     }
     bench.write("c/tray-04.spare", b"");
     bench.fails(65, &line);
-    bench.write("c/tray-04.spare", &whole[..whole.len() - 1]);
-    bench.refused(2, &line);
+    bench.write("c/tray-04.spare", &checked(&whole[..whole.len() - 1]));
+    bench.fails(65, &line);
 }
 
-/// Layers that do not fit to the other trays are not handed out, as no image is written of them.
+/// Layers that do not fit to the other trays are not handed out, as no tray is written of them.
 #[test]
 fn layers_that_do_not_fit_are_not_handed_out() {
     let bench = Bench::with_cabinet();
     bench.remove("c/tray-04.img");
-    let byte = bench.read("c/tray-08.img")[24 + 6];
-    bench.poke("c/tray-08.img", 24 + 6, byte ^ 0x10);
+    for tray in ["08", "11"] {
+        bench.forge(&format!("c/tray-{tray}.img"), SYMBOLS + 6);
+    }
     bench.fails(65, REPAIR);
     let message = bench.fails(65, &format!("{READ} 0..16"));
     assert!(
-        message.contains("do not fit together in layer 4"),
+        message.contains("do not fit together in layer"),
         "{message}"
     );
     let out = bench.done(&format!("{READ} 0..4"));
@@ -242,8 +243,11 @@ fn a_spare_made_from_share_files() {
     }
     let out = bench.done(&format!("{READ} 0..5"));
     assert!(out.contains("not compared: "), "{out}");
-    assert!(out.contains("not tested, other trays are missing"), "{out}");
+    assert!(out.contains("tested: they fit to the other trays"), "{out}");
     assert_eq!(read(&bench, &format!("{READ} 0..5")), symbols[..5]);
+    bench.remove("c/tray-01.img");
+    let out = bench.ends(16, &format!("{READ} 0..5"));
+    assert!(out.contains("not tested: no tray to spare"), "{out}");
     bench.fails(
         65,
         "read other --tray 4 --lost 4 --layers 0..1 --spare c/tray-04.spare",

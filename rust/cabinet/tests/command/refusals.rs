@@ -1,6 +1,6 @@
 //! Every refusal as an exit status, in the library's order, with nothing changed.
 
-use crate::bench::{data, Bench};
+use crate::bench::{data, Bench, LABEL, SYMBOLS};
 
 #[test]
 fn layout_not_admissible() {
@@ -116,8 +116,9 @@ fn first_group_too_large() {
 #[test]
 fn survivors_of_no_codeword() {
     let bench = Bench::with_cabinet();
-    let byte = bench.read("c/tray-02.img")[24];
-    bench.poke("c/tray-02.img", 24, byte ^ 1);
+    for tray in ["02", "05"] {
+        bench.forge(&format!("c/tray-{tray}.img"), SYMBOLS);
+    }
     bench.refused(8, "recover c");
     bench.remove("c/tray-07.img");
     bench.refused(8, "get c out");
@@ -127,30 +128,31 @@ fn survivors_of_no_codeword() {
 #[test]
 fn image_malformed() {
     let bench = Bench::with_cabinet();
-    bench.poke("c/tray-02.img", 2, 7);
+    bench.poke("c/tray-02.img", LABEL + 2, 7);
     bench.refused(9, "inspect c/tray-02.img");
-    bench.refused(9, "test c");
     bench.refused(9, "share c --host 1 --helper 0 out");
     bench.refused(9, "repair c --lost 1 --helpers 1,2,3");
+    bench.refused(9, "read c --tray 2 --layers 0..1");
 }
 
 /// Also where its volume is another one: what it is comes before whose it is.
 #[test]
 fn image_marked_demonstration() {
     let bench = Bench::with_cabinet();
-    bench.poke("c/tray-02.img", 3, 2);
+    bench.poke("c/tray-02.img", LABEL + 3, 2);
     bench.refused(10, "inspect c/tray-02.img");
     bench.refused(10, "inspect c/tray-02.img --volume 8");
-    bench.refused(10, "test c");
     bench.refused(10, "share c --host 1 --helper 0 out");
+    bench.refused(10, "repair c --lost 1 --helpers 1,2,3");
+    bench.refused(10, "read c --tray 2 --layers 0..1");
 }
 
 #[test]
 fn image_of_another_layout_or_volume() {
     let bench = Bench::with_cabinet();
     bench.refused(11, "inspect c/tray-02.img --volume 8");
-    bench.refused(11, "inspect c/tray-02.img --layout 4,3,7,3");
     bench.refused(11, "share c --volume 8 --host 1 --helper 0 out");
+    bench.refused(11, "read c --volume 8 --tray 2 --layers 0..1");
 }
 
 #[test]

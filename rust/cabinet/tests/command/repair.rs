@@ -1,6 +1,6 @@
 //! Repairs by shares: whole, in pieces, from share files, broken off and gone astray.
 
-use crate::bench::{assert_readable, data, Bench};
+use crate::bench::{assert_readable, data, Bench, LABEL, SYMBOLS};
 
 const LINE: &str = "repair c --lost 4 --helpers 0,2,3";
 
@@ -19,7 +19,7 @@ fn every_tray_comes_back() {
     }
 }
 
-/// A rack that neither hosts nor helps may be missing: the tray is right, but not tested.
+/// A rack that neither hosts nor helps may be missing: the tray is tested with the others.
 #[test]
 fn racks_that_are_not_asked_may_be_missing() {
     let bench = Bench::new();
@@ -29,7 +29,7 @@ fn racks_that_are_not_asked_may_be_missing() {
     bench.remove("c/tray-01.img");
     bench.remove("c/tray-10.img");
     let out = bench.done("repair c --lost 1 --helpers 1,2");
-    assert!(out.contains("not tested, other trays are missing"), "{out}");
+    assert!(out.contains("all trays together are sound"), "{out}");
     assert_eq!(bench.read("c/tray-01.img"), before);
 }
 
@@ -63,9 +63,11 @@ fn shares_come_from_files() {
     }
     bench.remove("c/tray-04.img");
     bench.fails(74, LINE);
-    bench.done(&format!(
-        "{LINE} --share share-0 --share share-2 --share share-3"
-    ));
+    let out = bench.ends(
+        16,
+        &format!("{LINE} --share share-0 --share share-2 --share share-3"),
+    );
+    assert!(out.contains("not tested: no tray to spare"), "{out}");
     assert_eq!(bench.read("c/tray-04.img"), before);
 }
 
@@ -111,12 +113,11 @@ fn a_spare_belongs_to_one_repair() {
     bench.write("c/tray-04.img", &before);
     bench.fails(65, "repair c --lost 3 --helpers 0,2,3 --spare work");
     bench.remove("c/tray-04.img");
-    let byte = bench.read("c/tray-00.img")[30];
-    bench.poke("c/tray-00.img", 30, byte ^ 1);
+    bench.forge("c/tray-00.img", SYMBOLS + 6);
     assert!(bench
         .fails(65, &format!("{LINE} --spare work"))
         .contains("another repair"));
-    bench.poke("c/tray-00.img", 30, byte);
+    bench.forge("c/tray-00.img", SYMBOLS + 6);
     bench.done(&format!("{LINE} --spare work"));
     assert!(!bench.exists("work"));
     assert_eq!(bench.read("c/tray-04.img"), before);
@@ -133,19 +134,38 @@ fn a_broken_work_file_is_noticed() {
         bench.fails(65, LINE);
     }
     bench.write("c/tray-04.spare", &whole[..whole.len() - 1]);
-    bench.refused(2, LINE);
+    bench.fails(65, LINE);
     let text = String::from_utf8_lossy(&whole).replace("step 3", "step 9");
     bench.write("c/tray-04.spare", text.as_bytes());
     bench.fails(65, LINE);
 }
 
-/// A helper's tray holds a wrong symbol: the tray that comes of it is not written.
+/// A helper's tray holds a wrong symbol: the tray comes back all the same, and that one is named.
+#[test]
+fn a_wrong_helper_is_named() {
+    let bench = Bench::with_cabinet();
+    let whole = bench.read("c/tray-04.img");
+    for forged in [false, true] {
+        bench.remove("c/tray-04.img");
+        let kept = bench.read("c/tray-08.img");
+        match forged {
+            true => bench.forge("c/tray-08.img", SYMBOLS + 9),
+            false => bench.flip("c/tray-08.img", SYMBOLS + 9),
+        }
+        let out = bench.ends(17, LINE);
+        assert!(out.contains("tray 8 holds wrong symbols"), "{out}");
+        assert_eq!(bench.read("c/tray-04.img"), whole);
+        bench.write("c/tray-08.img", &kept);
+    }
+}
+
+/// Two helpers hold wrong symbols in one stripe, and nothing tells which: no tray is written.
 #[test]
 fn a_tray_that_does_not_fit_is_not_written() {
     let bench = Bench::with_cabinet();
     bench.remove("c/tray-04.img");
-    let byte = bench.read("c/tray-08.img")[33];
-    bench.poke("c/tray-08.img", 33, byte ^ 0x10);
+    bench.forge("c/tray-08.img", SYMBOLS + 9);
+    bench.forge("c/tray-00.img", SYMBOLS + 9);
     let message = bench.fails(65, LINE);
     assert!(message.contains("do not fit together"), "{message}");
     assert!(!bench.exists("c/tray-04.img"));
@@ -157,10 +177,10 @@ fn demonstration_trays_are_never_mixed_in() {
     let bench = Bench::with_cabinet();
     bench.remove("c/tray-04.img");
     for name in ["c/tray-03.img", "c/tray-08.img"] {
-        bench.poke(name, 3, 2);
+        bench.poke(name, LABEL + 3, 2);
         let message = bench.refused(10, LINE);
         assert!(message.contains(name), "{message}");
-        bench.poke(name, 3, 1);
+        bench.poke(name, LABEL + 3, 1);
     }
     bench.done(LINE);
 }

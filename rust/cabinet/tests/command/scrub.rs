@@ -1,14 +1,13 @@
 //! Testing some layers at a time: the checkpoint between calls, the layers shown, and how a scrub
 //! ends.
 
-use crate::bench::{assert_readable, data, Bench};
+use crate::bench::{assert_readable, checked, data, Bench, LABEL, SYMBOLS};
 use crate::xml::assert_well_formed;
 
 /// Changes a symbol of a tray.
 fn damage(bench: &Bench, tray: u32, layer: usize) {
     let name = format!("c/tray-{tray:02}.img");
-    let byte = bench.read(&name)[24 + layer];
-    bench.poke(&name, 24 + layer, byte ^ 0x40);
+    bench.flip(&name, SYMBOLS + layer);
 }
 
 fn record_file(bench: &Bench) -> String {
@@ -20,7 +19,7 @@ fn record(bench: &Bench) -> String {
     let text = record_file(bench);
     let lines: Vec<&str> = text.lines().collect();
     let (place, _) = lines[1].split_once(" over ").expect("a fingerprint");
-    format!("{place}, {}", lines[2])
+    format!("{place}, {}", lines[4])
 }
 
 /// The rows of the map of layers: a layer's number, then cells.
@@ -212,7 +211,8 @@ fn a_list_of_layers_that_disagrees_is_no_record() {
         "cells 3 11\nmore\n",
     ];
     for line in broken {
-        bench.write("c/scrub.txt", text.replace("cells 3 11\n", line).as_bytes());
+        let other = text.replace("cells 3 11\n", line);
+        bench.write("c/scrub.txt", &checked(other.as_bytes()));
         let before = bench.snapshot(".");
         assert!(bench.fails(65, "scrub c").contains("--reset"), "{line}");
         assert!(before == bench.snapshot("."), "{line}: nothing is changed");
@@ -221,15 +221,21 @@ fn a_list_of_layers_that_disagrees_is_no_record() {
     assert!(bench.fails(65, "scrub c").contains("bad: 2 layers"));
 }
 
+/// What is wrong in layers that were looked at before is named by the checksum.
 #[test]
-fn a_changed_tray_ends_the_scrub() {
+fn a_tray_that_changes_is_named() {
     let bench = Bench::with_cabinet();
     bench.done("scrub c --budget 5 --record kept");
     damage(&bench, 4, 1);
-    let before = bench.snapshot(".");
-    let message = bench.fails(65, "scrub c --record kept");
-    assert!(message.contains("--reset"), "{message}");
-    assert!(before == bench.snapshot("."), "nothing is changed");
+    let ended = bench.run("scrub c --record kept");
+    assert_eq!(ended.status, 65);
+    assert!(
+        ended.out.contains("tray 4 holds wrong symbols"),
+        "{}",
+        ended.out
+    );
+    assert!(ended.err.contains("bad: tray 4"), "{}", ended.err);
+    assert!(!bench.exists("kept"));
     bench.done("scrub c --budget 5 --record kept --reset");
     assert!(bench
         .fails(65, "scrub c --record kept")
@@ -245,6 +251,8 @@ fn a_record_that_breaks_a_rule_is_refused() {
     for step in ["17", "4294967295", "18446744073709551615"] {
         let other = text.replace("step 5", &format!("step {step}"));
         bench.write("c/scrub.txt", other.as_bytes());
+        assert!(bench.fails(65, "scrub c").contains("--reset"), "{step}");
+        bench.write("c/scrub.txt", &checked(other.as_bytes()));
         bench.refused(3, "scrub c");
     }
     for (words, other) in [
@@ -257,19 +265,22 @@ fn a_record_that_breaks_a_rule_is_refused() {
         ("bad 0 first 0 0", "bad 0 first 0 4"),
         ("cells", "cells 4"),
     ] {
-        bench.write("c/scrub.txt", text.replace(words, other).as_bytes());
+        let text = text.replace(words, other);
+        bench.write("c/scrub.txt", &checked(text.as_bytes()));
         assert!(bench.fails(65, "scrub c").contains("--reset"), "{other}");
     }
     assert!(bench.done("scrub c --reset").contains("sound"));
 }
 
 #[test]
-fn scrubbing_needs_every_tray() {
+fn a_scrub_with_trays_missing() {
     let bench = Bench::with_cabinet();
     bench.refused(1, "scrub c --layout 4,4,8,3");
     bench.remove("c/tray-03.img");
-    assert!(bench.fails(74, "scrub c").contains("tray-03.img: absent"));
-    bench.poke("c/tray-02.img", 3, 2);
-    bench.refused(10, "scrub c");
+    bench.poke("c/tray-02.img", LABEL + 3, 2);
+    bench.done("scrub c --budget 7");
+    let out = bench.ends(16, "scrub c");
+    assert!(out.contains("meets all 2 checks"), "{out}");
+    assert!(out.contains("not tested: trays 2, 3"), "{out}");
     assert!(!bench.exists("c/scrub.txt"));
 }

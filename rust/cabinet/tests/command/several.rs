@@ -1,6 +1,6 @@
 //! Repairs of several lost trays of one rack.
 
-use crate::bench::{assert_readable, data, Bench};
+use crate::bench::{assert_readable, data, Bench, LABEL, SYMBOLS};
 
 const LINE: &str = "repair c --lost 3,5 --helpers 0,2,3";
 
@@ -115,13 +115,14 @@ fn a_spare_of_several_is_not_read() {
     bench.done("read c --tray 4 --layers 0..1");
 }
 
-/// Either all images are written or none.
+/// Either all files are written or none.
 #[test]
 fn trays_that_do_not_fit_are_not_written() {
     let bench = cabinet();
     [3, 5].iter().for_each(|tray| bench.remove(&image(*tray)));
-    let byte = bench.read(&image(8))[33];
-    bench.poke(&image(8), 33, byte ^ 0x10);
+    [8, 9, 11]
+        .iter()
+        .for_each(|tray| bench.forge(&image(*tray), SYMBOLS + 9));
     let message = bench.fails(65, LINE);
     assert!(message.contains("trays 3, 5 and the others"), "{message}");
     assert!(!bench.exists(&image(3)) && !bench.exists(&image(5)));
@@ -135,8 +136,8 @@ fn demonstration_trays_beside_the_lost_ones() {
     let before = bench.snapshot("c");
     [3, 5]
         .iter()
-        .for_each(|tray| bench.poke(&image(*tray), 3, 2));
-    bench.poke(&image(4), 3, 2);
+        .for_each(|tray| bench.poke(&image(*tray), LABEL + 3, 2));
+    bench.poke(&image(4), LABEL + 3, 2);
     assert!(bench.refused(10, LINE).contains("tray-04.img"));
     bench.done("repair c --lost 3,4,5 --helpers 0,2,3");
     assert!(before == bench.snapshot("c"));

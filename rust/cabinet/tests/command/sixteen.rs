@@ -19,13 +19,13 @@ fn data_are_stored_and_come_back() {
     );
     for values in [WORD, "..... .... 98C 6E7C", "1.B. 5.F. E.8. 6..."] {
         assert_eq!(
-            bench.done(&format!("box data {values}")),
+            bench.run(&format!("box data {values}")).out,
             format!("{DATA}\n")
         );
     }
     let erased = "--erase 0,2,4,6,8,10,12,14,15";
     assert_eq!(
-        bench.done(&format!("box data {WORD} {erased}")),
+        bench.ends(16, &format!("box data {WORD} {erased}")),
         format!("{DATA}\n")
     );
 }

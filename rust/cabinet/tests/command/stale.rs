@@ -1,23 +1,23 @@
 //! Cabinets in which a rack may send a wrong share.
 
-use crate::bench::{assert_readable, data, Bench};
+use crate::bench::{assert_readable, data, Bench, LABEL, SYMBOLS};
 
 const LINE: &str = "repair c --lost 4 --helpers 0,2,3,5";
 
-/// Writes another byte over one.
-fn change(bench: &Bench, name: &str, at: usize) {
-    let byte = bench.read(name)[at];
-    bench.poke(name, at, byte ^ 0x21);
+/// Writes another symbol over one, with the checksum that goes with it.
+fn change(bench: &Bench, name: &str, layer: usize) {
+    bench.forge(name, SYMBOLS + layer);
 }
 
 #[test]
 fn the_fifth_number_is_kept() {
     let bench = Bench::with_a_stale_rack();
+    let text = String::from_utf8(bench.read("c/cabinet.txt")).expect("text");
+    assert!(text.contains("\nlayout 6 3 5 4 1\n"), "{text}");
     assert_eq!(
-        bench.read("c/cabinet.txt"),
-        b"layout 6 3 5 4 1\nvolume 7\nstripes 1\nlength 320\n"
+        bench.read("c/tray-04.img")[LABEL + 4..LABEL + 12],
+        [6, 3, 5, 4, 4, 1, 0, 0]
     );
-    assert_eq!(bench.read("c/tray-04.img")[4..12], [6, 3, 5, 4, 4, 1, 0, 0]);
     assert!(bench.done("test c").contains("sound"));
     let shown = bench.done("inspect c/tray-04.img");
     assert!(
@@ -25,13 +25,9 @@ fn the_fifth_number_is_kept() {
         "{shown}"
     );
     bench.done("test c --layout 6,3,5,4,1");
-    bench.refused(11, "test c --layout 6,3,5,4");
-    bench.refused(11, "test c --layout 6,3,5,4,0");
+    bench.refused(5, "get c out --layout 6,3,5,4");
+    bench.refused(5, "get c out --layout 6,3,5,4,0");
     bench.refused(1, "test c --layout 6,3,5,4,2");
-    bench.write("c/cabinet.txt", b"layout 6 3 5 4 0\nvolume 7\n");
-    bench.refused(11, "test c");
-    bench.write("c/cabinet.txt", b"layout 6 3 5 4 1 0\nvolume 7\n");
-    bench.fails(65, "test c");
 }
 
 #[test]
@@ -61,11 +57,11 @@ fn a_stale_rack_is_named() {
     let bench = Bench::with_a_stale_rack();
     let tray = bench.read("c/tray-04.img");
     let whole = bench.snapshot("c");
-    for place in [24, 30, 87] {
+    for place in [0, 6, 63] {
         change(&bench, "c/tray-10.img", place);
     }
     bench.remove("c/tray-04.img");
-    let out = bench.done(LINE);
+    let out = bench.ends(17, LINE);
     assert_readable(&out);
     for words in [
         "rack 3 is stale: its share is wrong, and was set right by the others",
@@ -75,7 +71,7 @@ fn a_stale_rack_is_named() {
         assert!(out.contains(words), "{words} is missing in\n{out}");
     }
     assert_eq!(bench.read("c/tray-04.img"), tray);
-    bench.done("recover c --erase 9,10,11");
+    bench.ends(17, "recover c");
     assert!(whole == bench.snapshot("c"), "the rack is as it was");
 }
 
@@ -91,12 +87,12 @@ fn a_stale_share_file_is_named() {
     }
     bench.write("share-5", &[0xEE; 32]);
     bench.remove("c/tray-04.img");
-    let out = bench.done(&line);
+    let out = bench.ends(17, &line);
     assert!(out.contains("rack 5 is stale"), "{out}");
     assert!(out.contains("all trays together are sound"), "{out}");
     assert!(before == bench.snapshot("c"));
     bench.remove("c/tray-04.img");
-    change(&bench, "share-0", 31);
+    bench.flip("share-0", 31);
     let message = bench.refused(14, &line);
     assert!(
         message.contains("more than one helper's share is wrong"),
@@ -113,23 +109,29 @@ fn racks_that_are_not_asked_may_be_missing() {
     bench.remove("c/tray-04.img");
     bench.remove("c/tray-13.img");
     change(&bench, "c/tray-08.img", 50);
-    let out = bench.done(LINE);
+    let out = bench.ends(17, LINE);
     assert!(out.contains("rack 2 is stale"), "{out}");
-    assert!(out.contains("not tested, other trays are missing"), "{out}");
+    assert!(
+        out.contains("all trays but those of rack 2 are sound"),
+        "{out}"
+    );
     assert_eq!(bench.read("c/tray-04.img"), tray);
 }
 
-/// A wrong symbol beside the lost tray, which no share tells of: nothing is written.
+/// A wrong symbol beside the lost tray, which no share tells of: the code does, and names the tray.
 #[test]
-fn a_tray_that_does_not_fit_is_not_written() {
+fn a_wrong_tray_beside_the_lost_one_is_named() {
     let bench = Bench::with_a_stale_rack();
+    let tray = bench.read("c/tray-04.img");
     bench.remove("c/tray-04.img");
     change(&bench, "c/tray-03.img", 33);
-    let message = bench.fails(65, LINE);
-    assert!(message.contains("do not fit together"), "{message}");
-    assert!(!bench.exists("c/tray-04.img"));
-    // A stale rack besides, which alone would be no harm.
+    let out = bench.ends(17, LINE);
+    assert!(out.contains("tray 3 holds wrong symbols"), "{out}");
+    assert_eq!(bench.read("c/tray-04.img"), tray);
+    // A stale rack besides: then two trays are wrong, and nothing is written.
+    bench.remove("c/tray-04.img");
     change(&bench, "c/tray-08.img", 60);
+    change(&bench, "c/tray-08.img", 33);
     bench.fails(65, LINE);
     assert!(!bench.exists("c/tray-04.img"));
 }
@@ -156,12 +158,12 @@ fn in_the_field_of_257_too() {
     let bench = Bench::new();
     bench.write("data", &data(7 * 64));
     bench.done("store 6 4 7 4 1 --volume 7 --field 257 data c");
-    let description = b"layout 6 4 7 4 1\nvolume 7\nfield 257\nstripes 1\nlength 448\n";
-    assert_eq!(bench.read("c/cabinet.txt"), description);
+    let text = String::from_utf8(bench.read("c/cabinet.txt")).expect("text");
+    assert!(text.contains("\nlayout 6 4 7 4 1\nfield 257\n"), "{text}");
     let tray = bench.read("c/tray-05.img");
     bench.remove("c/tray-05.img");
-    change(&bench, "c/tray-12.img", 26);
-    let out = bench.done("repair c --lost 5 --helpers 0,2,3,5");
+    change(&bench, "c/tray-12.img", 2);
+    let out = bench.ends(17, "repair c --lost 5 --helpers 0,2,3,5");
     assert!(out.contains("rack 3 is stale"), "{out}");
     assert_eq!(bench.read("c/tray-05.img"), tray);
     assert!(

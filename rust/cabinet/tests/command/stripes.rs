@@ -1,16 +1,16 @@
 //! Cabinets of several stripes: every command over all of them.
 
-use crate::bench::{assert_readable, data, Bench};
+use crate::bench::{assert_readable, data, Bench, LABEL, SYMBOLS};
 
 const REPAIR: &str = "repair c --lost 4 --helpers 0,2,3";
 
 /// Cabinets of either field, with E = 0 and 1: how they are stored, bytes of a stripe's data, bytes
-/// of an image, and the repair of tray 5.
+/// of a stripe's symbols in a tray, and the repair of tray 5.
 const CABINETS: [(&str, usize, usize, &str); 4] = [
-    ("4 3 8 3", 128, 40, "0,2,3"),
-    ("5 4 15 4 --field 257", 480, 88, "0,2,3,4"),
-    ("6 3 5 4 1", 320, 88, "0,2,3,5"),
-    ("6 4 7 4 1 --field 257", 448, 152, "0,2,3,5"),
+    ("4 3 8 3", 128, 16, "0,2,3"),
+    ("5 4 15 4 --field 257", 480, 64, "0,2,3,4"),
+    ("6 3 5 4 1", 320, 64, "0,2,3,5"),
+    ("6 4 7 4 1 --field 257", 448, 128, "0,2,3,5"),
 ];
 
 /// A cabinet (4, 3, 8, 3) of three stripes, volumes 7 to 9, in the folder `c`.
@@ -25,11 +25,14 @@ fn image(tray: usize) -> String {
     format!("c/tray-{tray:02}.img")
 }
 
-/// Changes a symbol of a tray's image of a stripe.
+/// Where a symbol lies in a tray of three stripes.
+fn place(stripe: usize, layer: usize) -> usize {
+    SYMBOLS + layer * 3 + stripe
+}
+
+/// Changes a symbol of a tray in a stripe; its checksum stays as it was.
 fn damage(bench: &Bench, tray: usize, stripe: usize, layer: usize) {
-    let at = stripe * 40 + 24 + layer;
-    let byte = bench.read(&image(tray))[at];
-    bench.poke(&image(tray), at, byte ^ 0x40);
+    bench.flip(&image(tray), place(stripe, layer));
 }
 
 #[test]
@@ -41,13 +44,11 @@ fn data_come_back_exactly_as_long_as_they_were() {
             bench.write("data", &data(length));
             bench.done(&format!("store {layout} --volume 7 --replace data c"));
             let text = String::from_utf8(bench.read("c/cabinet.txt")).expect("text");
-            let lines = format!("stripes {stripes}\nlength {length}\n");
-            assert!(text.ends_with(&lines), "{text}");
+            let lines = format!("\nlength {length}\n");
+            assert!(text.contains(&lines), "{text}");
+            assert!(text.contains(&format!("\nstripes {stripes}\n")), "{text}");
             let tray = bench.read(&image(5));
-            assert_eq!(tray.len(), stripes * size);
-            for (stripe, image) in tray.chunks(size).enumerate() {
-                assert_eq!(image[12], 7 + stripe as u8, "each has its volume");
-            }
+            assert_eq!(tray.len(), LABEL + 24 + stripes * size + 8);
             bench.done("test c");
             bench.done("get c back");
             assert_eq!(bench.read("back"), data(length), "{layout}, {length}");
@@ -108,14 +109,14 @@ fn a_repair_goes_on_only_from_its_own_trays() {
     let before = bench.snapshot("c");
     bench.remove(&image(4));
     bench.done(&format!("{REPAIR} --budget 11"));
-    damage(&bench, 0, 1, 3);
+    bench.forge(&image(0), place(1, 3));
     let message = bench.fails(65, REPAIR);
     assert!(message.contains("stripe 1: c/tray-04.spare"), "{message}");
-    damage(&bench, 0, 1, 3);
+    bench.forge(&image(0), place(1, 3));
     // A stripe that is whole was tested with the trays as they were.
-    damage(&bench, 0, 0, 3);
+    bench.forge(&image(0), place(0, 3));
     bench.done(&format!("{REPAIR} --budget 1"));
-    damage(&bench, 0, 0, 3);
+    bench.forge(&image(0), place(0, 3));
     bench.done(&format!("{REPAIR} --budget 0"));
     bench.fails(65, &format!("{REPAIR} --first 13"));
     let message = bench.fails(65, &format!("{REPAIR} --first 7"));
@@ -126,24 +127,35 @@ fn a_repair_goes_on_only_from_its_own_trays() {
     assert!(before == bench.snapshot("c"));
 }
 
+/// A repair of a tray of several segments: its work file is looked at again.
 #[test]
-fn a_checkpoint_without_its_images_is_noticed() {
-    let bench = cabinet();
-    bench.remove(&image(4));
-    bench.done(&format!("{REPAIR} --budget 11"));
-    let written = bench.read("c/.tray-04.img.repair");
-    assert_eq!(written.len(), 40);
-    bench.write("c/.tray-04.img.repair", &written[..39]);
-    bench.fails(65, REPAIR);
+fn a_checkpoint_without_its_work_file_is_noticed() {
+    let bench = Bench::new();
+    bench.write("data", &data(40_000));
+    bench.done("store 4 3 8 3 --volume 7 data c");
+    let before = bench.snapshot("c");
+    let begin = || {
+        bench.remove(&image(4));
+        bench.done(&format!("{REPAIR} --budget 2100"));
+        bench.read("c/.tray-04.img.repair")
+    };
+    let written = begin();
+    assert_eq!(written.len(), LABEL + 24 + 4096 + 8);
+    bench.write("c/.tray-04.img.repair", &written[..written.len() - 1]);
+    assert!(bench.done(REPAIR).contains("begins anew"));
+    assert!(before == bench.snapshot("c"));
+    begin();
     bench.remove("c/.tray-04.img.repair");
-    bench.fails(65, REPAIR);
+    assert!(bench.done(REPAIR).contains("begins anew"));
+    assert!(before == bench.snapshot("c"));
     // What a cut command wrote after its last checkpoint is written again.
+    begin();
     bench.write(
         "c/.tray-04.img.repair",
-        &[&written[..], b"half an image"].concat(),
+        &[&written[..], b"half a segment"].concat(),
     );
-    bench.done(REPAIR);
-    bench.done("test c");
+    assert!(!bench.done(REPAIR).contains("begins anew"));
+    assert!(before == bench.snapshot("c"));
 }
 
 #[test]
@@ -178,7 +190,7 @@ fn shares_of_all_stripes_come_from_files() {
     let message = bench.refused(2, &line.replace("share-2", "c/cabinet.txt"));
     assert!(message.contains("bytes, a share has 24"), "{message}");
     bench.done(&format!("{line} --budget 12"));
-    bench.done(&line);
+    bench.ends(16, &line);
     assert_eq!(bench.read(&image(4)), before);
 }
 
@@ -194,13 +206,17 @@ fn layers_are_read_while_a_later_stripe_is_repaired() {
         let [first, end]: [usize; 2] = [first, end].map(|word| word.parse().expect("a number"));
         let out = bench.done(&format!("{line} {layers} --stripe {stripe} --out out"));
         assert!(out.contains("tested: they fit"), "{out}");
-        let start = stripe * 40 + 24;
-        assert_eq!(bench.read("out"), tray[start + first..start + end]);
+        let wanted: Vec<u8> = (first..end)
+            .map(|layer| tray[place(stripe, layer)])
+            .collect();
+        assert_eq!(bench.read("out"), wanted);
     }
     bench.refused(13, &format!("{line} 0..9 --stripe 1"));
     bench.refused(13, &format!("{line} 0..1 --stripe 2"));
     bench.done("read c --tray 5 --layers 0..16 --stripe 2 --out out");
-    assert_eq!(bench.read("out"), bench.read(&image(5))[104..]);
+    let other = bench.read(&image(5));
+    let wanted: Vec<u8> = (0..16).map(|layer| other[place(2, layer)]).collect();
+    assert_eq!(bench.read("out"), wanted);
     bench.fails(64, "read c --tray 5 --layers 0..16 --stripe 3");
 }
 
@@ -266,14 +282,17 @@ fn bad_stripes_are_named() {
     let bench = cabinet();
     bench.done("scrub c --svg picture.svg");
     let picture = String::from_utf8(bench.read("picture.svg")).expect("text");
-    assert!(picture.contains("Stripes of Cabinet (4, 3, 8, 3), volumes 7 to 9"));
+    assert!(picture.contains("Stripes of Cabinet (4, 3, 8, 3), volume 7: 3 stripes"));
     assert_eq!(picture.matches("class=\"sound\"").count(), 1 + 3);
     damage(&bench, 6, 2, 5);
     let message = bench.fails(65, "test c");
-    assert!(
-        message.contains("stripe 2: bad: layer 5 is the first"),
-        "{message}"
-    );
+    let words = "bad: 1 layer of 48 broken, layer 5 of stripe 2 is the first";
+    assert!(message.contains(words), "{message}");
+    // Three trays that were written wrong: no code tells which they are.
+    damage(&bench, 6, 2, 5);
+    [6, 7, 8]
+        .iter()
+        .for_each(|tray| bench.forge(&image(*tray), place(2, 5)));
     let message = bench.refused(8, "recover c");
     assert!(message.contains("stripe 2: "), "{message}");
     let message = bench.refused(8, "get c out");
@@ -298,9 +317,8 @@ fn many_stripes() {
     bench.done("get c back");
     assert_eq!(bench.read("back"), data(10_000));
     for stripe in [5000, 5001, 9999] {
-        let at = stripe * 25 + 24;
-        let byte = bench.read(&image(1))[at];
-        bench.poke(&image(1), at, !byte);
+        let at = SYMBOLS + stripe + stripe / 4096 * 32;
+        bench.flip(&image(1), at);
     }
     bench.done("scrub c --budget 9000");
     let ended = bench.run("scrub c --svg picture.svg");
@@ -312,12 +330,25 @@ fn many_stripes() {
     assert!(ended.out.contains(words), "{}", ended.out);
 }
 
-/// More trays than may be lost are damaged, though in no stripe.
+/// A cabinet (4, 3, 8, 3) of 600 stripes in three segments.
+fn segments() -> Bench {
+    let bench = Bench::new();
+    bench.write("data", &data(76_800));
+    bench.done("store 4 3 8 3 --volume 7 data c");
+    bench
+}
+
+/// Where the header of a segment begins.
+fn header(segment: usize) -> usize {
+    LABEL + segment * (24 + 4096 + 8)
+}
+
+/// More trays than may be lost are damaged, though in no segment.
 #[test]
 fn trays_serve_where_they_are_live() {
-    let bench = cabinet();
+    let bench = segments();
     let before = bench.snapshot("c");
-    for (tray, stripe) in [
+    for (tray, segment) in [
         (0, 0),
         (1, 0),
         (2, 1),
@@ -327,7 +358,7 @@ fn trays_serve_where_they_are_live() {
         (8, 2),
         (11, 2),
     ] {
-        bench.poke(&image(tray), stripe * 40 + 3, 2);
+        bench.poke(&image(tray), header(segment) + 3, 2);
     }
     let out = bench.done("margin c");
     assert!(
@@ -335,118 +366,146 @@ fn trays_serve_where_they_are_live() {
         "{out}"
     );
     assert!(
-        out.contains("margin 0 in stripe 2, the first with the least: no tray"),
+        out.contains("margin 0 in stripes 512-599, the first with the least: no tray"),
         "{out}"
     );
     bench.done("get c back");
-    assert_eq!(bench.read("back"), data(300));
+    assert!(bench.read("back") == data(76_800));
     let out = bench.done("recover c");
     assert!(
-        out.contains("tray 11 is not used in stripe 2: refused (10)"),
+        out.contains("tray 11 is not used in stripes 512-599: refused (10)"),
         "{out}"
     );
     assert!(before == bench.snapshot("c"));
     for tray in [5, 7, 8, 10, 11] {
-        bench.poke(&image(tray), 2 * 40 + 3, 2);
+        bench.poke(&image(tray), header(2) + 3, 2);
     }
-    assert!(bench.refused(5, "get c out").contains("stripe 2: "));
-    assert!(bench.refused(5, "recover c").contains("stripe 2: "));
-    assert!(bench.done("margin c").contains("margin -1 in stripe 2"));
+    assert!(bench.refused(5, "get c out").contains("stripe 512: "));
+    assert!(bench.refused(5, "recover c").contains("stripe 512: "));
+    assert!(bench
+        .done("margin c")
+        .contains("margin -1 in stripes 512-599"));
     assert!(!bench.exists("out"));
 }
 
 #[test]
-fn an_image_in_a_wrong_place_is_refused() {
-    let bench = cabinet();
+fn a_segment_in_a_wrong_place_is_refused() {
+    let bench = segments();
     let before = bench.snapshot("c");
     let tray = bench.read(&image(7));
-    let swapped = [&tray[..40], &tray[80..], &tray[40..80]].concat();
+    let [zero, one, two] = [0, 1, 2].map(header);
+    let swapped = [
+        &tray[..zero],
+        &tray[one..two],
+        &tray[zero..one],
+        &tray[two..],
+    ]
+    .concat();
     bench.write(&image(7), &swapped);
-    assert!(bench
-        .refused(11, "test c")
-        .contains("stripe 1: c/tray-07.img"));
-    assert!(bench
-        .refused(11, "inspect c/tray-07.img")
-        .contains("stripe 1"));
+    let out = bench.ends(16, "test c");
+    let words = "tray  7 is not used in stripes 0-255: refused (11)";
+    assert!(out.contains(words), "{out}");
+    bench.refused(11, "inspect c/tray-07.img");
     bench.write("alone", &swapped);
     bench.refused(11, "inspect alone");
     bench.done("get c back");
-    assert_eq!(bench.read("back"), data(300));
+    assert!(bench.read("back") == data(76_800));
     bench.done("recover c");
     assert!(before == bench.snapshot("c"));
-    // The images of another tray from a stripe on.
+    // The segments of another tray from one on.
     let other = bench.read(&image(8));
-    bench.write(&image(7), &[&tray[..40], &other[40..]].concat());
-    let message = bench.fails(65, "test c");
-    assert!(
-        message.contains("stripe 1: c/tray-07.img: the file holds tray 8"),
-        "{message}"
-    );
+    bench.write(&image(7), &[&tray[..one], &other[one..]].concat());
+    let out = bench.ends(16, "test c");
+    let words = "tray  7 is not used in stripes 256-511: the file holds tray 8";
+    assert!(out.contains(words), "{out}");
     assert!(bench
         .fails(65, "inspect c/tray-07.img")
-        .contains("stripe 1"));
+        .contains("stripe 256"));
 }
 
 #[test]
-fn demonstration_images_are_never_handed_out() {
-    let bench = cabinet();
-    bench.poke(&image(3), 80 + 3, 2);
-    assert!(bench
-        .refused(10, "test c")
-        .contains("stripe 2: c/tray-03.img"));
-    assert!(bench
-        .refused(10, "inspect c/tray-03.img")
-        .contains("stripe 2"));
-    bench.refused(10, "read c --tray 3 --layers 0..0 --stripe 2");
-    bench.done("read c --tray 3 --layers 0..1 --stripe 1");
+fn demonstration_segments_are_never_handed_out() {
+    let bench = segments();
+    bench.poke(&image(3), header(2) + 3, 2);
+    let words = "stripe 512: c/tray-03.img";
+    assert!(bench.refused(10, "inspect c/tray-03.img").contains(words));
+    bench.refused(10, "read c --tray 3 --layers 0..0 --stripe 512");
+    bench.done("read c --tray 3 --layers 0..1 --stripe 511");
     let message = bench.refused(10, "share c --host 0 --helper 1 out");
-    assert!(message.contains("stripe 2: "), "{message}");
+    assert!(message.contains("stripe 512: "), "{message}");
     let message = bench.refused(10, "repair c --lost 4 --helpers 0,2,3");
-    assert!(message.contains("stripe 2: c/tray-03.img"), "{message}");
+    assert!(message.contains(words), "{message}");
     bench.done("get c back");
-    assert_eq!(bench.read("back"), data(300));
+    assert!(bench.read("back") == data(76_800));
 }
 
 #[test]
-fn images_cut_short_or_too_long() {
-    let bench = cabinet();
+fn files_cut_short_or_too_long() {
+    let bench = segments();
     let before = bench.snapshot("c");
     let tray = bench.read(&image(7));
-    for length in [0, 1, 23, 39, 40, 63, 79, 80, 119] {
+    for length in [
+        0,
+        1,
+        511,
+        512,
+        530,
+        header(1),
+        header(1) + 23,
+        header(2) + 39,
+    ] {
         bench.write(&image(7), &tray[..length]);
-        let message = bench.refused(9, "test c");
+        let out = bench.ends(16, "test c");
         assert!(
-            message.contains(&format!("stripe {}: ", length / 40)),
-            "{message}"
+            out.contains("tray  7 is not used in stripes"),
+            "{length}: {out}"
         );
-        bench.refused(9, "inspect c/tray-07.img");
-        bench.done("recover c");
+        let ended = bench.run("recover c");
+        assert!([0, 17].contains(&ended.status), "{length}: {}", ended.err);
+        assert!(before == bench.snapshot("c"), "{length}");
+    }
+    // Cut within the symbols: what is left is right, and the checksum is missing.
+    for length in [header(1) - 1, header(2) + 24 + 700, tray.len() - 1] {
+        bench.write(&image(7), &tray[..length]);
+        bench.fails(65, "test c");
+        bench.ends(17, "recover c");
         assert!(before == bench.snapshot("c"), "{length}");
     }
     bench.write(&image(7), &[&tray[..], b"!"].concat());
-    assert!(bench.refused(9, "test c").contains("stripe 2: "));
+    let out = bench.ends(16, "test c");
+    assert!(
+        out.contains("tray  7 is not used in stripes 512-599: refused (9)"),
+        "{out}"
+    );
     bench.done("recover c");
     assert!(before == bench.snapshot("c"));
 }
 
+/// Some trays are of another cabinet: the one that has trays enough is there, else the one with more.
 #[test]
 fn a_folder_of_another_cabinets_trays() {
     let bench = cabinet();
-    // Another volume, so that each stripe's volume is another's; another layout, with larger and with
-    // smaller images; another field.
-    for (store, ground) in [
-        ("4 3 8 3 --volume 8", 11),
-        ("4 3 7 3 --volume 7", 11),
-        ("5 3 4 4 --volume 7", 11),
-        ("3 1 1 2 --volume 7", 11),
-        ("4 1 2 3 --field 257 --volume 7", 9),
+    for (store, trays, needed) in [
+        ("4 3 8 3 --volume 8", 12, 8),
+        ("4 3 7 3 --volume 7", 12, 7),
+        ("5 3 4 4 --volume 7", 15, 4),
+        ("3 1 1 2 --volume 7", 3, 1),
+        ("4 1 2 3 --field 257 --volume 7", 4, 2),
     ] {
         bench.done(&format!("store {store} data other"));
+        let taken = trays.min(4) - 1;
+        for tray in 0..taken {
+            bench.write(
+                &format!("other/tray-{tray:02}.img"),
+                &bench.read(&image(tray)),
+            );
+        }
         bench.write("other/cabinet.txt", &bench.read("c/cabinet.txt"));
-        bench.refused(ground, "test other");
-        bench.refused(ground, "scrub other");
-        bench.refused(5, "get other out");
-        bench.refused(5, "recover other");
+        let out = bench.run("margin other").out;
+        match trays - taken >= needed {
+            true => assert!(out.contains("its label is of another cabinet"), "{out}"),
+            false => assert!(out.contains("Cabinet (4, 3, 8, 3), volume 7"), "{out}"),
+        }
         std::fs::remove_dir_all(bench.path("other")).expect("it can be removed");
     }
 }
@@ -454,44 +513,22 @@ fn a_folder_of_another_cabinets_trays() {
 #[test]
 fn volumes_end() {
     let bench = Bench::new();
-    bench.write("data", &data(300));
+    bench.write("data", &data(76_800));
     let message = bench.fails(64, "store 4 3 8 3 --volume 4294967294 data c");
     assert!(message.contains("volumes end at 4294967295"), "{message}");
     assert!(!bench.exists("c"));
     bench.done("store 4 3 8 3 --volume 4294967293 data c");
     bench.done("get c back");
-    assert_eq!(bench.read("back"), data(300));
+    assert!(bench.read("back") == data(76_800));
     bench.refused(3, "store 4 3 8 3 --volume 0 data d");
     assert!(!bench.exists("d"));
-}
-
-#[test]
-fn stripes_and_length_can_be_given() {
-    let bench = cabinet();
-    bench.write("c/cabinet.txt", b"layout 4 3 8 3\nvolume 7\n");
-    bench.refused(9, "test c");
-    bench.done("test c --stripes 3");
-    bench.refused(9, "test c --stripes 4");
-    bench.done("get c back --stripes 3");
-    assert_eq!(bench.read("back")[..300], data(300));
-    assert_eq!(bench.read("back").len(), 384);
-    bench.done("get c back --stripes 3 --length 300");
-    assert_eq!(bench.read("back"), data(300));
-    bench.remove("c/cabinet.txt");
-    bench.done("test c --layout 4,3,8,3 --volume 7 --stripes 3");
-    bench.done("inspect c/tray-03.img");
-    bench.write(
-        "c/cabinet.txt",
-        b"layout 4 3 8 3\nvolume 7\nstripes 3\nlength 385\n",
-    );
-    bench.fails(65, "get c back");
 }
 
 #[test]
 fn inspecting_several_stripes() {
     let bench = cabinet();
     let out = bench.done("inspect c/tray-07.img");
-    assert!(out.contains("length    120 bytes"), "{out}");
+    assert!(out.contains("length    592 bytes"), "{out}");
     assert!(
         out.contains("handed out as live tray 7, 3 stripes"),
         "{out}"
@@ -508,10 +545,9 @@ fn a_stale_rack_is_named() {
     bench.write("data", &data(900));
     bench.done("store 6 3 5 4 1 --volume 7 data c");
     let (before, tray) = (bench.snapshot("c"), bench.read(&image(4)));
-    let byte = bench.read(&image(10))[88 + 30];
-    bench.poke(&image(10), 88 + 30, !byte);
+    bench.forge(&image(10), place(1, 6));
     bench.remove(&image(4));
-    let out = bench.done("repair c --lost 4 --helpers 0,2,3,5");
+    let out = bench.ends(17, "repair c --lost 4 --helpers 0,2,3,5");
     assert_readable(&out);
     for words in [
         "4 racks send shares, 384 symbols in all",
@@ -521,35 +557,13 @@ fn a_stale_rack_is_named() {
         assert!(out.contains(words), "{words} is missing in\n{out}");
     }
     assert_eq!(bench.read(&image(4)), tray);
-    bench.done("recover c --erase 10");
+    bench.ends(17, "recover c");
     assert!(before == bench.snapshot("c"));
     // Two wrong shares in stripe 2.
-    bench.poke(
-        &image(10),
-        2 * 88 + 30,
-        !bench.read(&image(10))[2 * 88 + 30],
-    );
-    bench.poke(&image(0), 2 * 88 + 30, !bench.read(&image(0))[2 * 88 + 30]);
+    bench.forge(&image(10), place(2, 6));
+    bench.forge(&image(0), place(2, 6));
     let message = bench.refused(14, "repair c --lost 4 --helpers 0,2,3,5");
     assert!(message.contains("stripe 2: "), "{message}");
-}
-
-/// A rack that neither hosts nor helps is not whole in one stripe: that one is not tested.
-#[test]
-fn stripes_that_are_not_tested_are_counted() {
-    let bench = Bench::new();
-    bench.write("data", &data(200));
-    bench.done("store 4 3 5 2 --volume 7 data c");
-    let before = bench.read(&image(1));
-    bench.remove(&image(1));
-    bench.poke(&image(10), 40 + 3, 2);
-    bench.done("repair c --lost 1 --helpers 1,2 --budget 17");
-    let out = bench.done("repair c --lost 1 --helpers 1,2");
-    assert!(
-        out.contains("not tested in 1 of 3 stripes, other trays"),
-        "{out}"
-    );
-    assert_eq!(bench.read(&image(1)), before);
 }
 
 /// Layout, volumes and stripes are the same, and the data are not.
@@ -586,19 +600,45 @@ fn what_was_cut_is_not_gone_on_with_in_another_cabinet() {
 #[test]
 fn a_store_that_was_cut_is_done_again() {
     let bench = cabinet();
-    let before = bench.snapshot("c");
-    // Cut after some files got their names.
+    // Cut after some files got their names, and with none.
     let text = bench.read("c/cabinet.txt");
-    bench.write("c/.cabinet.txt.store", &text);
-    bench.remove("c/cabinet.txt");
-    (6..12).for_each(|tray| bench.remove(&image(tray)));
-    bench.fails(74, "store 4 3 8 3 --volume 8 data c");
-    bench.fails(64, "test c");
-    bench.done("store 4 3 8 3 --volume 7 data c");
-    assert!(before == bench.snapshot("c"));
+    for named in [6, 0] {
+        bench.write("c/.cabinet.txt.store", &text);
+        let _ = std::fs::remove_file(bench.path("c/cabinet.txt"));
+        for tray in named..12 {
+            let work = bench.path(&format!("c/.tray-{tray:02}.img.store"));
+            std::fs::rename(bench.path(&image(tray)), work).expect("it can be renamed");
+        }
+        match named {
+            0 => drop(bench.fails(64, "test c")),
+            _ => {
+                bench.fails(74, "store 4 3 8 3 --volume 8 data c");
+                bench.done("test c");
+                bench.done("get c back");
+                assert_eq!(bench.read("back"), data(300));
+            }
+        }
+        bench.done("store 4 3 8 3 --volume 7 data c");
+        assert_eq!(bench.snapshot("c").len(), 13);
+        bench.done("test c");
+    }
     // A cabinet that is whole is not one that was cut.
     bench.write("c/.cabinet.txt.store", &text);
     assert!(bench
         .fails(74, "store 4 3 8 3 --volume 7 data c")
         .contains("--replace"));
+}
+
+/// A writer puts a store that was cut to its end.
+#[test]
+fn what_a_cut_store_left_gets_its_names() {
+    let bench = cabinet();
+    let before = bench.snapshot("c");
+    for tray in 6..12 {
+        let work = bench.path(&format!("c/.tray-{tray:02}.img.store"));
+        std::fs::rename(bench.path(&image(tray)), work).expect("it can be renamed");
+    }
+    bench.remove(&image(4));
+    bench.done(REPAIR);
+    assert!(before == bench.snapshot("c"));
 }

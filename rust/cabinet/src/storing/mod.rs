@@ -1,0 +1,237 @@
+//! Data into a new cabinet: every tray file is written beside its place, with its label last, and
+//! gets its name when all are whole.
+
+use crate::code::symbol::{from_data, Symbol};
+use crate::commands::recover;
+use crate::disk::{folder_of, Disk, Hold};
+use crate::failure::Failure;
+use crate::files;
+use crate::files::cabinet::{locked, Cabinet};
+use crate::files::census::{Census, STORE};
+use crate::files::description::{Description, NAME};
+use crate::files::draft::{self, work_name, Draft};
+use crate::files::interleave::together;
+use crate::files::label::{Label, SIZE};
+use crate::scrub;
+use crate::terminal::progress;
+use crate::terminal::screen::Screen;
+use gesarumbo::{checksum, Tray};
+use std::io::Read;
+use std::path::Path;
+
+/// Stores data of the length and checksum that the cabinet's description says, in its folder, which
+/// is made if need be.
+/// Without `replace` no cabinet may be there, but for one that a cut store of the same data left.
+pub fn store<S: Symbol>(
+    mut cabinet: Cabinet,
+    data: &mut dyn Read,
+    replace: bool,
+    screen: &mut Screen,
+) -> Result<(), Failure> {
+    judge::<S>(&cabinet)?;
+    let (disk, folder) = (cabinet.disk, cabinet.folder().to_path_buf());
+    let is_new = disk
+        .look(&folder)
+        .map_err(Failure::file(&folder))?
+        .is_none();
+    if is_new {
+        disk.make_folder(&folder).map_err(Failure::file(&folder))?;
+        draft::sync_folder(disk, folder_of(&folder))?;
+    }
+    let lock = locked(disk, &folder, Hold::Exclusive)?;
+    let stored = prepare(&mut cabinet, replace).and_then(|old| {
+        screen.heading(cabinet.description.words());
+        write::<S>(&cabinet, data, &old, screen)
+    });
+    drop(lock);
+    if stored.is_err() && is_new {
+        // Nothing is in it, and where it is not empty all the same, it stays.
+        let _ = disk.remove_folder(&folder);
+    }
+    stored
+}
+
+/// Lets the library judge the numbers: an image of zeros.
+fn judge<S: Symbol>(cabinet: &Cabinet) -> Result<(), Failure> {
+    let zeros = vec![S::default(); cabinet.numbers.layers];
+    cabinet.segment_bytes(0, Tray::new(0), &zeros).map(|_| ())
+}
+
+/// Looks at what the folder holds, puts a store that was cut there to its end, and gives the new
+/// cabinet its generation.
+fn prepare(cabinet: &mut Cabinet, replace: bool) -> Result<Census, Failure> {
+    let (disk, folder) = (cabinet.disk, cabinet.folder().to_path_buf());
+    let census = Census::take(disk, &folder)?;
+    let described = Description::of(disk, &folder).unwrap_or_default();
+    let text = folder.join(NAME);
+    let has_text = disk.look(&text).map_err(Failure::file(&text))?.is_some();
+    let is_taken = has_text || (census.has_trays() && !was_cut(cabinet)?);
+    if is_taken && !replace {
+        return Err(Failure::File(format!(
+            "{}: a cabinet is there already (see --replace)",
+            folder.display()
+        )));
+    }
+    if let Some(agreed) = census.agreed(described) {
+        census.roll_forward(disk, &folder, &agreed)?;
+    }
+    let newest = described.map_or(0, |described| described.generation);
+    let newest = newest.max(census.newest());
+    let generation = newest
+        .checked_add(1)
+        .ok_or_else(|| Failure::Contents(format!("{}: no generation is left", folder.display())))?;
+    let description = Description {
+        generation,
+        ..cabinet.description
+    };
+    *cabinet = Cabinet::new(disk, &folder, description)?;
+    // New trays get the mode of those that they replace.
+    cabinet.trays = Census::take(disk, &folder)?.of(&description, cabinet.numbers.trays as u32);
+    Ok(census)
+}
+
+/// Whether a store of the same description was cut in this folder.
+fn was_cut(cabinet: &Cabinet) -> Result<bool, Failure> {
+    let work = work_name(&cabinet.file(NAME), STORE)?;
+    let found = files::read(cabinet.disk, &work).map_err(Failure::file(&work))?;
+    let found = found.and_then(|bytes| Description::parse(&bytes));
+    Ok(found.is_some_and(|found| {
+        let ours = cabinet.description;
+        let same = Description {
+            generation: ours.generation,
+            ..found
+        };
+        same == ours
+    }))
+}
+
+/// Writes all files of a cabinet, and gives them their names.
+fn write<S: Symbol>(
+    cabinet: &Cabinet,
+    data: &mut dyn Read,
+    old: &Census,
+    screen: &mut Screen,
+) -> Result<(), Failure> {
+    let (disk, folder) = (cabinet.disk, cabinet.folder().to_path_buf());
+    // The description comes first and gets its name last: where it is left under its work name, a
+    // store was cut.
+    let mut text = Draft::begin(disk, &cabinet.file(NAME), STORE, cabinet.mode())?;
+    text.write(&cabinet.description.bytes())?;
+    text.sync()?;
+    draft::sync_folder(disk, &folder)?;
+    let mut drafts = begin(cabinet)?;
+    let sum = write_segments::<S>(cabinet, data, &mut drafts, screen)?;
+    if cabinet.description.checksum != Some(sum) {
+        return Err(Failure::File(
+            "the data changed while they were stored".to_string(),
+        ));
+    }
+    write_labels(cabinet, &mut drafts)?;
+    draft::settle(&mut drafts)?;
+    forget_cut_tasks(disk, &folder)?;
+    text.stays = true;
+    draft::rename(drafts)?;
+    for path in old.beyond(cabinet.numbers.trays as u32) {
+        files::remove(disk, path)?;
+    }
+    draft::rename(vec![text])
+}
+
+/// A work file for every tray, with room for its label.
+fn begin<'d>(cabinet: &Cabinet<'d>) -> Result<Vec<Draft<'d>>, Failure> {
+    let mode = cabinet.mode();
+    let begin = |tray| {
+        let path = cabinet.image_path(tray);
+        let mut draft = Draft::begin(cabinet.disk, &path, STORE, mode)?;
+        draft.write(&[0; SIZE])?;
+        Ok(draft)
+    };
+    cabinet.numbers.all_trays().map(begin).collect()
+}
+
+/// Writes all segments, and gives the checksum of the data.
+fn write_segments<S: Symbol>(
+    cabinet: &Cabinet,
+    data: &mut dyn Read,
+    drafts: &mut [Draft],
+    screen: &mut Screen,
+) -> Result<u64, Failure> {
+    let layers = cabinet.numbers.layers;
+    let mut sum = 0;
+    for segment in 0..cabinet.geometry.segments() {
+        let stripes = cabinet.geometry.stripes_of(segment);
+        let mut parts = vec![vec![S::default(); layers * stripes.len()]; drafts.len()];
+        for (place, stripe) in stripes.clone().enumerate() {
+            let codeword = codeword::<S>(cabinet, data, stripe, &mut sum)?;
+            for (part, symbols) in parts.iter_mut().zip(codeword.chunks(layers)) {
+                together(symbols, stripes.len(), place, part);
+            }
+        }
+        let trays = (0..).map(Tray::new).zip(&parts);
+        for ((tray, part), draft) in trays.zip(&mut *drafts) {
+            draft.write(&cabinet.segment_bytes(segment, tray, part)?)?;
+        }
+        progress::segment(cabinet, &stripes, screen);
+    }
+    Ok(sum)
+}
+
+fn write_labels(cabinet: &Cabinet, drafts: &mut [Draft]) -> Result<(), Failure> {
+    for (tray, draft) in (0..).map(Tray::new).zip(drafts) {
+        let label = Label {
+            cabinet: cabinet.description,
+            tray,
+        };
+        draft.write_start(&label.bytes())?;
+    }
+    Ok(())
+}
+
+/// Removes the checkpoints and work files of repairs, recoveries and scrubs that were cut: they are
+/// of other trays.
+fn forget_cut_tasks(disk: &dyn Disk, folder: &Path) -> Result<(), Failure> {
+    let is_of_one = |name: &str| {
+        let name = name.trim_start_matches('.').trim_end_matches(".new");
+        let of_tray = name.starts_with("tray-");
+        let kept = [".spare", ".img.repair", ".img.recover"];
+        let kept = kept.iter().any(|end| name.ends_with(end));
+        (of_tray && kept) || [recover::NAME, scrub::NAME].contains(&name)
+    };
+    for name in disk.list(folder).map_err(Failure::file(folder))? {
+        if name.to_str().is_some_and(is_of_one) {
+            files::remove(disk, &folder.join(&name))?;
+        }
+    }
+    Ok(())
+}
+
+/// The codeword of the next stripe's data, with zeros after the last of them; their checksum is taken
+/// on.
+fn codeword<S: Symbol>(
+    cabinet: &Cabinet,
+    data: &mut dyn Read,
+    stripe: u32,
+    sum: &mut u64,
+) -> Result<Vec<S>, Failure> {
+    let numbers = &cabinet.numbers;
+    let room = numbers.data();
+    let before = u64::from(stripe) * room as u64;
+    let left = cabinet.description.length.unwrap_or_default() - before;
+    let wanted = usize::try_from(left).map_or(room, |left| left.min(room));
+    let mut bytes = Vec::with_capacity(room);
+    data.take(wanted as u64)
+        .read_to_end(&mut bytes)
+        .map_err(|error| Failure::File(format!("the data: {error}")))?;
+    if bytes.len() < wanted {
+        return Err(Failure::File(
+            "the data end before their length".to_string(),
+        ));
+    }
+    *sum = checksum(*sum, &bytes);
+    bytes.resize(room, 0);
+    let mut codeword = vec![S::default(); numbers.codeword()];
+    let layout = cabinet.description.layout;
+    (S::CALLS.store)(layout, &from_data(&bytes), &mut codeword)
+        .map_err(Failure::refused("store"))?;
+    Ok(codeword)
+}
