@@ -141,6 +141,15 @@ impl<'a, S: Symbol> Segment<'a, S> {
         }
     }
 
+    /// Takes trays as absent, whatever stands at their places.
+    pub fn leave_out(&mut self, trays: &[Tray]) {
+        for tray in trays {
+            if let Some(found) = self.found.get_mut(tray.number() as usize) {
+                *found = Found::Absent;
+            }
+        }
+    }
+
     /// One kind a tray.
     pub fn kinds(&self) -> Vec<Kind> {
         self.found.iter().map(Found::kind).collect()

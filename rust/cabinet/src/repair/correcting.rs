@@ -11,6 +11,7 @@ use crate::code::symbol::Symbol;
 use crate::failure::{Failure, Outcome};
 use crate::files::cabinet::Cabinet;
 use crate::files::checkpoint::Checkpoint;
+use crate::files::mend::union;
 use crate::files::rebuild::Rebuild;
 use crate::files::stripe::Stripe;
 use crate::files::survey::Unused;
@@ -49,6 +50,8 @@ pub fn repair<S: Symbol>(
             work.stripe(&ready, number, &mut shares, screen)?;
         }
     }
+    let unused = union(&Unused::trays(unused), &repair.lost);
+    work.tally.faults.add_labels(cabinet, &unused);
     say_shares(cabinet, repair, &work.tally, screen);
     work.tally.faults.say(cabinet, screen);
     say_recovered(work.tally.recovered, screen);

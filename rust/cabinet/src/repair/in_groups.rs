@@ -10,6 +10,7 @@ use crate::code::symbol::Symbol;
 use crate::failure::{Failure, Outcome};
 use crate::files::cabinet::Cabinet;
 use crate::files::checkpoint::Checkpoint;
+use crate::files::mend::union;
 use crate::files::rebuild::Rebuild;
 use crate::files::stripe::Stripe;
 use crate::files::survey::Unused;
@@ -29,6 +30,8 @@ pub struct GroupRepair<'a, S> {
     /// What the last stripe was worked on from, where this is to be looked at.
     over: Option<u64>,
     tally: Tally,
+    /// The trays that were met and cannot be used.
+    unused: Option<Unused>,
 }
 
 /// What a run of groups is done with.
@@ -67,6 +70,7 @@ impl<'a, S: Symbol> GroupRepair<'a, S> {
             done: checkpoint.step,
             over: Some(checkpoint.over),
             tally,
+            unused: None,
         })
     }
 
@@ -84,6 +88,7 @@ impl<'a, S: Symbol> GroupRepair<'a, S> {
             done: 0,
             over: None,
             tally: Tally::default(),
+            unused: None,
         })
     }
 
@@ -125,7 +130,6 @@ impl<'a, S: Symbol> GroupRepair<'a, S> {
     ) -> Result<(), Failure> {
         let (cabinet, repair) = (self.cabinet, self.repair);
         let mut meter = Meter::new(cabinet, repair.lost.len(), run);
-        let mut unused = None;
         let from = match (self.over, self.done) {
             (Some(_), 0) => self.rebuild.next.saturating_sub(1),
             _ => self.rebuild.next,
@@ -133,7 +137,7 @@ impl<'a, S: Symbol> GroupRepair<'a, S> {
         means.shares.skip_to::<S>(cabinet, repair, from)?;
         for segment in cabinet.segments::<S>(cabinet.geometry.segment_of(from)) {
             let segment = segment?;
-            Unused::begin_or_say(&mut unused, &segment, screen);
+            Unused::begin_or_say(&mut self.unused, &segment, screen);
             let ready = Ready::of(segment, repair, means.shares, &mut self.tally)?;
             let stripes = ready.segment.stripes.clone();
             for number in stripes.filter(|number| *number >= from) {
@@ -240,8 +244,10 @@ impl<'a, S: Symbol> GroupRepair<'a, S> {
     }
 
     /// Says whether all trays together are sound, and puts the new files in their places.
-    pub fn finish(self, screen: &mut Screen) -> Result<Outcome, Failure> {
+    pub fn finish(mut self, screen: &mut Screen) -> Result<Outcome, Failure> {
         let (names, are) = self.repair.names();
+        let unused = union(&Unused::trays(self.unused.take()), &self.repair.lost);
+        self.tally.faults.add_labels(self.cabinet, &unused);
         let tested = self.tally.tested(self.cabinet, screen);
         let outcome = self.tally.outcome();
         self.tally.faults.say(self.cabinet, screen);

@@ -1,12 +1,12 @@
 //! A segment made ready for a repair: the library has judged the racks that are used, and where one
-//! of their trays has a wrong checksum, its stripes are put right first.
+//! of their trays has a wrong checksum, its stripes are put right first. Where another tray has one,
+//! it is named.
 
 use super::shares::Shares;
 use super::tally::Tally;
 use super::Repair;
 use crate::code::symbol::Symbol;
 use crate::failure::Failure;
-use crate::files::found::Found;
 use crate::files::mend::{mend, Held, Mended};
 use crate::files::segment::Segment;
 use crate::files::stripe::Stripe;
@@ -24,31 +24,37 @@ impl<'a, S: Symbol> Ready<'a, S> {
     /// Judges the host rack but for the lost trays and, where shares are worked out from trays, the
     /// helper racks.
     pub fn of(
-        segment: Segment<'a, S>,
+        mut segment: Segment<'a, S>,
         repair: &Repair,
         shares: &Shares,
         tally: &mut Tally,
     ) -> Result<Ready<'a, S>, Failure> {
         let cabinet = segment.cabinet;
+        segment.leave_out(&repair.lost);
         let mut racks = vec![repair.host(cabinet)];
         if let Shares::OfTrays = shares {
             racks.extend(&repair.helpers);
         }
         let judge = |rack: &_| segment.judge_rack(*rack, &repair.lost);
         racks.iter().try_for_each(judge).map_err(segment.named())?;
-        let is_rotten =
-            |tray: Tray| !repair.lost.contains(&tray) && *segment.found(tray) == Found::Rotten;
-        let mut trays = racks
+        let rotten = segment.stripe(segment.stripes.start).rotten();
+        let mut used = racks
             .iter()
             .flat_map(|rack| cabinet.numbers.trays_of(*rack));
-        let mended = match trays.any(is_rotten) {
-            true => Some(mend(&segment, &repair.lost)?),
-            false => None,
+        let is_needed = used.any(|tray| rotten.contains(&tray));
+        let mended = match rotten.is_empty() {
+            true => None,
+            false => match mend(&segment, &repair.lost) {
+                Err(failure) if is_needed => return Err(failure),
+                mended => Some(mended),
+            },
         };
-        if let Some(mended) = &mended {
-            let beside = without(mended, &repair.lost);
-            tally.faults.add(&segment, &beside);
+        match &mended {
+            Some(Ok(mended)) => tally.faults.add(&segment, mended),
+            Some(Err(_)) => tally.faults.add_unsure(&segment),
+            None => {}
         }
+        let mended = mended.and_then(Result::ok).filter(|_| is_needed);
         let is_summed = cabinet.geometry.has_checksums() && cabinet.unlabelled().is_empty();
         let spent = match shares {
             Shares::OfTrays if !is_summed => repair.lost.len(),
@@ -70,21 +76,6 @@ impl<'a, S: Symbol> Ready<'a, S> {
         }
         stripe
     }
-}
-
-/// The stripes with the lost trays, which nobody counts on, not among the wrong ones.
-fn without<S: Symbol>(mended: &[Mended<S>], lost: &[Tray]) -> Vec<Mended<S>> {
-    let one = |one: &Mended<S>| Mended {
-        codeword: Vec::new(),
-        wrong: one
-            .wrong
-            .iter()
-            .copied()
-            .filter(|tray| !lost.contains(tray))
-            .collect(),
-        held: one.held,
-    };
-    mended.iter().map(one).collect()
 }
 
 /// Holds the lost trays of a stripe against all trays that are there. Where they do not fit, they
@@ -109,13 +100,13 @@ pub fn settle<S: Symbol>(
     let Ok(mended) = mend(&ready.segment, lost) else {
         return Ok(Some(bad));
     };
-    let one = &without(&mended, lost)[place];
+    let one = &mended[place];
     if one.held != Held::Checks {
         return Ok(Some(bad));
     }
     let layers = stripe.cabinet.numbers.layers;
     for (tray, spare) in lost.iter().zip(spare.chunks_mut(layers)) {
-        let symbols = &mended[place].codeword[tray.number() as usize * layers..][..layers];
+        let symbols = &one.codeword[tray.number() as usize * layers..][..layers];
         spare.copy_from_slice(symbols);
     }
     tally.recovered += 1;

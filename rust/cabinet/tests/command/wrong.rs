@@ -80,6 +80,48 @@ fn a_repair_that_cannot_be_tested_says_so() {
     assert_eq!(bench.read(&image(1)), whole);
 }
 
+/// A repair names every tray that it knows to be wrong, also of racks that it does not use, and says
+/// nothing of the lost tray's own file.
+#[test]
+fn a_repair_names_wrong_trays_that_it_does_not_use() {
+    for (wrong, words) in [(11, "tray 11"), (4, "tray 4")] {
+        let bench = cabinet();
+        let whole = bench.read(&image(1));
+        bench.flip(&image(wrong), SYMBOLS + 3);
+        bench.flip(&image(1), SYMBOLS + 5);
+        let out = bench.ends(17, "repair c --lost 1 --helpers 1,2,4");
+        assert!(
+            out.contains(&format!("{words} holds wrong symbols")),
+            "{out}"
+        );
+        assert!(
+            out.contains(&format!("all trays but {words} are sound")),
+            "{out}"
+        );
+        assert!(!out.contains("tray 1 has"), "{out}");
+        assert_eq!(bench.read(&image(1)), whole);
+    }
+}
+
+/// A repair names the trays whose label cannot be read, as `get` does.
+#[test]
+fn a_repair_names_labels_that_cannot_be_read() {
+    let stale = Bench::with_a_stale_rack();
+    for (bench, line) in [
+        (cabinet(), "repair c --lost 1 --helpers 1,2,3"),
+        (stale, "repair c --lost 1 --helpers 1,2,3,4"),
+    ] {
+        let whole = bench.read(&image(1));
+        bench.flip(&image(1), 300);
+        bench.flip(&image(14), 300);
+        let out = bench.ends(17, line);
+        assert!(out.contains("tray 14's label cannot be read"), "{out}");
+        assert!(out.contains("all trays but tray 14 are sound"), "{out}");
+        assert!(!out.contains("tray 1's label"), "{out}");
+        assert_eq!(bench.read(&image(1)), whole);
+    }
+}
+
 /// Point 2: "sound" is said only of what was held against checks or checksums.
 #[test]
 fn sound_is_what_was_held_against_something() {
