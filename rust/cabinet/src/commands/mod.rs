@@ -9,9 +9,11 @@ use std::ffi::{OsStr, OsString};
 
 mod card;
 mod choose;
+mod completion;
 mod demo;
 mod get;
 mod inspect;
+mod manual;
 mod margin;
 mod plan;
 mod racks_of_four;
@@ -53,6 +55,8 @@ pub const COMMANDS: &[Command] = &[
     margin::COMMAND,
     inspect::COMMAND,
     sixteen::COMMAND,
+    manual::COMMAND,
+    completion::COMMAND,
 ];
 
 /// Does what a command line asks for.

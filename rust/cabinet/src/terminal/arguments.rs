@@ -47,6 +47,11 @@ impl Setting {
             ..self
         }
     }
+
+    /// Whether it may be given more than once.
+    pub const fn repeats(&self) -> bool {
+        self.repeats
+    }
 }
 
 /// A command line, sorted into words and settings.

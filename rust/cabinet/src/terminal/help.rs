@@ -8,7 +8,11 @@ use crate::terminal::words::hanging;
 /// Name and version.
 pub const VERSION: &str = concat!("cabinet ", env!("CARGO_PKG_VERSION"));
 
-const OPENING: &str = "\
+/// What the command is for, in a line.
+pub const SUMMARY: &str = "keep files in cabinets of trays, any r of which may be lost";
+
+/// What the command does, and how a line of it is written.
+pub const OPENING: &str = "\
 Plans, stores, tests, recovers and repairs cabinets of trays. A cabinet is a
 folder of tray files, tray-00.img and on, with a description, cabinet.txt. A
 file of any length is stored in stripes, each a codeword of its own; a tray file
@@ -25,7 +29,7 @@ pub fn print_all(screen: &mut Screen) {
     screen.line(OPENING);
     screen.heading("Commands");
     for Command { name, summary, .. } in COMMANDS {
-        screen.line(format!("  {name:<9} {summary}"));
+        screen.line(format!("  {name:<10} {summary}"));
     }
     screen.gap();
     screen.heading("Exit status");

@@ -2,8 +2,10 @@
 
 pub mod arguments;
 pub mod cabinet_map;
+pub mod completion;
 pub mod dump;
 pub mod help;
+pub mod manual;
 pub mod progress;
 pub mod runs;
 pub mod screen;

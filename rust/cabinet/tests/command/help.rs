@@ -2,9 +2,24 @@
 
 use crate::bench::{assert_readable, Bench};
 
-const COMMANDS: [&str; 15] = [
-    "demo", "choose", "plan", "store", "get", "test", "scrub", "recover", "share", "repair",
-    "card", "read", "margin", "inspect", "box",
+const COMMANDS: [&str; 17] = [
+    "demo",
+    "choose",
+    "plan",
+    "store",
+    "get",
+    "test",
+    "scrub",
+    "recover",
+    "share",
+    "repair",
+    "card",
+    "read",
+    "margin",
+    "inspect",
+    "box",
+    "manual",
+    "completion",
 ];
 
 #[test]

@@ -11,6 +11,7 @@ mod files;
 mod first_format;
 mod help;
 mod large;
+mod manual;
 mod plan;
 mod read;
 mod refusals;
