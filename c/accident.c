@@ -26,7 +26,7 @@ static void put_in(uint32_t tray, uint32_t state, const uint8_t *symbols)
 /* Says how a call ended; 1 where it was done. */
 static int done(const char *call, uint32_t refusal)
 {
-    printf("%s: %u, %s\n", call, refusal, gesarumbo_refusal_words(refusal));
+    printf("%s: %u, %s\n", call, refusal, gesarumbo_words(refusal));
     return refusal == 0;
 }
 

@@ -19,14 +19,14 @@ int main(void)
     for (size_t i = 0; i < sizeof data; i++)
         data[i] = (uint8_t)(7 * i + 3);
     uint32_t refusal = gesarumbo_store(layout, data, sizeof data, codeword, sizeof codeword);
-    printf("store: %s\n", gesarumbo_refusal_words(refusal));
+    printf("store: %s\n", gesarumbo_words(refusal));
 
     /* What tray 5 held is not looked at. Each of the other racks sends a share to its rack. */
     memset(codeword + lost * LAYERS, 0xFF, LAYERS);
     for (size_t i = 0; i < HELPERS; i++) {
         refusal = gesarumbo_share(layout, host, helpers[i], codeword + helpers[i] * RACK, RACK,
                                   shares + i * GROUPS, GROUPS);
-        printf("share of rack %u: %s\n", helpers[i], gesarumbo_refusal_words(refusal));
+        printf("share of rack %u: %s\n", helpers[i], gesarumbo_words(refusal));
     }
 
     /* Three groups at a time; power may fail between two pieces. */
@@ -35,7 +35,7 @@ int main(void)
             layout, lost, helpers, HELPERS, shares, sizeof shares, codeword + host * RACK, RACK,
             spare, sizeof spare, done, 3);
         if (piece.refusal != 0) {
-            printf("repair: %s\n", gesarumbo_refusal_words(piece.refusal));
+            printf("repair: %s\n", gesarumbo_words(piece.refusal));
             return 1;
         }
         done += piece.groups;
@@ -47,6 +47,6 @@ int main(void)
 
     /* What cannot be done is refused, and no byte has changed. */
     refusal = gesarumbo_recover(layout, codeword, sizeof codeword, erased, 5);
-    printf("five trays erased: refused, ground %u: %s\n", refusal, gesarumbo_refusal_words(refusal));
+    printf("five trays erased: refused, ground %u: %s\n", refusal, gesarumbo_words(refusal));
     return 0;
 }

@@ -67,12 +67,41 @@
 #include <stddef.h>
 #include <stdint.h>
 
+/* The library's version; a program that was written for MAJOR.MINOR works with any later MINOR. */
+#define GESARUMBO_VERSION "1.0.0"
+#define GESARUMBO_VERSION_MAJOR 1
+#define GESARUMBO_VERSION_MINOR 0
+#define GESARUMBO_VERSION_PATCH 0
+
 #ifdef __cplusplus
 extern "C" {
 #endif
 
-/* What a refusal's number means, in words; "done" for 0. */
-static inline const char *gesarumbo_refusal_words(uint32_t refusal)
+/* The refusals' numbers by name. Calls answer them as uint32_t, whose size is the same everywhere. */
+enum gesarumbo_refusal {
+    GESARUMBO_DONE = 0,
+    GESARUMBO_REFUSED_LAYOUT = 1,
+    GESARUMBO_REFUSED_LENGTH = 2,
+    GESARUMBO_REFUSED_NUMBER = 3,
+    GESARUMBO_REFUSED_ORDER = 4,
+    GESARUMBO_REFUSED_COUNT = 5,
+    GESARUMBO_REFUSED_HOST = 6,
+    GESARUMBO_REFUSED_FIRST_GROUP = 7,
+    GESARUMBO_REFUSED_SURVIVORS = 8,
+    GESARUMBO_REFUSED_MALFORMED = 9,
+    GESARUMBO_REFUSED_DEMONSTRATION = 10,
+    GESARUMBO_REFUSED_OTHER = 11,
+    GESARUMBO_REFUSED_LOST_COUNT = 12,
+    GESARUMBO_REFUSED_NOT_REPAIRED = 13,
+    GESARUMBO_REFUSED_SHARES = 14,
+    GESARUMBO_REFUSED_CARD = 15
+};
+
+/*
+ * What a refusal's number means, in words; "done" for 0. The words are constants of the program that
+ * asks for them, some 1 KB, and no part of the library: a program that never asks has none.
+ */
+static inline const char *gesarumbo_words(uint32_t refusal)
 {
     static const char *const words[] = {
         "done",
@@ -95,6 +124,9 @@ static inline const char *gesarumbo_refusal_words(uint32_t refusal)
     };
     return refusal < sizeof words / sizeof *words ? words[refusal] : "no ground of refusal";
 }
+
+/* Its name in earlier headers. */
+#define gesarumbo_refusal_words gesarumbo_words
 
 /* B, u, k, d and E: any values, each call says whether they are admissible. */
 typedef struct {

@@ -25,11 +25,17 @@ fn main() {
     println!("cargo:rustc-link-lib=static=gesarumbo");
 }
 
-/// The folder named in the environment, or target/staticlib of the repository's root.
+/// The folder named in the environment; else, seen from the root of the repository or of an archive
+/// that it makes, target/staticlib or lib, the first if neither has the library.
 fn folder() -> PathBuf {
     if let Some(named) = env::var_os(FOLDER) {
         return PathBuf::from(named);
     }
     let manifest = env::var_os("CARGO_MANIFEST_DIR").unwrap_or_default();
-    Path::new(&manifest).join("../../target/staticlib")
+    let root = Path::new(&manifest).join("../..");
+    let archived = root.join("lib");
+    if archived.join("libgesarumbo.a").is_file() {
+        return archived;
+    }
+    root.join("target/staticlib")
 }

@@ -1,0 +1,12 @@
+# A version fits where it asks for the same first number and no later one.
+set(PACKAGE_VERSION "@VERSION@")
+string(REGEX REPLACE "\\..*" "" _gesarumbo_major "${PACKAGE_VERSION}")
+if(PACKAGE_FIND_VERSION VERSION_GREATER PACKAGE_VERSION OR NOT "${PACKAGE_FIND_VERSION_MAJOR}" STREQUAL "${_gesarumbo_major}")
+  set(PACKAGE_VERSION_COMPATIBLE FALSE)
+else()
+  set(PACKAGE_VERSION_COMPATIBLE TRUE)
+  if(PACKAGE_FIND_VERSION VERSION_EQUAL PACKAGE_VERSION)
+    set(PACKAGE_VERSION_EXACT TRUE)
+  endif()
+endif()
+unset(_gesarumbo_major)
