@@ -40,6 +40,15 @@ impl Outcome {
             Outcome::Healed => HEALED,
         }
     }
+
+    /// What a report calls it.
+    pub fn name(self) -> &'static str {
+        match self {
+            Outcome::Done => "done",
+            Outcome::NotTested => "not_tested",
+            Outcome::Healed => "healed",
+        }
+    }
 }
 
 /// Exit statuses above the refusals' numbers, with their meaning; from 64 on those of sysexits.h.
@@ -110,6 +119,17 @@ impl Failure {
             Failure::Contents(_) => CONTENTS,
             Failure::Internal(_) => INTERNAL,
             Failure::File(_) => FILE,
+        }
+    }
+
+    /// What a report calls it.
+    pub fn name(&self) -> &'static str {
+        match self {
+            Failure::Refused { .. } => "refused",
+            Failure::Usage(_) => "usage",
+            Failure::Contents(_) => "contents",
+            Failure::Internal(_) => "internal",
+            Failure::File(_) => "file",
         }
     }
 }

@@ -11,10 +11,12 @@ mod disk;
 mod drawing;
 mod failure;
 mod files;
+mod fixing;
 mod repair;
 mod scrub;
 #[cfg(test)]
 mod simulation;
+mod status;
 mod storing;
 mod terminal;
 

@@ -81,6 +81,14 @@ impl Numbers {
         self.rack_of(lost[0])
     }
 
+    /// The first d racks but that of the first lost tray.
+    pub fn first_helpers(&self, lost: &[Tray]) -> Vec<Rack> {
+        let host = lost.first().map(|tray| self.rack_of(*tray));
+        let racks = (0..self.layout.racks).map(Rack::new);
+        let racks = racks.filter(|rack| Some(*rack) != host);
+        racks.take(self.helpers).collect()
+    }
+
     /// The trays of a rack; none for a rack outside the layout.
     pub fn trays_of(self, rack: Rack) -> impl Iterator<Item = Tray> {
         self.all_trays()

@@ -14,7 +14,11 @@ use gesarumbo::{Rack, Tray};
 use std::path::Path;
 
 const LOST: Setting = Setting::with("--lost", "X", "the lost tray");
-const HELPERS: Setting = Setting::with("--helpers", "a,b,..", "d other racks, rising");
+const HELPERS: Setting = Setting::with(
+    "--helpers",
+    "a,b,..",
+    "d other racks, rising; the first d, if not given",
+);
 const GROUP: Setting = Setting::with("--group", "G", "the group of the repair");
 
 pub const COMMAND: Command = Command {
@@ -26,8 +30,8 @@ pub const COMMAND: Command = Command {
 };
 
 const HELP: &str = "\
-cabinet card print B u k d --lost X --helpers a,b,.. --group G [--field N] OUT
-cabinet card test  B u k d --lost X --helpers a,b,.. --group G [--field N] FILE
+cabinet card print B u k d --lost X [--helpers a,b,..] --group G [--field N] OUT
+cabinet card test B u k d --lost X [--helpers a,b,..] --group G [--field N] FILE
 
 A card has the ready multipliers of one group of a repair: they turn the symbols
 that the d helpers send for the group into the s sums of the lost tray's rack.
@@ -58,13 +62,15 @@ fn run(arguments: &Arguments, disk: &dyn Disk, screen: &mut Screen) -> Result<Ou
     let (layout, [file]) = arguments.layout_and(["FILE"])?;
     let field = Field::asked(&arguments)?.unwrap_or_default();
     let lost = Tray::new(needed(LOST, arguments.number(LOST)?)?);
-    let helpers = needed(HELPERS, arguments.list(HELPERS)?)?;
+    let helpers = arguments.list(HELPERS)?;
+    let helpers = helpers.map(|racks| racks.into_iter().map(Rack::new).collect());
     let group = needed(GROUP, arguments.number(GROUP)?)?;
+    let numbers = Numbers::of(layout, field)?;
     let place = Place {
-        numbers: Numbers::of(layout, field)?,
         lost,
-        helpers: helpers.into_iter().map(Rack::new).collect(),
+        helpers: helpers.unwrap_or_else(|| numbers.first_helpers(&[lost])),
         group,
+        numbers,
     };
     let path = Path::new(file);
     match action.as_str() {

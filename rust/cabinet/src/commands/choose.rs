@@ -5,9 +5,10 @@ use crate::code::conditions::MOST_TRAYS;
 use crate::code::field::Field;
 use crate::disk::Disk;
 use crate::failure::{Failure, Outcome};
-use crate::files::geometry::{many, CHECKSUM, HEADER};
-use crate::files::label;
+use crate::files::share_of_data::{ShareOfData, Taken};
 use crate::terminal::arguments::{needed, Arguments, Setting};
+use crate::terminal::json::Json;
+use crate::terminal::report;
 use crate::terminal::screen::Screen;
 use crate::terminal::traffic::percent;
 use crate::terminal::words::{count, grouped};
@@ -39,8 +40,9 @@ Lists admissible layouts (B, u, k, d) and (B, u, k, d, 1) of N trays of which
 any R may be lost, in both fields, those with the most data first:
 
   lost      trays that may be lost, whichever they are: r, at least R
-  data      bytes of data, as part of the bytes of the trays; in the field of
-            257 a symbol takes two bytes on a tray
+  data      bytes of data, as part of the bytes of the tray files, with labels,
+            headers and checksums: for data of --size, else what it comes to as
+            files grow; in the field of 257 a symbol takes two bytes
   L         symbols of a tray in a codeword
   traffic   symbols that cross between racks in the repair of one tray
   of plain  these, as part of what a plain recovery reads
@@ -86,6 +88,24 @@ impl Asked {
         )
     }
 
+    /// Why there is none, as far as it is known.
+    fn why_none(&self) -> String {
+        let sizes = [1, 2, 3, 4, 5, 8, 15, 16, 17];
+        let words = self.words();
+        match self.rack {
+            _ if u64::from(self.trays) > MOST_TRAYS => {
+                format!("{words}: at most {MOST_TRAYS} trays")
+            }
+            Some(size) if !sizes.contains(&size) => {
+                format!("{words}: a rack has 1, 2, 3, 4, 5, 8, 15, 16 or 17 trays")
+            }
+            Some(size) if !self.trays.is_multiple_of(size) => {
+                format!("{words}: {} trays are no whole racks of {size}", self.trays)
+            }
+            _ => words,
+        }
+    }
+
     /// Every layout of these trays that may do, admissible or not.
     fn layouts(&self) -> impl Iterator<Item = Layout> + '_ {
         let fits = |size: &u32| {
@@ -109,22 +129,27 @@ fn run(arguments: &Arguments, _: &dyn Disk, screen: &mut Screen) -> Result<Outco
     let asked = Asked::read(arguments)?;
     let fields = [Field::Of256, Field::Of257];
     let all = fields.map(|field| {
+        let asked = &asked;
         asked
             .layouts()
-            .filter_map(move |layout| Choice::of(layout, field))
+            .filter_map(move |layout| Choice::of(layout, field, asked.size))
     });
     let all: Vec<Choice> = all.into_iter().flatten().collect();
     if all.is_empty() {
-        let about = asked.words();
-        return Err(Failure::refused(about)(Refusal::Layout));
+        return Err(Failure::refused(asked.why_none())(Refusal::Layout));
     }
     let mut kept = match arguments.has(ALL) {
         true => all.clone(),
         false => best(&all),
     };
     kept.sort_by(Choice::order);
+    screen.fact("trays", asked.trays);
+    screen.fact("survive", asked.survive);
+    screen.fact("size", asked.size);
+    screen.fact("layouts", Json::list(&kept, Choice::json));
+    screen.fact("left_out", all.len() - kept.len());
     screen.heading(format!("Layouts of {}", asked.words()));
-    print_table(&kept, asked.size, screen);
+    print_table(&kept, screen);
     screen.gap();
     match all.len() - kept.len() {
         0 => {}
@@ -138,23 +163,28 @@ fn run(arguments: &Arguments, _: &dyn Disk, screen: &mut Screen) -> Result<Outco
 struct Choice {
     field: Field,
     numbers: Numbers,
+    /// Of the data that are asked for, else of long files.
+    share: ShareOfData,
+    /// What the data take that are asked for; too many stripes are nothing.
+    taken: Option<Option<Taken>>,
 }
 
 impl Choice {
-    fn of(layout: Layout, field: Field) -> Option<Choice> {
-        let numbers = field.numbers(layout);
-        numbers.ok().map(|numbers| Choice { field, numbers })
+    fn of(layout: Layout, field: Field, size: Option<u64>) -> Option<Choice> {
+        let numbers = field.numbers(layout).ok()?;
+        let taken = size.map(|size| Taken::by(&numbers, field, size));
+        let long = ShareOfData::of_long_files(&numbers, field);
+        Some(Choice {
+            field,
+            numbers,
+            share: taken.flatten().map_or(long, |taken| taken.share),
+            taken,
+        })
     }
 
-    /// The bytes of a symbol on a tray.
-    fn width(&self) -> usize {
-        self.field.width()
-    }
-
-    /// Whether it has more data in the bytes of its trays than another of as many trays.
+    /// Whether it has more data in the bytes of its trays than another.
     fn data(&self, other: &Choice) -> Ordering {
-        let share = |one: &Choice, beside: &Choice| one.numbers.dimension * beside.width();
-        share(self, other).cmp(&share(other, self))
+        self.share.order(other.share)
     }
 
     /// Whether its traffic is a larger part of a plain recovery's.
@@ -163,17 +193,19 @@ impl Choice {
         part(self, other).cmp(&part(other, self))
     }
 
-    /// Most data first, then least traffic, then most trays at once.
+    /// Those that can take the data first, then by most data, least traffic and most trays at once.
     fn order(&self, other: &Choice) -> Ordering {
+        let too_much = |choice: &Choice| matches!(choice.taken, Some(None));
         let at_once = |choice: &Choice| choice.numbers.lost_at_once();
         let by_data = other.data(self).then(self.traffic(other));
-        by_data.then(at_once(other).cmp(&at_once(self)))
+        let by_room = too_much(self).cmp(&too_much(other)).then(by_data);
+        by_room.then(at_once(other).cmp(&at_once(self)))
     }
 
     /// Whether none like it has more data: with racks of its size, its E and its layers and, if it
     /// repairs a whole rack at once, doing so too.
     fn has_most_data(&self, all: &[Choice]) -> bool {
-        let kind = |Choice { field, numbers }: &Choice| {
+        let kind = |Choice { field, numbers, .. }: &Choice| {
             let whole_rack = self.numbers.part == 0 && numbers.part == 0;
             (
                 *field,
@@ -205,12 +237,11 @@ impl Choice {
     /// Its row of the table.
     fn row(&self) -> [String; 8] {
         let numbers = &self.numbers;
-        let (of_data, of_trays) = (numbers.dimension, numbers.trays * self.width());
         [
             numbers.layout.to_string(),
             self.field.number().to_string(),
             numbers.checks.to_string(),
-            format!("{:.1} %", percent(of_data, of_trays)),
+            format!("{:.1} %", self.share.percent()),
             grouped(numbers.layers),
             grouped(numbers.traffic),
             format!("{:.1} %", percent(numbers.traffic, numbers.data())),
@@ -218,20 +249,43 @@ impl Choice {
         ]
     }
 
-    /// What so many bytes of data take in it.
-    fn taken(&self, size: u64) -> String {
-        let stripes = size.div_ceil(self.numbers.data() as u64).max(1);
-        if stripes > u32::MAX.into() {
+    /// What the data take in it, in words.
+    fn taken(&self, taken: Option<Taken>) -> String {
+        let Some(taken) = taken else {
             return "too much: more stripes than there are volume numbers".to_string();
-        }
-        let of_stripes = |bytes: usize| grouped(stripes as usize * bytes);
-        let symbols = |count: usize| count * self.width();
-        let segments = stripes.div_ceil(many(self.numbers.layers, self.width()).into());
-        let around = label::SIZE + segments as usize * (HEADER + CHECKSUM);
-        let file = grouped(stripes as usize * symbols(self.numbers.layers) + around);
-        let crossing = of_stripes(symbols(self.numbers.traffic));
-        let stripes = count(stripes as usize, "stripe");
+        };
+        let (stripes, file, crossing) = (
+            count(taken.stripes as usize, "stripe"),
+            grouped(taken.tray as usize),
+            grouped(taken.crossing as usize),
+        );
         format!("{stripes}, {file} bytes a tray, {crossing} in its repair")
+    }
+
+    /// Its row as a report has it.
+    fn json(&self) -> Json {
+        let numbers = &self.numbers;
+        let taken = self.taken.flatten().map(|taken| {
+            Json::object([
+                ("stripes", taken.stripes.into()),
+                ("tray_bytes", taken.tray.into()),
+                ("repair_bytes", taken.crossing.into()),
+            ])
+        });
+        Json::object([
+            ("layout", report::layout(numbers.layout)),
+            ("field", self.field.number().into()),
+            ("lost", numbers.checks.into()),
+            ("data_percent", Json::Real(self.share.percent())),
+            ("L", numbers.layers.into()),
+            ("traffic", numbers.traffic.into()),
+            (
+                "plain_percent",
+                Json::Real(percent(numbers.traffic, numbers.data())),
+            ),
+            ("at_once", numbers.lost_at_once().into()),
+            ("taken", taken.into()),
+        ])
     }
 }
 
@@ -244,15 +298,15 @@ fn best(all: &[Choice]) -> Vec<Choice> {
     best.copied().collect()
 }
 
-fn print_table(choices: &[Choice], size: Option<u64>, screen: &mut Screen) {
+fn print_table(choices: &[Choice], screen: &mut Screen) {
     let titles = [
         "layout", "field", "lost", "data", "L", "traffic", "of plain", "at once",
     ];
     screen.line(line(&titles.map(str::to_string)));
     for choice in choices {
         screen.line(line(&choice.row()));
-        if let Some(size) = size {
-            screen.line(format!("      {}", choice.taken(size)));
+        if let Some(taken) = choice.taken {
+            screen.line(format!("      {}", choice.taken(taken)));
         }
     }
 }

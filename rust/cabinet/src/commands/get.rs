@@ -14,9 +14,9 @@ use crate::files::output;
 use crate::files::segment::Segment;
 use crate::files::survey::Unused;
 use crate::terminal::arguments::{Arguments, Setting};
-use crate::terminal::progress;
 use crate::terminal::screen::{Paint, Screen};
 use crate::terminal::words::count;
+use crate::terminal::{progress, report};
 use gesarumbo::{checksum, Tray};
 use std::path::Path;
 
@@ -177,6 +177,11 @@ impl Getting<'_> {
             ));
         }
         draft::publish(vec![self.draft])?;
+        screen.fact("cabinet", report::cabinet(cabinet));
+        screen.fact("file", report::path(file));
+        screen.fact("bytes", length);
+        screen.fact("held_against", report::held(self.held));
+        screen.fact("faults", self.faults.json());
         let bytes = count(length as usize, "byte");
         screen.line(format!("  {bytes} written to {}", file.display()));
         let is_clear = self.faults.is_empty();

@@ -15,6 +15,8 @@ use crate::files::header::Header;
 use crate::files::label::{Label, SIZE};
 use crate::files::segment::Segment;
 use crate::terminal::arguments::Arguments;
+use crate::terminal::json::Json;
+use crate::terminal::report;
 use crate::terminal::screen::{Paint, Screen};
 use crate::terminal::words::count;
 use gesarumbo::{Layout, Tray};
@@ -46,9 +48,16 @@ const ANY: Layout = Layout::new(2, 1, 1, 1);
 
 fn run(arguments: &Arguments, disk: &dyn Disk, screen: &mut Screen) -> Result<Outcome, Failure> {
     let mut ended = Ok(Outcome::Done);
+    let mut files = Vec::new();
     for name in arguments.some_words("FILE")? {
-        ended = ended.and(inspect(disk, Path::new(name), arguments, screen));
+        let look = |screen: &mut Screen| inspect(disk, Path::new(name), arguments, screen);
+        let (one, facts) = screen.apart(look);
+        files.push(Json::Object(
+            [report::head("inspect", &one), facts].concat(),
+        ));
+        ended = ended.and(one);
     }
+    screen.fact("files", Json::List(files));
     ended
 }
 
@@ -68,6 +77,7 @@ fn inspect(
     screen: &mut Screen,
 ) -> Result<Outcome, Failure> {
     screen.heading(path.display().to_string());
+    screen.fact("file", report::path(path));
     let opened = open(disk, path).inspect_err(|failure| {
         let words = screen.paint(Paint::Bad, "cannot be read");
         screen.line(format!("  {words}: {failure}"));
@@ -146,6 +156,7 @@ fn look<S: Symbol>(
         stripes => format!(", {}", count(stripes as usize, "stripe")),
     };
     screen.line(format!("  answer    {words} as live tray {tray}{stripes}"));
+    screen.fact("live_tray", tray.number());
     Ok(Outcome::Done)
 }
 
@@ -158,6 +169,9 @@ fn refused(words: &str, failure: Failure, screen: &mut Screen) -> Failure {
 
 fn describe(opened: &Opened, screen: &mut Screen) {
     screen.line(format!("  length    {} bytes", opened.length));
+    screen.fact("length", opened.length);
+    screen.fact("label", opened.label.as_ref().map(label_json));
+    screen.fact("header", opened.header.as_ref().map(Header::json));
     if let Some(label) = &opened.label {
         let Label { cabinet, tray } = label;
         let generation = cabinet.generation;
@@ -173,6 +187,12 @@ fn describe(opened: &Opened, screen: &mut Screen) {
             .iter()
             .for_each(|words| screen.line(format!("  {words}"))),
     }
+}
+
+fn label_json(label: &Label) -> Json {
+    let mut fields = report::description(&label.cabinet);
+    fields.push(("tray", label.tray.number().into()));
+    Json::Object(fields)
 }
 
 /// What is expected of a file, and of its folder.

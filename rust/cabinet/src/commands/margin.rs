@@ -8,8 +8,10 @@ use crate::failure::{Failure, Outcome};
 use crate::files::cabinet::Cabinet;
 use crate::files::description;
 use crate::files::survey::{stripes, Survey};
+use crate::status::standing;
 use crate::terminal::arguments::Arguments;
 use crate::terminal::cabinet_map;
+use crate::terminal::report;
 use crate::terminal::screen::{Paint, Screen};
 use crate::terminal::words::trays;
 use gesarumbo::{ABSENT, DEMONSTRATION, LIVE};
@@ -60,6 +62,10 @@ fn margin<S: Symbol>(cabinet: &Cabinet, screen: &mut Screen) -> Result<Outcome, 
         screen.line(format!("  {words}: {trays}; cabinet test says where"));
     }
     say(survey.margin.into(), &place, screen);
+    screen.fact("cabinet", report::cabinet(cabinet));
+    screen.fact("trays", standing::json(cabinet, &survey));
+    screen.fact("margin", survey.margin);
+    screen.fact("least", vec![survey.worst.start, survey.worst.end - 1]);
     Ok(Outcome::Done)
 }
 

@@ -4,6 +4,7 @@ use crate::disk::Disk;
 use crate::failure::{Failure, Outcome};
 use crate::terminal::arguments::{Arguments, Setting};
 use crate::terminal::help;
+use crate::terminal::report;
 use crate::terminal::screen::Screen;
 use std::ffi::{OsStr, OsString};
 
@@ -11,6 +12,7 @@ mod card;
 mod choose;
 mod completion;
 mod demo;
+mod fix;
 mod get;
 mod inspect;
 mod manual;
@@ -20,10 +22,12 @@ mod racks_of_four;
 mod read;
 pub mod recover;
 mod repair;
+mod replace;
 mod scrub;
 mod share;
 mod sixteen;
 mod stale_rack;
+mod status;
 mod store;
 mod test;
 
@@ -38,9 +42,23 @@ pub struct Command {
     pub run: fn(&Arguments, &dyn Disk, &mut Screen) -> Result<Outcome, Failure>,
 }
 
+impl Command {
+    /// The settings it knows, with those of every command that reports.
+    pub fn all_settings(&self) -> Vec<Setting> {
+        let mut all = self.settings.to_vec();
+        if report::REPORTING.contains(&self.name) {
+            all.push(report::JSON);
+        }
+        all
+    }
+}
+
 /// All commands, in the order in which help lists them.
 pub const COMMANDS: &[Command] = &[
     demo::COMMAND,
+    status::COMMAND,
+    fix::COMMAND,
+    replace::COMMAND,
     choose::COMMAND,
     plan::COMMAND,
     store::COMMAND,
@@ -80,10 +98,15 @@ fn run_one(
     disk: &dyn Disk,
     screen: &mut Screen,
 ) -> Result<Outcome, Failure> {
-    let mut settings = rest.iter().take_while(|word| *word != "--");
-    if settings.any(|word| word == "--help" || word == "-h") {
+    let settings = || rest.iter().take_while(|word| *word != "--");
+    if settings().any(|word| word == "--help" || word == "-h") {
         help::print(command, screen);
         return Ok(Outcome::Done);
+    }
+    let known = command.all_settings();
+    let is_known = known.iter().any(|known| known.name == report::JSON.name);
+    if is_known && settings().any(|word| word == report::JSON.name) {
+        screen.begin_report();
     }
     let see = |failure| match failure {
         Failure::Usage(words) => Failure::Usage(format!(
@@ -92,9 +115,11 @@ fn run_one(
         )),
         other => other,
     };
-    Arguments::parse(rest, command.settings)
+    let ended = Arguments::parse(rest, &known)
         .and_then(|arguments| (command.run)(&arguments, disk, screen))
-        .map_err(see)
+        .map_err(see);
+    screen.end_report(report::head(command.name, &ended));
+    ended
 }
 
 fn find(name: &OsStr) -> Result<&'static Command, Failure> {

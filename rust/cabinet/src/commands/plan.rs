@@ -1,14 +1,17 @@
 //! `cabinet plan`: a layout's numbers, what it survives and what a repair costs.
 
 use super::Command;
-use crate::code::conditions::{conditions, Verdict};
+use crate::code::conditions::{conditions, Condition, Verdict};
 use crate::code::field::{Field, FIELD};
 use crate::code::numbers::Numbers;
 use crate::disk::Disk;
 use crate::drawing::layout_picture;
 use crate::failure::{Failure, Outcome};
 use crate::files::output;
+use crate::files::share_of_data::ShareOfData;
 use crate::terminal::arguments::{Arguments, Setting};
+use crate::terminal::json::Json;
+use crate::terminal::report;
 use crate::terminal::screen::{Paint, Screen};
 use crate::terminal::traffic::{self, percent};
 use crate::terminal::words::{count, grouped};
@@ -39,7 +42,15 @@ fn run(arguments: &Arguments, disk: &dyn Disk, screen: &mut Screen) -> Result<Ou
     let (layout, []) = arguments.layout_and([])?;
     let field = Field::asked(arguments)?.unwrap_or_default();
     let numbers = Numbers::of(layout, field);
+    screen.fact("layout", report::layout(layout));
+    screen.fact("field", field.number());
+    screen.fact("admissible", numbers.is_ok());
+    screen.fact(
+        "conditions",
+        Json::list(conditions(layout, field), condition_json),
+    );
     let numbers = numbers.inspect_err(|_| print_conditions(layout, field, screen))?;
+    report_numbers(&numbers, screen);
     print_numbers(&numbers, screen);
     print_survival(&numbers, screen);
     print_traffic(&numbers, screen);
@@ -50,6 +61,45 @@ fn run(arguments: &Arguments, disk: &dyn Disk, screen: &mut Screen) -> Result<Ou
         screen.line(format!("Drawn in {}", path.display()));
     }
     Ok(Outcome::Done)
+}
+
+fn condition_json(condition: Condition) -> Json {
+    let verdict = match condition.verdict {
+        Verdict::Holds => "holds",
+        Verdict::Fails => "fails",
+        Verdict::Unknown => "unknown",
+    };
+    Json::object([
+        ("rule", condition.rule.into()),
+        ("here", condition.here.into()),
+        ("verdict", verdict.into()),
+    ])
+}
+
+/// The numbers as a report has them.
+fn report_numbers(numbers: &Numbers, screen: &mut Screen) {
+    let share = ShareOfData::of_long_files(numbers, numbers.field);
+    let all = [
+        ("n", numbers.trays),
+        ("r", numbers.checks),
+        ("K", numbers.whole),
+        ("v", numbers.part),
+        ("R", numbers.parity_racks),
+        ("s", numbers.digits),
+        ("L", numbers.layers),
+        ("groups", numbers.groups),
+        ("share", numbers.groups),
+        ("at_once", numbers.lost_at_once()),
+        ("data", numbers.data()),
+        ("codeword", numbers.codeword()),
+        ("traffic", numbers.traffic),
+        ("plain", numbers.data()),
+        ("plain_crossing", numbers.plain_crossing()),
+    ];
+    all.iter()
+        .for_each(|(name, value)| screen.fact(name, *value));
+    screen.fact("symbol_bytes", numbers.field.width());
+    screen.fact("data_percent", Json::Real(share.percent()));
 }
 
 /// Each condition, and whether this layout meets it.
@@ -116,18 +166,22 @@ fn print_numbers(numbers: &Numbers, screen: &mut Screen) {
     screen.gap();
 }
 
-/// How much data there is room for, and in how much.
+/// How much data there is room for, and which share of the trays' bytes they are.
 fn print_room(numbers: &Numbers, screen: &mut Screen) {
-    let (data, codeword) = (numbers.data(), numbers.codeword());
     let kind = match numbers.field {
-        Field::Of256 => "",
-        Field::Of257 => " symbols of two bytes",
+        Field::Of256 => "bytes",
+        Field::Of257 => "symbols of two bytes",
     };
     screen.line(format!(
-        "  {} bytes of data in {}{kind} ({:.1} %)",
-        grouped(data),
-        grouped(codeword),
-        percent(data, codeword)
+        "  {} bytes of data in a codeword of {} {kind}",
+        grouped(numbers.data()),
+        grouped(numbers.codeword())
+    ));
+    let share = ShareOfData::of_long_files(numbers, numbers.field);
+    screen.line(format!(
+        "  {:.1} % of the bytes on the trays are data, in long files; labels, headers\n  \
+         and checksums count",
+        share.percent()
     ));
 }
 

@@ -14,9 +14,9 @@ use crate::files::rebuild::{Rebuild, Rebuilding};
 use crate::files::segment::Segment;
 use crate::files::survey::Survey;
 use crate::terminal::arguments::{Arguments, Setting};
-use crate::terminal::progress;
 use crate::terminal::screen::{Paint, Screen};
 use crate::terminal::words::trays;
+use crate::terminal::{progress, report};
 use gesarumbo::{checksum, Tray};
 use std::path::Path;
 
@@ -94,7 +94,8 @@ struct Recovery<'a> {
     left: u64,
 }
 
-fn recover<S: Symbol>(
+/// Brings back all trays that are missing, wrong or named.
+pub fn recover<S: Symbol>(
     cabinet: &Cabinet,
     named: &[Tray],
     insists: bool,
@@ -197,6 +198,10 @@ impl Recovery<'_> {
     }
 
     fn report(&self, erased: &[Tray], screen: &mut Screen) -> Outcome {
+        screen.fact("cabinet", report::cabinet(self.cabinet));
+        screen.fact("written", report::trays(erased));
+        screen.fact("held_against", report::held(self.held));
+        screen.fact("faults", self.faults.json());
         let (words, outcome) = match self.held {
             Held::Nothing => {
                 let words = screen.paint(Paint::Warning, "not tested");

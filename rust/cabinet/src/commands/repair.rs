@@ -8,13 +8,15 @@ use crate::disk::Disk;
 use crate::failure::{Failure, Outcome};
 use crate::files::cabinet::Cabinet;
 use crate::files::description;
+use crate::files::survey::Survey;
+use crate::repair::helpers::helpers;
 use crate::repair::in_groups::{is_full_set, GroupRepair, Means};
 use crate::repair::shares::Shares;
 use crate::repair::stripe_repair::{judge, judge_correcting};
 use crate::repair::{card, checkpoint_path, correcting, Repair, SPARE};
 use crate::terminal::arguments::{needed, Arguments, Setting};
-use crate::terminal::progress;
 use crate::terminal::screen::Screen;
+use crate::terminal::{progress, report};
 use gesarumbo::{Rack, Tray};
 use std::path::Path;
 
@@ -23,7 +25,11 @@ const LOST: Setting = Setting::with(
     "X,Y,..",
     "the trays to bring back, rising; their own images are not looked at",
 );
-const HELPERS: Setting = Setting::with("--helpers", "a,b,..", "d other racks, rising");
+const HELPERS: Setting = Setting::with(
+    "--helpers",
+    "a,b,..",
+    "d other racks, rising; if not given, those of the checkpoint, else the first d that are sound",
+);
 const SHARE: Setting = Setting::with(
     "--share",
     "FILE",
@@ -67,22 +73,24 @@ pub const COMMAND: Command = Command {
 };
 
 const HELP: &str = "\
-cabinet repair DIR --lost X,Y,.. --helpers a,b,.. [--share FILE]..
+cabinet repair DIR --lost X,Y,.. [--helpers a,b,..] [--share FILE]..
                [--first G] [--budget N] [--card FILE].. [--spare FILE]
 
 Brings back tray X, or up to u - v trays of one rack, from the shares of d
 helper racks and the other trays of their rack, some groups at a time, stripe
-after stripe. From time to time, and where the budget ends, a checkpoint keeps
-the spare of the stripe under repair and the groups done, so a repair that is
-broken off goes on where it ended, and looks at all that it has written before.
-When all groups of a stripe are done, the trays are tested with all others that
-are there; where these leave nothing to test by, it says so (16). Where trays of
-a stripe are wrong and code and checksums can tell which, the stripe is put
-right and they are named (17); else no file is replaced (65). When all stripes
-are done, the new files take the old ones' places, if the cabinet is still the
-one that the repair began with, and the checkpoint is removed. A group of one
-lost tray can be done by a card, whoever has printed it: a card that is not
-right for the group is refused (15).
+after stripe. Where no helpers are named, they are the first d racks all of
+whose trays are live; cabinet fix finds out what is lost by itself. From time to
+time, and where the budget ends, a checkpoint keeps the spare of the stripe
+under repair and the groups done, so a repair that is broken off goes on where
+it ended, and looks at all that it has written before. When all groups of a
+stripe are done, the trays are tested with all others that are there; where
+these leave nothing to test by, it says so (16). Where trays of a stripe are
+wrong and code and checksums can tell which, the stripe is put right and they
+are named (17); else no file is replaced (65). When all stripes are done, the
+new files take the old ones' places, if the cabinet is still the one that the
+repair began with, and the checkpoint is removed. A group of one lost tray can
+be done by a card, whoever has printed it: a card that is not right for the
+group is refused (15).
 
 In a cabinet with E = 1 one of the d shares may be wrong. One tray is brought
 back, all groups of a stripe at once: the tray is right all the same, and the
@@ -92,7 +100,9 @@ repair is refused (14).
 
 /// What the command line asks for.
 struct Asked {
-    repair: Repair,
+    lost: Vec<Tray>,
+    /// The helpers, if they are named.
+    helpers: Option<Vec<Rack>>,
     first: Option<u64>,
     budget: u64,
 }
@@ -100,15 +110,42 @@ struct Asked {
 impl Asked {
     fn read(arguments: &Arguments) -> Result<Asked, Failure> {
         let lost = needed(LOST, arguments.list(LOST)?)?;
-        let helpers = needed(HELPERS, arguments.list(HELPERS)?)?;
+        let helpers = arguments.list(HELPERS)?;
+        if helpers.is_none() && arguments.has(SHARE) {
+            let words = format!("{} needs {}", SHARE.name, HELPERS.name);
+            return Err(Failure::Usage(words));
+        }
         Ok(Asked {
-            repair: Repair {
-                lost: lost.into_iter().map(Tray::new).collect(),
-                helpers: helpers.into_iter().map(Rack::new).collect(),
-            },
+            lost: lost.into_iter().map(Tray::new).collect(),
+            helpers: helpers.map(|racks| racks.into_iter().map(Rack::new).collect()),
             first: arguments.number(FIRST)?,
             budget: arguments.number(BUDGET)?.unwrap_or(u64::MAX),
         })
+    }
+
+    /// The repair, with helpers that are sound where none are named.
+    fn repair<S: Symbol>(
+        &self,
+        cabinet: &Cabinet,
+        arguments: &Arguments,
+    ) -> Result<Repair, Failure> {
+        let lost = self.lost.clone();
+        if let Some(helpers) = self.helpers.clone() {
+            return Ok(Repair { lost, helpers });
+        }
+        // What is wrong with the trays themselves the library says first.
+        let any = Repair {
+            lost: lost.clone(),
+            helpers: cabinet.numbers.first_helpers(&lost),
+        };
+        match cabinet.numbers.errors {
+            0 => judge::<S>(&cabinet.numbers, &any, 0)?,
+            _ => judge_correcting::<S>(&cabinet.numbers, &any)?,
+        }
+        let path = checkpoint_path(arguments, cabinet, &lost)?;
+        let survey = Survey::of::<S>(cabinet, &mut Screen::silent())?;
+        let helpers = helpers(cabinet, &survey, &lost, &path)?;
+        Ok(Repair { lost, helpers })
     }
 }
 
@@ -128,18 +165,23 @@ fn repair<S: Symbol>(
     arguments: &Arguments,
     screen: &mut Screen,
 ) -> Result<Outcome, Failure> {
-    match asked.repair.lost[..] {
-        [_] if cabinet.numbers.errors > 0 && !arguments.has(CARD) => {
-            at_once::<S>(cabinet, asked, arguments, screen)
+    let repair = asked.repair::<S>(cabinet, arguments)?;
+    let lost = repair.lost.len();
+    screen.fact("cabinet", report::cabinet(cabinet));
+    screen.fact("lost", report::trays(&repair.lost));
+    screen.fact("helpers", report::racks(&repair.helpers));
+    match lost {
+        1 if cabinet.numbers.errors > 0 && !arguments.has(CARD) => {
+            at_once::<S>(cabinet, &repair, arguments, screen)
         }
-        _ => in_groups::<S>(cabinet, asked, arguments, screen),
+        _ => in_groups::<S>(cabinet, asked, &repair, arguments, screen),
     }
 }
 
 /// One tray, though a share may be wrong.
 fn at_once<S: Symbol>(
     cabinet: &Cabinet,
-    asked: &Asked,
+    repair: &Repair,
     arguments: &Arguments,
     screen: &mut Screen,
 ) -> Result<Outcome, Failure> {
@@ -147,18 +189,19 @@ fn at_once<S: Symbol>(
         let words = format!("{}: with E = 1 all groups are done at once", setting.name);
         return Err(Failure::Usage(words));
     }
-    judge_correcting::<S>(&cabinet.numbers, &asked.repair)?;
-    let shares = Shares::open::<S>(cabinet, &asked.repair, &arguments.values(SHARE))?;
-    correcting::repair::<S>(cabinet, &asked.repair, shares, screen)
+    judge_correcting::<S>(&cabinet.numbers, repair)?;
+    let shares = Shares::open::<S>(cabinet, repair, &arguments.values(SHARE))?;
+    correcting::repair::<S>(cabinet, repair, shares, screen)
 }
 
 fn in_groups<S: Symbol>(
     cabinet: &Cabinet,
     asked: &Asked,
+    repair: &Repair,
     arguments: &Arguments,
     screen: &mut Screen,
 ) -> Result<Outcome, Failure> {
-    let (repair, total) = (&asked.repair, total(cabinet));
+    let total = total(cabinet);
     // Within all stripes a first group is never too large for the library, past them it always is.
     let past = asked.first.filter(|first| *first > total);
     judge::<S>(&cabinet.numbers, repair, past.unwrap_or(0))?;
@@ -183,6 +226,10 @@ fn in_groups<S: Symbol>(
     if work.is_whole() {
         return work.finish(screen);
     }
+    screen.fact("whole", false);
+    screen.fact("groups_done", work.position());
+    screen.fact("groups", total);
+    screen.fact("checkpoint", report::path(work.path()));
     let place = work.path().display();
     screen.line(format!(
         "  the spare is kept in {place}; repair goes on with it"

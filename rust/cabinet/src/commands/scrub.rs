@@ -9,10 +9,10 @@ use crate::failure::{Failure, Outcome};
 use crate::files::cabinet::Cabinet;
 use crate::files::{checkpoint, description, output};
 use crate::scrub::verdict::conclude;
-use crate::scrub::{self, Scrub};
+use crate::scrub::{self, record, Scrub};
 use crate::terminal::arguments::{Arguments, Setting};
 use crate::terminal::screen::Screen;
-use crate::terminal::scrub_map;
+use crate::terminal::{report, scrub_map};
 use std::path::{Path, PathBuf};
 
 const BUDGET: Setting = Setting::with(
@@ -98,9 +98,12 @@ fn scrub<S: Symbol>(
     show(arguments, cabinet, &scrub, screen)?;
     if scrub.is_over() {
         scrub.discard()?;
+        record::write(&scrub, cabinet, screen);
         return conclude(&scrub, cabinet, screen);
     }
     scrub.save()?;
+    scrub.report(screen);
+    screen.fact("checkpoint", report::path(scrub.path()));
     let place = scrub.path().display();
     screen.line(format!(
         "  the checkpoint is kept in {place}; scrub goes on with it"

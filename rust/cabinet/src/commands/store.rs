@@ -11,6 +11,7 @@ use crate::files::description::{Description, Format};
 use crate::files::geometry::many;
 use crate::storing::store;
 use crate::terminal::arguments::{needed, Arguments, Setting};
+use crate::terminal::report;
 use crate::terminal::screen::Screen;
 use crate::terminal::words::{count, grouped};
 use gesarumbo::{checksum, Refusal};
@@ -80,7 +81,7 @@ fn run(arguments: &Arguments, disk: &dyn Disk, screen: &mut Screen) -> Result<Ou
     }
     let cabinet = Cabinet::new(disk, Path::new(folder), description)?;
     let replace = arguments.has(REPLACE);
-    in_field!(field, store(cabinet, &mut data, replace, screen))?;
+    let description = in_field!(field, store(cabinet, &mut data, replace, screen))?;
     let cabinet = Cabinet::new(disk, Path::new(folder), description)?;
     report(&cabinet, length, screen);
     Ok(Outcome::Done)
@@ -136,6 +137,9 @@ impl Read for Input {
 fn report(cabinet: &Cabinet, stored: u64, screen: &mut Screen) {
     let (numbers, stripes) = (&cabinet.numbers, cabinet.description.stripes);
     let room = numbers.data() as u64 * u64::from(stripes);
+    screen.fact("cabinet", report::cabinet(cabinet));
+    screen.fact("bytes", stored);
+    screen.fact("room", room);
     screen.line(format!(
         "  {} bytes stored, {} fit: {} zeros added",
         grouped(stored as usize),

@@ -3,18 +3,12 @@
 //! It shows a tray lost in rack 0, with racks 1 to d as helpers.
 
 use crate::code::numbers::Numbers;
-use crate::drawing::frame::{self, EDGE, INNER, TOP};
+use crate::drawing::frame::{self, EDGE, INNER};
+use crate::drawing::grid::{Grid, GAP, NAME};
 use crate::drawing::svg::Svg;
 use crate::terminal::traffic::{self, percent};
 use crate::terminal::words::{count, grouped};
 use gesarumbo::{Rack, Tray};
-
-/// Racks in a row of the picture.
-const MOST_IN_ROW: usize = 12;
-
-/// A rack's name above its trays.
-const NAME: usize = 28;
-const GAP: usize = 4;
 
 /// From the racks down to the line on which shares travel, and to the next row.
 const DROP: usize = 54;
@@ -55,7 +49,7 @@ const MARKS: &str = "\
 
 /// The whole picture.
 pub fn draw(numbers: &Numbers) -> String {
-    let grid = Grid::new(numbers);
+    let grid = Grid::new(numbers, ROW_GAP);
     let title = format!("Cabinet {}", numbers.name());
     let height = grid.bottom() + PANEL;
     let mut svg = frame::begin(height, &title, &words(numbers));
@@ -70,62 +64,9 @@ pub fn draw(numbers: &Numbers) -> String {
     frame::end(svg, height, &title, STYLE, MARKS)
 }
 
-/// Where the racks stand.
-struct Grid {
-    in_row: usize,
-    rows: usize,
-    left: usize,
-    step: usize,
-    rack_width: usize,
-    rack_height: usize,
-    tray_height: usize,
-}
-
-impl Grid {
-    fn new(numbers: &Numbers) -> Grid {
-        let rows = numbers.racks.div_ceil(MOST_IN_ROW);
-        let in_row = numbers.racks.div_ceil(rows);
-        let step = (INNER / in_row).min(208);
-        let tray_height = match numbers.size {
-            1 => 40,
-            2..=5 => 32,
-            _ => 18,
-        };
-        Grid {
-            in_row,
-            rows,
-            left: EDGE + (INNER - step * in_row) / 2,
-            step,
-            rack_width: step - step / 7,
-            rack_height: NAME + numbers.size * (tray_height + GAP) + GAP,
-            tray_height,
-        }
-    }
-
-    fn row(&self, rack: usize) -> usize {
-        rack / self.in_row
-    }
-
-    /// A rack's upper left corner.
-    fn corner(&self, rack: usize) -> [usize; 2] {
-        let x = self.left + (rack % self.in_row) * self.step + (self.step - self.rack_width) / 2;
-        [x, TOP + self.row(rack) * (self.rack_height + ROW_GAP)]
-    }
-
-    /// The middle of a rack's lower side.
-    fn foot(&self, rack: usize) -> [usize; 2] {
-        let [x, y] = self.corner(rack);
-        [x + self.rack_width / 2, y + self.rack_height]
-    }
-
-    /// The height of the line on which the shares of a row travel.
-    fn way(&self, row: usize) -> usize {
-        TOP + row * (self.rack_height + ROW_GAP) + self.rack_height + DROP
-    }
-
-    fn bottom(&self) -> usize {
-        TOP + self.rows * (self.rack_height + ROW_GAP)
-    }
+/// The height of the line on which the shares of a row travel.
+fn way_of(grid: &Grid, row: usize) -> usize {
+    grid.row_end(row) + DROP
 }
 
 fn role(numbers: &Numbers, rack: usize) -> &'static str {
@@ -179,14 +120,17 @@ fn draw_ways(numbers: &Numbers, grid: &Grid, svg: &mut Svg) {
     let [host, host_foot] = grid.foot(0);
     for rack in 1..=numbers.helpers {
         let [x, y] = grid.foot(rack);
-        let way = grid.way(grid.row(rack));
+        let way = way_of(grid, grid.row(rack));
         let turn = if grid.row(rack) == 0 { host } else { trunk };
         svg.line("way", &[[x, y], [x, way], [turn, way]]);
     }
-    let way = grid.way(0);
+    let way = way_of(grid, 0);
     let last = grid.row(numbers.helpers);
     if last > 0 {
-        svg.line("way", &[[trunk, grid.way(last)], [trunk, way], [host, way]]);
+        svg.line(
+            "way",
+            &[[trunk, way_of(grid, last)], [trunk, way], [host, way]],
+        );
     }
     svg.line("arrow", &[[host, way], [host, host_foot + HEAD]]);
     for rack in 1..=numbers.helpers {

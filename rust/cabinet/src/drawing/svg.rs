@@ -64,11 +64,13 @@ impl Svg {
     }
 }
 
-fn escape(words: &str) -> String {
+/// Words as XML and HTML have them, in quotes too.
+pub fn escape(words: &str) -> String {
     words
         .replace('&', "&amp;")
         .replace('<', "&lt;")
         .replace('>', "&gt;")
+        .replace('"', "&quot;")
 }
 
 #[cfg(test)]

@@ -6,9 +6,10 @@ use super::mend::Mended;
 use super::segment::Segment;
 use crate::code::symbol::Symbol;
 use crate::files::cabinet::Cabinet;
-use crate::terminal::runs;
+use crate::terminal::json::Json;
 use crate::terminal::screen::{Paint, Screen};
 use crate::terminal::words::hanging;
+use crate::terminal::{report, runs};
 use gesarumbo::Tray;
 use std::collections::BTreeMap;
 use std::ops::Range;
@@ -126,6 +127,40 @@ impl Faults {
             [tray] => format!("tray {tray}"),
             _ => format!("trays {}", trays.join(", ")),
         }
+    }
+
+    /// The trays whose label cannot be read, which the line does not have.
+    pub fn labels(&self) -> &[Tray] {
+        &self.labels
+    }
+
+    /// The same faults, with these trays' labels.
+    pub fn with_labels(self, labels: Vec<Tray>) -> Faults {
+        Faults { labels, ..self }
+    }
+
+    /// The faults as a report has them.
+    pub fn json(&self) -> Json {
+        let kinds = [
+            ("wrong_symbols", &self.wrong),
+            ("wrong_checksum", &self.unsummed),
+            ("unsure", &self.unsure),
+        ];
+        let fault = |kind: &'static str, tray: u32, runs: &[Range<u64>]| {
+            Json::object([
+                ("tray", tray.into()),
+                ("fault", kind.into()),
+                ("stripes", report::runs(runs)),
+            ])
+        };
+        let mut all = Vec::new();
+        for (kind, by_tray) in kinds {
+            let of_kind = by_tray.iter();
+            all.extend(of_kind.map(|(tray, runs)| fault(kind, *tray, runs)));
+        }
+        let labels = self.labels.iter();
+        all.extend(labels.map(|tray| fault("label", tray.number(), &[])));
+        Json::List(all)
     }
 
     /// The faults as a checkpoint has them, in a line.

@@ -4,6 +4,8 @@
 use super::description::Description;
 use super::geometry::HEADER;
 use crate::code::field::Field;
+use crate::terminal::json::Json;
+use crate::terminal::report;
 use gesarumbo::{Layout, Tray, DEMONSTRATION, LIVE};
 
 /// The header's numbers, whatever they are.
@@ -59,6 +61,24 @@ impl Header {
             format!("symbols   {} from byte {}", self.long(20), self.long(16)),
             format!("unused    {unused:?}"),
         ]
+    }
+
+    /// The header as a report has it.
+    pub fn json(&self) -> Json {
+        let Description { layout, volume, .. } = self.claimed();
+        let state = match self.0[3] {
+            LIVE => "live",
+            DEMONSTRATION => "demonstration",
+            _ => "unknown",
+        };
+        Json::object([
+            ("edition", self.0[2].into()),
+            ("state", state.into()),
+            ("layout", report::layout(layout)),
+            ("tray", self.0[8].into()),
+            ("volume", volume.into()),
+            ("symbols", self.long(20).into()),
+        ])
     }
 
     fn state(&self) -> String {

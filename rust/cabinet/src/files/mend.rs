@@ -71,9 +71,16 @@ pub fn union(one: &[Tray], other: &[Tray]) -> Vec<Tray> {
 fn correct<S: Symbol>(stripe: &Stripe<S>, erased: &[Tray]) -> Result<Mended<S>, Failure> {
     let cabinet = stripe.cabinet;
     let mut codeword = stripe.codeword.clone();
-    let about = format!("recovery of {} trays", erased.len());
+    let about = |refusal| {
+        let known = match refusal {
+            Refusal::Count => format!(": any {} may be lost", cabinet.numbers.checks),
+            _ => String::new(),
+        };
+        let about = format!("recovery of {} trays{known}", erased.len());
+        Failure::refused(about)(refusal)
+    };
     let done = (S::CALLS.recover_correcting)(cabinet.description.layout, &mut codeword, erased)
-        .map_err(Failure::refused(about))?;
+        .map_err(about)?;
     let held = match done.checks {
         0 if cabinet.geometry.has_checksums() => Held::Checksums,
         0 => Held::Nothing,

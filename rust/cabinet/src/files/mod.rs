@@ -15,8 +15,10 @@ pub mod mend;
 pub mod output;
 pub mod rebuild;
 pub mod segment;
+pub mod share_of_data;
 pub mod stripe;
 pub mod survey;
+pub mod tasks;
 pub mod trouble;
 
 use crate::disk::{read_part, Disk, Handle};

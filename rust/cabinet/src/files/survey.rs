@@ -78,6 +78,9 @@ pub struct Survey {
     pub rotten: Vec<Tray>,
     /// The trays that may not be read by this command.
     pub closed: Vec<(Tray, String)>,
+    /// By tray: what stands at its place in the first segment where it is not live, and the stripes
+    /// of that.
+    pub first: Vec<Option<(Found, Range<u32>)>>,
     /// The least margin of a segment.
     pub margin: i32,
     /// The stripes of the first segment with it.
@@ -104,6 +107,7 @@ impl Survey {
             kinds: segment.kinds(),
             rotten: Vec::new(),
             closed: Vec::new(),
+            first: vec![None; segment.found.len()],
             margin: i32::MAX,
             worst: segment.stripes.clone(),
         };
@@ -125,6 +129,11 @@ impl Survey {
                     self.closed.push((tray, words.clone()));
                 }
                 _ => {}
+            }
+        }
+        for (first, found) in self.first.iter_mut().zip(&segment.found) {
+            if first.is_none() && *found != Found::Live {
+                *first = Some((found.clone(), segment.stripes.clone()));
             }
         }
         let margin = margin::<S>(segment.cabinet, &kinds)?;

@@ -56,6 +56,9 @@ pub fn repair<S: Symbol>(
     work.tally.faults.say(cabinet, screen);
     say_recovered(work.tally.recovered, screen);
     work.rebuild.publish()?;
+    work.tally.report(screen);
+    let stripes = cabinet.description.stripes as usize;
+    screen.fact("crossed", cabinet.numbers.traffic * stripes);
     say_fit(cabinet, repair.lost[0], &work.tally, screen);
     Ok(work.tally.outcome())
 }

@@ -253,6 +253,12 @@ impl<'a, S: Symbol> GroupRepair<'a, S> {
         self.tally.faults.say(self.cabinet, screen);
         say_recovered(self.tally.recovered, screen);
         self.rebuild.publish()?;
+        self.tally.report(screen);
+        let crossed = self.repair.lost.len() * self.cabinet.numbers.traffic;
+        screen.fact(
+            "crossed",
+            crossed * self.cabinet.description.stripes as usize,
+        );
         screen.line(format!("  {names} {are} whole; {tested}"));
         Ok(outcome)
     }

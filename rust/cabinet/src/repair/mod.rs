@@ -2,6 +2,7 @@
 
 pub mod card;
 pub mod correcting;
+pub mod helpers;
 pub mod in_groups;
 mod meter;
 pub mod reading;
@@ -9,6 +10,7 @@ pub mod ready;
 pub mod shares;
 pub mod stripe_repair;
 pub mod tally;
+pub mod whole;
 
 use crate::failure::Failure;
 use crate::files::cabinet::Cabinet;

@@ -1,7 +1,7 @@
 //! The repair of one stripe's lost trays over a spare, some groups at a time, or all at once where a
 //! share may be wrong.
 
-use super::Repair;
+use super::{helpers, Repair};
 use crate::code::numbers::Numbers;
 use crate::code::symbol::Symbol;
 use crate::failure::Failure;
@@ -95,7 +95,11 @@ impl<'a, S: Symbol> StripeRepair<'a, S> {
     }
 
     fn answered<T>(&self, done: Result<T, Refusal>) -> Result<T, Failure> {
-        let (names, _) = self.repair.names();
-        done.map_err(Failure::refused(format!("repair of {names}")))
+        done.map_err(|refusal| {
+            let (names, _) = self.repair.names();
+            let known = helpers::known(&self.numbers, self.repair, refusal);
+            let known = known.map(|words| format!(": {words}")).unwrap_or_default();
+            Failure::refused(format!("repair of {names}{known}"))(refusal)
+        })
     }
 }

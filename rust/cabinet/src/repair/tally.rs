@@ -3,6 +3,7 @@
 use crate::failure::Outcome;
 use crate::files::cabinet::Cabinet;
 use crate::files::faults::Faults;
+use crate::terminal::json::Json;
 use crate::terminal::screen::{Paint, Screen};
 use crate::terminal::words::count;
 use gesarumbo::Rack;
@@ -59,6 +60,20 @@ impl Tally {
             some => format!(" in {some} of {}", count(stripes as usize, "stripe")),
         };
         format!("not tested{place}: no tray to spare")
+    }
+
+    /// The tally as a report has it.
+    pub fn report(&self, screen: &mut Screen) {
+        let racks = |counts: &BTreeMap<u32, u32>| {
+            Json::list(counts, |(rack, stripes)| {
+                Json::object([("rack", (*rack).into()), ("stripes", (*stripes).into())])
+            })
+        };
+        screen.fact("whole", true);
+        screen.fact("stripes_untested", self.untested);
+        screen.fact("stripes_recovered", self.recovered);
+        screen.fact("wrong_shares", racks(&self.wrong));
+        screen.fact("faults", self.faults.json());
     }
 
     /// The tally as a checkpoint has it, in two lines.

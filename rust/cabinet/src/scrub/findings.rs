@@ -2,6 +2,8 @@
 //! for some stripes, which says whether one is bad.
 
 use crate::files::cabinet::Cabinet;
+use crate::terminal::json::Json;
+use crate::terminal::screen::Screen;
 use crate::terminal::words::{count, grouped};
 use std::ops::Range;
 
@@ -40,7 +42,7 @@ pub struct Findings {
     /// Layers looked at, of all stripes together.
     pub at: u64,
     /// How many of them are bad.
-    bad: u64,
+    pub bad: u64,
     /// The first of these: its stripe, and the layer there.
     first: (u32, u32),
     /// The cells with a bad layer, rising.
@@ -165,6 +167,16 @@ impl Findings {
     pub fn words(&self) -> String {
         let (at, layers) = (grouped(self.at as usize), self.layer_count());
         format!("{at} of {layers} layers looked at: {}", self.bad_words())
+    }
+
+    /// The findings as a report has them.
+    pub fn report(&self, screen: &mut Screen) {
+        let (stripe, layer) = self.first;
+        let first = Json::object([("stripe", stripe.into()), ("layer", layer.into())]);
+        screen.fact("layers", self.stripes * self.layers);
+        screen.fact("looked_at", self.at);
+        screen.fact("bad", self.bad);
+        screen.fact("first_bad", Some(first).filter(|_| self.bad > 0));
     }
 
     /// The findings as a checkpoint has them.

@@ -2,6 +2,7 @@
 
 pub mod examined;
 pub mod findings;
+pub mod record;
 pub mod verdict;
 
 use crate::code::symbol::Symbol;
@@ -12,6 +13,7 @@ use crate::files::description::Format;
 use crate::files::faults::Faults;
 use crate::files::survey::Unused;
 use crate::terminal::progress::{self, Run};
+use crate::terminal::report;
 use crate::terminal::screen::Screen;
 use examined::Examined;
 use findings::Findings;
@@ -248,6 +250,15 @@ impl<'a> Scrub<'a> {
         };
         self.unsaved = 0;
         checkpoint.write(self.cabinet.disk, &self.path)
+    }
+
+    /// What is found so far, as a report has it.
+    pub fn report(&self, screen: &mut Screen) {
+        screen.fact("cabinet", report::cabinet(self.cabinet));
+        self.findings.report(screen);
+        screen.fact("checks", self.checks);
+        screen.fact("unused", report::trays(&self.unused));
+        screen.fact("faults", self.faults.json());
     }
 
     /// Removes the checkpoint: the scrub is over.

@@ -9,6 +9,7 @@ use crate::terminal::words::{hanging, trays};
 /// Says what was found: bad layers and wrong trays are a failure, trays that are missing are not
 /// tested.
 pub fn conclude(scrub: &Scrub, cabinet: &Cabinet, screen: &mut Screen) -> Result<Outcome, Failure> {
+    scrub.report(screen);
     scrub.faults.say(cabinet, screen);
     if !scrub.findings.is_sound() {
         return Err(Failure::Contents(scrub.findings.conclusion()));

@@ -87,6 +87,7 @@ pub fn writing() -> Vec<Scene> {
     let mut scenes = stores();
     scenes.extend(repairs());
     scenes.extend(recoveries());
+    scenes.extend(fixes());
     scenes
 }
 
@@ -151,6 +152,26 @@ fn recoveries() -> Vec<Scene> {
     ]
 }
 
+fn fixes() -> Vec<Scene> {
+    let one_lost = || without(racks(), "c/tray-01.img");
+    let begun = after(one_lost(), "repair c --lost 1 --budget 9");
+    let left = after(one_lost(), "repair c --lost 1 --budget 9");
+    let left = after(left, "recover c");
+    let two_racks = poked(one_lost(), "c/tray-07.img", 570);
+    let rotten = poked(racks(), "c/tray-07.img", 570);
+    vec![
+        scene("a fix by a recovery", lost(), "fix c", 0),
+        scene("a fix by shares", one_lost(), "fix c", 0),
+        scene("a fix that goes on", begun, "fix c", 0),
+        scene("a fix that clears away", left, "fix c", 0),
+        scene("a fix of two racks", two_racks, "fix c", 17),
+        scene("a fix of a wrong tray by shares", rotten, "fix c", 17),
+        scene("a fix of nothing", small(), "fix c", 0),
+        scene("a tray replaced", racks(), "replace c 4", 0),
+        scene("a tray replaced by a recovery", small(), "replace c 1", 0),
+    ]
+}
+
 /// Lines that read a cabinet, and write other files.
 pub fn reading() -> Vec<Scene> {
     let mut scenes = tests();
@@ -167,6 +188,7 @@ fn tests() -> Vec<Scene> {
         scene("a piece of a scrub", small(), "scrub c --budget 11", 0),
         scene("a scrub that goes on", scrubbed, "scrub c", 0),
         scene("a margin", small(), "margin c", 0),
+        scene("a status", lost(), "status c", 0),
         scene("an inspection", small(), "inspect c/tray-01.img", 0),
     ]
 }
@@ -178,6 +200,7 @@ fn outputs() -> Vec<Scene> {
     let read = "read c --tray 1 --lost 1 --layers 0..8 --out part";
     let card = "card print 3 1 1 2 --lost 1 --helpers 0,2 --group 1 card";
     let plan = "plan 3 1 1 2 --svg picture";
+    let status = "status c --svg picture";
     vec![
         with_output(scene("a get", small(), get, 0), "back"),
         with_output(scene("a get around a fault", wrong(), get, 17), "back"),
@@ -186,6 +209,8 @@ fn outputs() -> Vec<Scene> {
         with_output(scene("a read", begun, read, 0), "part"),
         with_output(scene("a card", small(), card, 0), "card"),
         with_output(scene("a picture", small(), plan, 0), "picture"),
+        // What it draws is what it could read.
+        scene("a drawn status", small(), status, 0),
     ]
 }
 

@@ -2,7 +2,6 @@
 //! gets its name when all are whole.
 
 use crate::code::symbol::{from_data, Symbol};
-use crate::commands::recover;
 use crate::disk::{folder_of, Disk, Hold};
 use crate::failure::Failure;
 use crate::files;
@@ -12,6 +11,7 @@ use crate::files::description::{Description, NAME};
 use crate::files::draft::{self, work_name, Draft};
 use crate::files::interleave::together;
 use crate::files::label::{Label, SIZE};
+use crate::files::tasks;
 use crate::scrub;
 use crate::terminal::progress;
 use crate::terminal::screen::Screen;
@@ -20,14 +20,14 @@ use std::io::Read;
 use std::path::Path;
 
 /// Stores data of the length and checksum that the cabinet's description says, in its folder, which
-/// is made if need be.
+/// is made if need be, and gives the description that the labels have.
 /// Without `replace` no cabinet may be there, but for one that a cut store of the same data left.
 pub fn store<S: Symbol>(
     mut cabinet: Cabinet,
     data: &mut dyn Read,
     replace: bool,
     screen: &mut Screen,
-) -> Result<(), Failure> {
+) -> Result<Description, Failure> {
     judge::<S>(&cabinet)?;
     let (disk, folder) = (cabinet.disk, cabinet.folder().to_path_buf());
     let is_new = disk
@@ -48,7 +48,7 @@ pub fn store<S: Symbol>(
         // Nothing is in it, and where it is not empty all the same, it stays.
         let _ = disk.remove_folder(&folder);
     }
-    stored
+    stored.map(|()| cabinet.description)
 }
 
 /// Lets the library judge the numbers: an image of zeros.
@@ -187,15 +187,12 @@ fn write_labels(cabinet: &Cabinet, drafts: &mut [Draft]) -> Result<(), Failure> 
     Ok(())
 }
 
-/// Removes the checkpoints and work files of repairs, recoveries and scrubs that were cut: they are
-/// of other trays.
+/// Removes the checkpoints and work files of repairs, recoveries and scrubs that were cut, and the
+/// record of the last scrub: they are of other trays.
 fn forget_cut_tasks(disk: &dyn Disk, folder: &Path) -> Result<(), Failure> {
     let is_of_one = |name: &str| {
-        let name = name.trim_start_matches('.').trim_end_matches(".new");
-        let of_tray = name.starts_with("tray-");
-        let kept = [".spare", ".img.repair", ".img.recover"];
-        let kept = kept.iter().any(|end| name.ends_with(end));
-        (of_tray && kept) || [recover::NAME, scrub::NAME].contains(&name)
+        let of_scrub = [scrub::NAME, scrub::record::NAME].contains(&tasks::bare(name));
+        of_scrub || tasks::is_of_rebuild(name)
     };
     for name in disk.list(folder).map_err(Failure::file(folder))? {
         if name.to_str().is_some_and(is_of_one) {

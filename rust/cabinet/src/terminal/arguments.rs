@@ -213,7 +213,7 @@ pub fn number<T: FromStr>(name: &str, word: &OsStr) -> Result<T, Failure> {
 }
 
 /// Numbers with commas between; an empty word is an empty list.
-fn list(name: &str, word: &OsStr) -> Result<Vec<u32>, Failure> {
+pub fn list(name: &str, word: &OsStr) -> Result<Vec<u32>, Failure> {
     match word.to_str() {
         Some("") => Ok(Vec::new()),
         Some(text) => text

@@ -61,7 +61,8 @@ _cabinet() {{
 ",
         names().join(" ")
     );
-    for Command { name, settings, .. } in COMMANDS {
+    for command in COMMANDS {
+        let (name, settings) = (command.name, command.all_settings());
         let all: Vec<&str> = settings.iter().map(|setting| setting.name).collect();
         let values: Vec<&str> = settings
             .iter()
@@ -117,10 +118,10 @@ _cabinet() {
     case $name in
 ",
     );
-    for Command { name, settings, .. } in COMMANDS {
-        text.push_str(&format!("    {name}) _arguments"));
-        for setting in *settings {
-            text.push_str(&format!(" \\\n        {}", zsh_setting(setting)));
+    for command in COMMANDS {
+        text.push_str(&format!("    {}) _arguments", command.name));
+        for setting in command.all_settings() {
+            text.push_str(&format!(" \\\n        {}", zsh_setting(&setting)));
         }
         text.push_str(" \\\n        '*:file:_files' ;;\n");
     }
@@ -149,13 +150,8 @@ fn quoted(text: &str) -> String {
 fn fish() -> String {
     let mut text = String::from("# completion of cabinet for fish\n");
     let first = "__fish_use_subcommand";
-    for Command {
-        name,
-        summary,
-        settings,
-        ..
-    } in COMMANDS
-    {
+    for command in COMMANDS {
+        let (name, summary) = (command.name, command.summary);
         text.push_str(&format!(
             "complete -c cabinet -n {first} -f -a {name} -d '{}'\n",
             fish_quoted(summary)
@@ -163,8 +159,8 @@ fn fish() -> String {
         text.push_str(&format!(
             "complete -c cabinet -n '__fish_seen_subcommand_from help' -f -a {name}\n"
         ));
-        for setting in *settings {
-            let value = match (setting.value, names_a_file(setting)) {
+        for setting in command.all_settings() {
+            let value = match (setting.value, names_a_file(&setting)) {
                 (None, _) => "",
                 (Some(_), true) => " -r -F",
                 (Some(_), false) => " -x",

@@ -51,7 +51,7 @@ pub fn print(command: &Command, screen: &mut Screen) {
     screen.heading(format!("cabinet {}: {}", command.name, command.summary));
     screen.gap();
     screen.line(command.help);
-    for setting in command.settings {
+    for setting in command.all_settings() {
         let head = format!("{} {}", setting.name, setting.value.unwrap_or_default());
         screen.line(hanging(&format!("  {head:<22}"), setting.words));
     }

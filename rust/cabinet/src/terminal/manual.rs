@@ -38,10 +38,11 @@ pub fn of(command: &Command) -> String {
     page.verbatim(synopsis);
     page.section("DESCRIPTION");
     page.paragraphs(description);
-    if !command.settings.is_empty() {
+    let settings = command.all_settings();
+    if !settings.is_empty() {
         page.section("SETTINGS");
     }
-    for setting in command.settings {
+    for setting in settings {
         let head = format!("{} {}", setting.name, setting.value.unwrap_or_default());
         page.item(head.trim_end(), setting.words);
     }

@@ -2,13 +2,17 @@
 
 pub mod arguments;
 pub mod cabinet_map;
+pub mod clock;
 pub mod completion;
 pub mod dump;
 pub mod help;
+pub mod json;
 pub mod manual;
 pub mod progress;
+pub mod report;
 pub mod runs;
 pub mod screen;
 pub mod scrub_map;
+pub mod status_map;
 pub mod traffic;
 pub mod words;

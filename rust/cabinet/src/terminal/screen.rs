@@ -1,6 +1,7 @@
 //! What the commands print: plain lines, with colour only on a terminal.
 
 use crate::failure::Failure;
+use crate::terminal::json::Json;
 use std::env;
 use std::io::{self, IsTerminal, Write};
 
@@ -30,7 +31,12 @@ pub struct Screen {
     trouble: Option<io::Error>,
     /// What was printed, where it is kept and not seen.
     pub kept: Option<String>,
+    /// The facts of a report, where one is printed in place of all lines.
+    report: Option<Facts>,
 }
+
+/// Names of a report with their values, in their order.
+pub type Facts = Vec<(&'static str, Json)>;
 
 impl Screen {
     /// Standard output, in colour if it is a terminal and NO_COLOR is not set.
@@ -41,6 +47,7 @@ impl Screen {
             colour: io::stdout().is_terminal() && !unwanted && !dumb,
             trouble: None,
             kept: None,
+            report: None,
         }
     }
 
@@ -50,11 +57,45 @@ impl Screen {
             colour: false,
             trouble: None,
             kept: Some(String::new()),
+            report: None,
+        }
+    }
+
+    /// From here on no line is printed: at the end there is one report of all facts.
+    pub fn begin_report(&mut self) {
+        self.colour = false;
+        self.report = Some(Vec::new());
+    }
+
+    /// Takes a fact into the report, if there is one; in place of an earlier one of this name.
+    pub fn fact(&mut self, name: &'static str, value: impl Into<Json>) {
+        if let Some(report) = &mut self.report {
+            report.retain(|(known, _)| *known != name);
+            report.push((name, value.into()));
+        }
+    }
+
+    /// Does a task whose facts are kept apart from those of the report.
+    pub fn apart<T>(&mut self, task: impl FnOnce(&mut Screen) -> T) -> (T, Facts) {
+        let before = self.report.as_mut().map(std::mem::take);
+        let done = task(self);
+        let facts = std::mem::replace(&mut self.report, before);
+        (done, facts.unwrap_or_default())
+    }
+
+    /// Prints the report: these facts, then all others.
+    pub fn end_report(&mut self, head: Facts) {
+        if let Some(facts) = self.report.take() {
+            let whole = Json::Object([head, facts].concat());
+            self.line(whole.to_string());
         }
     }
 
     /// Prints one line, or several.
     pub fn line(&mut self, text: impl AsRef<str>) {
+        if self.report.is_some() {
+            return;
+        }
         if let Some(kept) = &mut self.kept {
             kept.push_str(text.as_ref());
             kept.push('\n');

@@ -33,6 +33,25 @@ pub fn grouped(number: usize) -> String {
     text
 }
 
+/// Words in lines of so many letters or fewer, but for longer words.
+pub fn lines(words: &str, letters: usize) -> Vec<String> {
+    let mut lines = vec![String::new()];
+    for word in words.split(' ') {
+        let last = lines.len() - 1;
+        let line = &mut lines[last];
+        let is_full = line.chars().count() + 1 + word.chars().count() > letters;
+        match line.is_empty() {
+            true => line.push_str(word),
+            false if is_full => lines.push(word.to_string()),
+            false => {
+                line.push(' ');
+                line.push_str(word);
+            }
+        }
+    }
+    lines
+}
+
 /// Words after a head, in lines that a terminal shows whole; further lines begin under the first
 /// word.
 pub fn hanging(head: &str, words: &str) -> String {

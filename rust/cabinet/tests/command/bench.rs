@@ -117,10 +117,12 @@ impl Bench {
         self.write(name, &bytes);
     }
 
-    /// Every file below a folder, by name, with what it holds.
+    /// Every file below a folder, by name, with what it holds; but for the record of the last scrub,
+    /// which says when that was and which no command needs.
     pub fn snapshot(&self, folder: &str) -> Vec<(String, Vec<u8>)> {
         let mut files: Vec<_> = list(&self.path(folder))
             .into_iter()
+            .filter(|path| !path.ends_with("scrubbed.txt"))
             .map(|path| {
                 let bytes = fs::read(&path).expect("a file can be read");
                 (path.display().to_string(), bytes)

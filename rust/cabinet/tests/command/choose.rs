@@ -25,9 +25,9 @@ fn the_flagship_is_found() {
     let wanted = "\
 Layouts of 30 trays in racks of 3, of which any 6 may be lost
   layout             field  lost    data      L  traffic  of plain  at once
-  (10, 3, 24, 9)       256     6  80.0 %  1,024    4,608    18.8 %        3
-  (10, 3, 23, 9, 1)    256     7  76.7 %      1        9    39.1 %        1
-  (10, 3, 20, 9, 1)    256    10  66.7 %  1,024    4,608    22.5 %        1
+  (10, 3, 24, 9)       256     6  79.4 %  1,024    4,608    18.8 %        3
+  (10, 3, 23, 9, 1)    256     7  76.1 %      1        9    39.1 %        1
+  (10, 3, 20, 9, 1)    256    10  66.1 %  1,024    4,608    22.5 %        1
 ";
     assert!(text.starts_with(wanted), "{text}");
 }
@@ -171,7 +171,10 @@ fn a_size_says_stripes_files_and_traffic() {
         let text = bench.done(&format!(
             "choose --trays 20 --survive 5 --rack 4 --size {size}"
         ));
-        let first = text.lines().nth(3).unwrap_or_default();
+        let mut lines = text.lines();
+        let row = lines.find(|line| line.starts_with("  (5, 4, 15, 4) "));
+        assert!(row.is_some(), "{text}");
+        let first = lines.next().unwrap_or_default();
         assert_eq!(
             first.starts_with("      4,294,967,295 stripes, "),
             fits,

@@ -2,8 +2,11 @@
 
 use crate::bench::{assert_readable, Bench};
 
-const COMMANDS: [&str; 17] = [
+const COMMANDS: [&str; 20] = [
     "demo",
+    "status",
+    "fix",
+    "replace",
     "choose",
     "plan",
     "store",
@@ -103,7 +106,16 @@ fn senseless_lines_are_usage_errors() {
         "scrub c --svg",
         "share c --host 1 out",
         "share c --host 1 --helper 0 --count two out",
-        "repair c --lost 4",
+        "status",
+        "status c d",
+        "status c --html",
+        "fix",
+        "fix c 4",
+        "replace c",
+        "replace c four",
+        "replace c 4 5",
+        "repair c",
+        "repair c --lost 4 --share c/tray-00.img",
         "repair c --lost 4 --helpers 0,two,3",
         "repair c --lost 3,four --helpers 0,2,3",
         "repair c --lost 4 --helpers 0,2,3 --share c/tray-00.img",
@@ -112,7 +124,6 @@ fn senseless_lines_are_usage_errors() {
         "card",
         "card wash",
         "card print 4 3 8 3 --lost 4 --helpers 0,2,3 out",
-        "card print 4 3 8 3 --lost 4 --group 0 out",
         "card print 4 3 8 3 --helpers 0,2,3 --group 0 out",
         "card print 4 3 8 --lost 4 --helpers 0,2,3 --group 0 out",
         "card test 4 3 8 3 --lost 4 --helpers 0,2,3 --group 0",

@@ -1,6 +1,7 @@
 //! The command run as people run it: words in, files in, files out, and an exit status.
 
 mod bench;
+mod browser;
 mod card;
 mod choose;
 mod cut;
@@ -9,7 +10,9 @@ mod faults;
 mod field257;
 mod files;
 mod first_format;
+mod fix;
 mod help;
+mod json;
 mod large;
 mod manual;
 mod plan;
@@ -20,6 +23,7 @@ mod scrub;
 mod several;
 mod sixteen;
 mod stale;
+mod status;
 mod stripes;
 mod wrong;
 mod xml;

@@ -111,7 +111,8 @@ fn failing_conditions_of_the_field_of_257_are_named() {
     }
     for words in [
         "Layout (5, 4, 15, 4) modulo 257",
-        "480 bytes of data in 640 symbols of two bytes (75.0 %)",
+        "480 bytes of data in a codeword of 640 symbols of two bytes",
+        "37.2 % of the bytes on the trays are data, in long files",
         "64 = 4 shares of 16 symbols",
     ] {
         assert!(text.contains(words), "{words} is missing in\n{text}");
