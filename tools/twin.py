@@ -113,7 +113,7 @@ def cited(name, text):
 
 def proof(name, text):
     """The answers, those for 16-bit numbers with them. A walk of the code by hand names the kind of symbols and the functions called."""
-    text = re.sub(r'\bu8\b', 'u16', text.replace('-- twin: ', ''))
+    text = re.sub(r'\b([uw])8\b', r'\g<1>16', text.replace('-- twin: ', ''))
     return cited(name, text.replace('calls-%s·' % name, 'calls-%s257·' % name))
 
 

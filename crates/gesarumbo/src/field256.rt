@@ -148,13 +148,13 @@ pub extern "C" fn gesarumbo_repair_many(
     ensures { λ r. ⌜ Shown (RepairAnswer gf256 l (now (lost .entry)) (now (helpers .entry)) (now (shares .entry)) (now (host .entry)) first budget
         (now (spare .entry)) (now (spare .exit))) report r ⌝ }
 {
-    numbers::repair_numbers(repair::repair_many(
-        l,
+    numbers::repair_numbers(repair::repair_named(
         lost,
         helpers,
+        spare,
+        l,
         shares,
         host,
-        spare,
         first,
         budget,
     ))
@@ -370,11 +370,11 @@ pub extern "C" fn gesarumbo_scrub(
 pub extern "C" fn gesarumbo_scrub_reset_in_place(l: Layout, walk: &mut Walk) -> ReportNumbers
     ensures { λ r. ⌜ (r ≡ reportNumbers (begun (gf256 .order) l (now (walk .entry)) .report)) × (now (walk .exit) ≡ begun (gf256 .order) l (now (walk .entry)) .walk) ⌝ }
 {
-    let s = gesarumbo_scrub_reset(l, *walk);
-    *walk = s.walk;
+    let begun = gesarumbo_scrub_reset(l, *walk);
+    *walk = begun.walk;
     ReportNumbers {
-        refusal: s.refusal,
-        report: s.report,
+        refusal: begun.refusal,
+        report: begun.report,
     }
 }
 

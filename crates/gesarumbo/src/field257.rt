@@ -149,13 +149,13 @@ pub extern "C" fn gesarumbo257_repair_many(
     ensures { λ r. ⌜ Shown (RepairAnswer gf257 l (now (lost .entry)) (now (helpers .entry)) (now (shares .entry)) (now (host .entry)) first budget
         (now (spare .entry)) (now (spare .exit))) report r ⌝ }
 {
-    numbers::repair_numbers(repair257::repair_many(
-        l,
+    numbers::repair_numbers(repair257::repair_named(
         lost,
         helpers,
+        spare,
+        l,
         shares,
         host,
-        spare,
         first,
         budget,
     ))
@@ -376,11 +376,11 @@ pub extern "C" fn gesarumbo257_scrub(
 pub extern "C" fn gesarumbo257_scrub_reset_in_place(l: Layout, walk: &mut Walk) -> ReportNumbers
     ensures { λ r. ⌜ (r ≡ reportNumbers (begun (gf257 .order) l (now (walk .entry)) .report)) × (now (walk .exit) ≡ begun (gf257 .order) l (now (walk .entry)) .walk) ⌝ }
 {
-    let s = gesarumbo257_scrub_reset(l, *walk);
-    *walk = s.walk;
+    let begun = gesarumbo257_scrub_reset(l, *walk);
+    *walk = begun.walk;
     ReportNumbers {
-        refusal: s.refusal,
-        report: s.report,
+        refusal: begun.refusal,
+        report: begun.report,
     }
 }
 

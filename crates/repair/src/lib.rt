@@ -4,6 +4,8 @@
 use layout::Layout;
 use layout::Tray;
 use symbol::plain::ORDER;
+use typed_lists::Racks;
+use typed_lists::Trays;
 ghost use mathlib.Core.Path.{_≡_};
 ghost use mathlib.Core.List.{[], _∷_};
 ghost use Prim.Native.Nat.{_*_};
@@ -107,13 +109,13 @@ fn refusal(
 }
 
 // Repairs a piece of the lost trays, all of one rack, in the spare, or refuses and writes nothing.
-pub fn repair_many(
-    l: Layout,
+fn repair_lists(
     lost: &[u32],
     helpers: &[u32],
+    spare: &mut [u8],
+    l: Layout,
     shares: &[u8],
     host: &[u8],
-    spare: &mut [u8],
     first: u64,
     budget: u64,
 ) -> Repaired
@@ -144,6 +146,48 @@ pub fn repair_many(
     }
 }
 
+// Repairs a piece of the lost trays with the helper racks: a list of trays and a list of racks, which cannot be exchanged. The lists and the spare come first, as
+// `typed_lists` walks them.
+pub fn repair_many<'t, 'r, 'c, 's, 'h>(
+    lost: Trays<'t>,
+    helpers: Racks<'r>,
+    spare: &'c mut [u8],
+    l: Layout,
+    shares: &'s [u8],
+    host: &'h [u8],
+    first: u64,
+    budget: u64,
+) -> Repaired
+    ensures { λ r. ⌜ RepairAnswer gf256 l (now (lost .entry .0)) (now (helpers .entry .0)) (now (shares .entry)) (now (host .entry)) first budget (now (spare .entry)) (now (spare .exit)) r ⌝ }
+{
+    repair_lists(lost.0, helpers.0, spare, l, shares, host, first, budget)
+}
+
+// The same of two plain lists: the first is named one of trays, the second one of racks.
+pub fn repair_named(
+    lost: &[u32],
+    helpers: &[u32],
+    spare: &mut [u8],
+    l: Layout,
+    shares: &[u8],
+    host: &[u8],
+    first: u64,
+    budget: u64,
+) -> Repaired
+    ensures { λ r. ⌜ RepairAnswer gf256 l (now (lost .entry)) (now (helpers .entry)) (now (shares .entry)) (now (host .entry)) first budget (now (spare .entry)) (now (spare .exit)) r ⌝ }
+{
+    repair_many(
+        Trays(lost),
+        Racks(helpers),
+        spare,
+        l,
+        shares,
+        host,
+        first,
+        budget,
+    )
+}
+
 // Repairs a piece of the lost tray in the spare, or refuses and writes nothing: the repair of a list of one.
 pub fn repair(
     l: Layout,
@@ -158,5 +202,5 @@ pub fn repair(
     ensures { λ r. ⌜ RepairAnswer gf256 l (lost .0 ∷ []) (now (helpers .entry)) (now (shares .entry)) (now (host .entry)) first budget (now (spare .entry)) (now (spare .exit)) r ⌝ }
 {
     let list = [lost.number()];
-    repair_many(l, &list, helpers, shares, host, spare, first, budget)
+    repair_named(&list, helpers, spare, l, shares, host, first, budget)
 }

@@ -6,6 +6,8 @@ use layout::Layout;
 use layout::Tray;
 use repair::Repaired;
 use symbol257::plain::ORDER;
+use typed_lists::Racks;
+use typed_lists::Trays;
 ghost use mathlib.Core.Path.{_≡_};
 ghost use mathlib.Core.List.{[], _∷_};
 ghost use Prim.Native.Nat.{_*_};
@@ -90,13 +92,13 @@ fn refusal(
 }
 
 // Repairs a piece of the lost trays, all of one rack, in the spare, or refuses and writes nothing.
-pub fn repair_many(
-    l: Layout,
+fn repair_lists(
     lost: &[u32],
     helpers: &[u32],
+    spare: &mut [u16],
+    l: Layout,
     shares: &[u16],
     host: &[u16],
-    spare: &mut [u16],
     first: u64,
     budget: u64,
 ) -> Repaired
@@ -127,6 +129,48 @@ pub fn repair_many(
     }
 }
 
+// Repairs a piece of the lost trays with the helper racks: a list of trays and a list of racks, which cannot be exchanged. The lists and the spare come first, as
+// `typed_lists` walks them.
+pub fn repair_many<'t, 'r, 'c, 's, 'h>(
+    lost: Trays<'t>,
+    helpers: Racks<'r>,
+    spare: &'c mut [u16],
+    l: Layout,
+    shares: &'s [u16],
+    host: &'h [u16],
+    first: u64,
+    budget: u64,
+) -> Repaired
+    ensures { λ r. ⌜ RepairAnswer gf257 l (now (lost .entry .0)) (now (helpers .entry .0)) (now (shares .entry)) (now (host .entry)) first budget (now (spare .entry)) (now (spare .exit)) r ⌝ }
+{
+    repair_lists(lost.0, helpers.0, spare, l, shares, host, first, budget)
+}
+
+// The same of two plain lists: the first is named one of trays, the second one of racks.
+pub fn repair_named(
+    lost: &[u32],
+    helpers: &[u32],
+    spare: &mut [u16],
+    l: Layout,
+    shares: &[u16],
+    host: &[u16],
+    first: u64,
+    budget: u64,
+) -> Repaired
+    ensures { λ r. ⌜ RepairAnswer gf257 l (now (lost .entry)) (now (helpers .entry)) (now (shares .entry)) (now (host .entry)) first budget (now (spare .entry)) (now (spare .exit)) r ⌝ }
+{
+    repair_many(
+        Trays(lost),
+        Racks(helpers),
+        spare,
+        l,
+        shares,
+        host,
+        first,
+        budget,
+    )
+}
+
 // Repairs a piece of the lost tray in the spare, or refuses and writes nothing: the repair of a list of one.
 pub fn repair(
     l: Layout,
@@ -141,5 +185,5 @@ pub fn repair(
     ensures { λ r. ⌜ RepairAnswer gf257 l (lost .0 ∷ []) (now (helpers .entry)) (now (shares .entry)) (now (host .entry)) first budget (now (spare .entry)) (now (spare .exit)) r ⌝ }
 {
     let list = [lost.number()];
-    repair_many(l, &list, helpers, shares, host, spare, first, budget)
+    repair_named(&list, helpers, spare, l, shares, host, first, budget)
 }

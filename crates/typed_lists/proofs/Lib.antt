@@ -1,0 +1,5 @@
+pub mod Reached
+pub mod Block
+pub mod Params
+pub mod Walk
+pub mod Turns
