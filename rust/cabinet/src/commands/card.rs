@@ -7,10 +7,10 @@ use crate::code::symbol::Symbol;
 use crate::disk::Disk;
 use crate::failure::{Failure, Outcome};
 use crate::files::output;
-use crate::repair::card;
+use crate::repair::{card, helpers, Repair};
 use crate::terminal::arguments::{needed, Arguments, Setting};
 use crate::terminal::screen::{Paint, Screen};
-use gesarumbo::{Rack, Tray};
+use gesarumbo::{Rack, Refusal, Tray};
 use std::path::Path;
 
 const LOST: Setting = Setting::with("--lost", "X", "the lost tray");
@@ -81,6 +81,25 @@ fn run(arguments: &Arguments, disk: &dyn Disk, screen: &mut Screen) -> Result<Ou
 }
 
 impl Place {
+    /// For `map_err`: what the library refused, and what is known of it.
+    fn refused(&self, about: String) -> impl FnOnce(Refusal) -> Failure + '_ {
+        move |refusal| {
+            let repair = Repair {
+                lost: vec![self.lost],
+                helpers: self.helpers.clone(),
+            };
+            let last = self.numbers.groups as u64 - 1;
+            let known = match helpers::known(&self.numbers, &repair, refusal) {
+                None if refusal == Refusal::Number && self.group > last => {
+                    Some(format!("groups are 0 to {last}"))
+                }
+                known => known,
+            };
+            let known = known.map(|words| format!(": {words}"));
+            Failure::refused(format!("{about}{}", known.unwrap_or_default()))(refusal)
+        }
+    }
+
     /// In words.
     fn name(&self) -> String {
         let Place {
@@ -111,7 +130,7 @@ fn print<S: Symbol>(
     } = place;
     let mut card = vec![S::default(); numbers.helpers * numbers.digits];
     (S::CALLS.card)(numbers.layout, *lost, helpers, *group, &mut card)
-        .map_err(Failure::refused(place.name()))?;
+        .map_err(place.refused(place.name()))?;
     let lines = card::lines(&card, numbers.helpers);
     screen.heading(place.name());
     lines
@@ -135,7 +154,7 @@ fn test<S: Symbol>(
     let card: Vec<S> = card::read(disk, path)?;
     let about = format!("{}: {}", path.display(), place.name());
     (S::CALLS.card_test)(numbers.layout, *lost, helpers, &card, *group)
-        .map_err(Failure::refused(about))?;
+        .map_err(place.refused(about))?;
     let right = screen.paint(Paint::Good, "right");
     screen.heading(place.name());
     screen.line(format!(

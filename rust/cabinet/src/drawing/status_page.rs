@@ -71,13 +71,22 @@ fn verdict(status: &Status) -> String {
 
 fn what_to_do(status: &Status) -> String {
     let next = status.next();
-    let why = escape(&next.why);
+    let why = escape(&sentence(&next.why));
     match &next.line {
         Some(line) => format!(
             "<h2>What to do</h2>\n<pre>{}</pre>\n<p>{why}</p>\n",
             escape(line)
         ),
         None => format!("<h2>What to do</h2>\n<p>{why}</p>\n"),
+    }
+}
+
+/// Words as a sentence.
+fn sentence(words: &str) -> String {
+    let mut letters = words.chars();
+    match letters.next() {
+        Some(first) => format!("{}{}.", first.to_uppercase(), letters.as_str()),
+        None => String::new(),
     }
 }
 

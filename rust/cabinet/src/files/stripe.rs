@@ -148,7 +148,12 @@ impl<S: Symbol> Stripe<'_, S> {
     ) -> Result<Vec<S>, Failure> {
         let (layout, numbers) = (self.cabinet.description.layout, &self.cabinet.numbers);
         let trays = words::count(count as usize, "tray");
-        let about = format!("share of rack {helper} for {trays} of rack {host}");
+        let most = Rack::new(layout.racks - 1);
+        let known = match helper.max(host) {
+            rack if rack > most => format!(": no rack {rack}: racks are 0 to {most}"),
+            _ => String::new(),
+        };
+        let about = format!("share of rack {helper} for {trays} of rack {host}{known}");
         // Any count above a rack's trays is refused as one more than these is.
         let count = count.min(layout.size + 1);
         let mut share = vec![S::default(); count as usize * numbers.groups];

@@ -156,7 +156,9 @@ fn what_the_last_scrub_found() {
     assert_eq!(next(&bench), "cabinet fix c");
     bench.ends(17, "recover c");
     let out = bench.done("status c");
-    assert!(out.contains("tray 5 wrong, written anew"), "{out}");
+    let words: Vec<&str> = out.split_whitespace().collect();
+    let words = words.join(" ");
+    assert!(words.contains("tray 5 wrong, written anew since"), "{out}");
     assert_eq!(next(&bench), "");
 }
 
