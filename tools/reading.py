@@ -4,10 +4,12 @@
     tools/reading.py            write the counts
     tools/reading.py --check    fail where they are not current: a step of the gate
     tools/reading.py --names    print the definitions to believe, file by file
+    tools/reading.py --untried  print those of them that no must-fail edit changes and that no contract of a file with a wrong program cites
 
 They are the closure by name of what the contracts of the C boundary and the pages of claims cite: each definition's lines in crates/*/specs, and once those of
 the module that it stands in, without blank lines, comments, imports and `unfolding` lines. Structs and enums of src/ are not counted.
 """
+import glob
 import os
 import re
 import sys
@@ -130,9 +132,24 @@ def written(page):
     return '\n'.join(out) + '\n', not missing and not closures
 
 
+def tried():
+    """The definitions that a must-fail edit changes, and those that the contracts of a file cite in which an edit makes a wrong program."""
+    changed, cited, programs, name = set(), set(), set(), None
+    for path in glob.glob(os.path.join(ROOT, 'crates', '*', 'must-fail', '*.edit')):
+        crate = os.path.relpath(path, ROOT).split(os.sep)[1]
+        for key, _, rest in (line.partition(': ') for line in read(path).split('\n')):
+            name = 'crates/%s/%s' % (crate, rest) if key == 'file' else name
+            if key == 'old' and '/specs/' in name:
+                changed.update((name, at) for at, lines in file(name).lines.items() if any(rest.strip() in line for line in lines))
+            elif key == 'old' and '/src/' in name:
+                programs.update(imports(read(name)).values())
+    close(cited, programs)
+    return changed | cited
+
+
 def main():
-    if '--names' in sys.argv:
-        found = rows()[1]
+    if '--names' in sys.argv or '--untried' in sys.argv:
+        found = rows()[1] - (tried() if '--untried' in sys.argv else set())
         for path in sorted({path for path, _ in found}):
             print(path + ': ' + ' '.join(sorted(name for at, name in found if at == path)))
         return

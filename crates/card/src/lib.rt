@@ -3,8 +3,15 @@
 // 01's, on any shares (proofs/Right.antt); and that each test answers exactly what its definition says.
 use layout::Layout;
 ghost use mathlib.Core.Path.{_≡_};
-ghost use Rattle.layout.specs.Layout.{Cabinet};
+ghost use Rattle.layout.specs.Layout.{admissibleWith, Cabinet};
 ghost use Rattle.card.specs.Grounds.{inLayout, helpersGround};
+
+// Whether the layout is admissible and has E = 0: the first ground of every call of cards.
+pub fn admits(order: u32, l: Layout) -> bool
+    ensures { λ r. ⌜ r ≡ admissibleWith order 0 l ⌝ }
+{
+    layout::admitted_with(order, 0, l)
+}
 
 // Whether a tray, the helpers and a group are numbers of the layout.
 pub fn in_layout(l: Layout, x: u32, helpers: &[u32], group: u64) -> bool

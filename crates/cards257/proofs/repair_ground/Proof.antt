@@ -16,7 +16,7 @@ past c =
     let d = g .before .before in
     let h = d .before .before in
     let a = h .before .before .before .before .before .before .before .before .args in
-    measured-of gf257 (a .l) (a .x) (a .helpers .now) (a .group) (a .card .now) (a .shares .now) (a .host .now) (a .spare) _ (h .before .admitted-with .ensures) (h .if1 .left)
+    measured-of gf257 (a .l) (a .x) (a .helpers .now) (a .group) (a .card .now) (a .shares .now) (a .host .now) (a .spare) _ (h .before .admits .ensures) (h .if1 .left)
     _ (d .before .layer-count .ensures) _ _ (d .digit-count .ensures) (g .group-count .ensures) (g .before .if2 .left) (c .before .before .before .before .if3 .left)
     (c .before .before .before .if4 .left) (c .before .before .if5 .left) _ (c .before .in-layout .ensures) (c .if6 .left)
 
