@@ -149,8 +149,7 @@ static inline const char *gesarumbo_words(uint32_t refusal)
         "done",
         "the layout is not admissible, or not one that the call is for",
         "a buffer is not exactly the length its rule gives",
-        "a tray, rack, state, volume, layer or group number or a symbol is outside its values, "
-        "or a scrub record breaks its rules",
+        "a tray, rack, state, volume, layer or group number or a symbol is outside its values, or a scrub record breaks its rules",
         "a list is not strictly rising",
         "too many trays are erased, or the helpers are not as many as the layout says",
         "the host rack is a helper",
