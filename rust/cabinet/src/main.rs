@@ -12,6 +12,7 @@ mod drawing;
 mod failure;
 mod files;
 mod fixing;
+mod jobs;
 mod repair;
 mod scrub;
 #[cfg(test)]

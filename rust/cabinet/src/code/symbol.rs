@@ -8,7 +8,9 @@ use gesarumbo::{
 use std::ops::Range;
 
 /// A symbol of one of the fields.
-pub trait Symbol: Copy + Default + PartialEq + From<u8> + Into<u16> + Into<u32> + 'static {
+pub trait Symbol:
+    Copy + Default + PartialEq + From<u8> + Into<u16> + Into<u32> + Send + Sync + 'static
+{
     const FIELD: Field;
     /// How many bytes it has in files and images.
     const WIDTH: usize;
@@ -141,6 +143,11 @@ pub fn to_data<S: Symbol>(symbols: &[S]) -> Result<Vec<u8>, usize> {
         .enumerate()
         .map(|(place, byte)| byte.map_err(|_| place))
         .collect()
+}
+
+/// Whether all symbols are zero, as those after the data are.
+pub fn is_zero<S: Symbol>(symbols: &[S]) -> bool {
+    symbols.iter().all(|symbol| *symbol == S::default())
 }
 
 /// Bytes of data as symbols.

@@ -2,25 +2,31 @@
 
 use super::Command;
 use crate::code::field::in_field;
-use crate::code::symbol::{to_data, Symbol};
+use crate::code::symbol::{is_zero, to_data, Symbol};
 use crate::disk::{folder_of, Disk};
 use crate::failure::{Failure, Outcome};
 use crate::files::cabinet::Cabinet;
 use crate::files::description;
 use crate::files::draft::{self, Draft};
+use crate::files::erasures::{Erasures, INSIST};
 use crate::files::faults::Faults;
-use crate::files::mend::{mend, Held, Mended};
+use crate::files::mend::{mend_as, Held, Mended};
 use crate::files::output;
-use crate::files::segment::Segment;
+use crate::files::segment::{with_segment, Segment};
 use crate::files::survey::Unused;
+use crate::jobs::JOBS;
 use crate::terminal::arguments::{Arguments, Setting};
 use crate::terminal::screen::{Paint, Screen};
 use crate::terminal::words::count;
 use crate::terminal::{progress, report};
-use gesarumbo::{checksum, Tray};
+use gesarumbo::checksum;
 use std::path::Path;
 
-const ERASE: Setting = Setting::with("--erase", "a,b,..", "do not use these trays, live or not");
+const ERASE: Setting = Setting::with(
+    "--erase",
+    "a,b:S,..",
+    "do not use these trays, live or not; b only in stripe S, or stripes S-T, with --insist",
+);
 const LENGTH: Setting = Setting::with(
     "--length",
     "N",
@@ -33,7 +39,9 @@ pub const COMMAND: Command = Command {
     help: HELP,
     settings: &[
         ERASE,
+        INSIST,
         LENGTH,
+        JOBS,
         description::LAYOUT,
         description::VOLUME,
         description::FIELD,
@@ -43,7 +51,7 @@ pub const COMMAND: Command = Command {
 };
 
 const HELP: &str = "\
-cabinet get DIR FILE [--erase a,b,..] [--length N]
+cabinet get DIR FILE [--erase a,b:S,.. [--insist]] [--length N]
 
 Writes the data of DIR to FILE, exactly as long as they were. Trays that are
 absent, unreadable, refused or of another generation are done without: any k
@@ -62,9 +70,9 @@ Data with a symbol that is no byte, 256 in the field of 257, are not written
 
 fn run(arguments: &Arguments, disk: &dyn Disk, screen: &mut Screen) -> Result<Outcome, Failure> {
     let [folder, file] = arguments.words(["DIR", "FILE"])?;
-    let named = arguments.list(ERASE)?.unwrap_or_default();
-    let named: Vec<Tray> = named.into_iter().map(Tray::new).collect();
+    let named = Erasures::asked(arguments, ERASE)?;
     let cabinet = Cabinet::find(disk, folder, arguments)?;
+    named.judge(&cabinet)?;
     let length = length(&cabinet, arguments)?;
     let file = Path::new(file);
     if is_in(disk, file, cabinet.folder()) {
@@ -109,11 +117,15 @@ struct Getting<'d> {
     checksum: u64,
     faults: Faults,
     held: Held,
+    /// Why a segment is right only if all data are.
+    doubt: Option<Failure>,
+    /// Whether zeros follow the data, as they were stored.
+    is_filled: bool,
 }
 
 fn get<S: Symbol>(
     cabinet: &Cabinet,
-    named: &[Tray],
+    named: &Erasures,
     length: u64,
     file: &Path,
     screen: &mut Screen,
@@ -124,17 +136,21 @@ fn get<S: Symbol>(
         checksum: 0,
         faults: Faults::default(),
         held: Held::Checks,
+        doubt: None,
+        is_filled: true,
     };
     let mut unused = None;
-    for segment in cabinet.segments::<S>(0) {
-        let segment = segment?;
+    let mend = with_segment(|segment: &Segment<S>| mend_as(segment, named));
+    cabinet.over(cabinet.from_segment(0), mend, |(segment, mended)| {
         Unused::begin_or_say(&mut unused, &segment, screen);
-        let mended = mend(&segment, named)?;
-        getting.faults.add(&segment, &mended);
-        getting.write(&segment, &mended)?;
+        let mended = mended?;
+        getting.doubt = getting.doubt.take().or(mended.doubt);
+        getting.faults.add(&segment, &mended.stripes);
+        getting.write(&segment, &mended.stripes)?;
         progress::segment(cabinet, &segment.stripes, screen);
-    }
-    getting.faults.add_labels(cabinet, &Unused::trays(unused));
+        Ok(())
+    })?;
+    getting.faults.add_files(cabinet, &Unused::trays(unused));
     getting.faults.say(cabinet, screen);
     getting.finish(cabinet, length, file, screen)
 }
@@ -156,6 +172,7 @@ impl Getting<'_> {
             self.checksum = checksum(self.checksum, &data);
             self.left -= data.len() as u64;
             self.held = self.held.min(one.held);
+            self.is_filled &= is_zero(&one.codeword[here..room]);
         }
         Ok(())
     }
@@ -170,6 +187,9 @@ impl Getting<'_> {
     ) -> Result<Outcome, Failure> {
         let is_all = cabinet.description.length == Some(length);
         let stored = cabinet.description.checksum.filter(|_| is_all);
+        if stored != Some(self.checksum) || !self.is_filled {
+            self.doubt.map_or(Ok(()), Err)?;
+        }
         if stored.is_some_and(|stored| stored != self.checksum) {
             return Err(Failure::Contents(
                 "the data do not have the checksum that they were stored with; no file is written"

@@ -3,12 +3,12 @@
 use super::Command;
 use crate::code::field::{in_field, Field};
 use crate::code::symbol::Symbol;
-use crate::disk::{folder_of, read_part, Disk, Handle};
+use crate::disk::{folder_of, read_part, Disk, Entry, Handle};
 use crate::failure::{Failure, Outcome};
 use crate::files;
 use crate::files::cabinet::Cabinet;
 use crate::files::census::{Census, TrayFile};
-use crate::files::description::{self, Description};
+use crate::files::description::{self, Description, Format};
 use crate::files::found::Found;
 use crate::files::geometry::HEADER;
 use crate::files::header::Header;
@@ -38,8 +38,9 @@ whether the library takes the headers of all segments as live ones of one tray
 and their checksums are right, or on which ground and from which stripe on not.
 Expected is what the settings say, else what the other trays' labels or
 cabinet.txt beside the file say, else what the file itself claims by its label
-or its first header (edition 2: the field of 257). The first file that is
-refused or cannot be read decides the exit status.
+or its first header (edition 2: the field of 257). A label that cannot be read
+and a file that is too long are named (65), also where all segments are handed
+out. The first file that is refused or cannot be read decides the exit status.
 ";
 
 /// A layout that is admissible in either field: what an image is held against whose own layout is
@@ -64,8 +65,10 @@ fn run(arguments: &Arguments, disk: &dyn Disk, screen: &mut Screen) -> Result<Ou
 /// A tray file as it was opened.
 struct Opened {
     file: Box<dyn Handle>,
-    length: u64,
+    entry: Entry,
     label: Option<Label>,
+    /// Whether the file begins with a label, damaged or not.
+    begins_with_one: bool,
     /// The first header, after the label if there is one.
     header: Option<Header>,
 }
@@ -108,20 +111,28 @@ fn inspect(
 }
 
 fn open(disk: &dyn Disk, path: &Path) -> Result<Opened, Failure> {
-    let (file, length) = files::open_existing(disk, path)?;
+    let (file, _) = files::open_existing(disk, path)?;
+    let entry = file.entry().map_err(Failure::file(path))?;
     let block = read_part(&*file, 0, SIZE).map_err(Failure::file(path))?;
     let label = Label::parse(&block);
-    let is_labelled = label.is_some() || block.starts_with(b"cabinet format");
-    let header = match is_labelled {
-        true => read_part(&*file, SIZE as u64, HEADER).map_err(Failure::file(path))?,
-        false => block,
-    };
+    let after = read_part(&*file, SIZE as u64, HEADER).map_err(Failure::file(path))?;
+    let is_header = |bytes: &[u8]| Header::of(bytes).is_some_and(|header| header.is_whole());
+    let begins_with_one =
+        label.is_some() || begins_as_one(&block) || (!is_header(&block) && is_header(&after));
+    let header = if begins_with_one { after } else { block };
     Ok(Opened {
         file,
-        length,
+        entry,
         label,
+        begins_with_one,
         header: Header::of(&header),
     })
+}
+
+/// Whether a block is a label that was damaged: most of it is text.
+fn begins_as_one(block: &[u8]) -> bool {
+    let is_text = |byte: &&u8| byte.is_ascii_graphic() || b" \n".contains(byte);
+    block.len() == SIZE && 2 * block.iter().filter(is_text).count() > SIZE
 }
 
 /// Reads all segments, and says whether they are handed out.
@@ -133,11 +144,12 @@ fn look<S: Symbol>(
     screen: &mut Screen,
 ) -> Result<Outcome, Failure> {
     let mut cabinet = Cabinet::new(disk, folder_of(path), *expected)?;
+    let (is_labelled, length) = (opened.label.is_some(), opened.entry.length);
     let claimed = opened.header.as_ref().map(Header::tray);
     let tray = claimed.filter(|tray| (tray.number() as usize) < cabinet.numbers.trays);
     let tray = tray.unwrap_or(Tray::new(0));
     let place = tray.number() as usize;
-    cabinet.trays[place] = Some(TrayFile::alone(tray, path, opened.file));
+    cabinet.trays[place] = Some(TrayFile::alone(tray, path, opened.file, opened.entry));
     for number in 0..cabinet.geometry.segments() {
         let segment = Segment::<S>::read(&cabinet, number, &|other| other == tray)?;
         let place = cabinet.place(segment.stripes.start);
@@ -157,7 +169,22 @@ fn look<S: Symbol>(
     };
     screen.line(format!("  answer    {words} as live tray {tray}{stripes}"));
     screen.fact("live_tray", tray.number());
-    Ok(Outcome::Done)
+    let end = cabinet.geometry.end();
+    let wrong = match expected.format {
+        Format::First => None,
+        Format::Second if !is_labelled => Some("its label cannot be read"),
+        Format::Second if length > end => Some("it is too long: bytes follow its last segment"),
+        Format::Second => None,
+    };
+    match wrong {
+        None => Ok(Outcome::Done),
+        Some(words) => {
+            let failure = Failure::Contents(format!("{}: {words}", path.display()));
+            let words = screen.paint(Paint::Warning, words);
+            screen.line(format!("  but       {words}"));
+            Err(failure)
+        }
+    }
 }
 
 /// Says why a file is not handed out.
@@ -168,17 +195,22 @@ fn refused(words: &str, failure: Failure, screen: &mut Screen) -> Failure {
 }
 
 fn describe(opened: &Opened, screen: &mut Screen) {
-    screen.line(format!("  length    {} bytes", opened.length));
-    screen.fact("length", opened.length);
+    screen.fact("length", opened.entry.length);
     screen.fact("label", opened.label.as_ref().map(label_json));
     screen.fact("header", opened.header.as_ref().map(Header::json));
-    if let Some(label) = &opened.label {
-        let Label { cabinet, tray } = label;
-        let generation = cabinet.generation;
-        screen.line(format!(
-            "  label     tray {tray} of generation {generation}, {}",
+    let bytes = count(opened.entry.length as usize, "byte");
+    screen.line(format!("  length    {bytes}"));
+    match &opened.label {
+        Some(Label { cabinet, tray }) => screen.line(format!(
+            "  label     tray {tray} of generation {}, {}",
+            cabinet.generation,
             count(cabinet.stripes as usize, "stripe")
-        ));
+        )),
+        None if opened.begins_with_one => {
+            let words = screen.paint(Paint::Warning, "cannot be read");
+            screen.line(format!("  label     {words}"));
+        }
+        None => {}
     }
     match &opened.header {
         None => screen.line("  header    none: too few bytes"),
@@ -209,15 +241,16 @@ fn expected(
     opened: &Opened,
 ) -> Result<Expected, Failure> {
     let claimed = opened.header.as_ref();
-    let claimed = claimed.and_then(|header| claimed_by(header, opened.length));
+    let claimed = claimed.and_then(|header| claimed_by(header, opened.entry.length));
     let folder = folder_of(path);
-    let described = Description::of(disk, folder);
-    let agreed = Census::take(disk, folder)?.agreed(described.as_ref().ok().copied().flatten());
-    let beside = match (agreed, described) {
-        (Some(agreed), _) => Some(agreed),
-        (None, Ok(described)) => described,
-        (None, Err(_)) if Description::of_settings(arguments)?.is_some() => None,
-        (None, Err(failure)) => return Err(failure),
+    let census = Census::take(disk, folder)?;
+    let beside = match (census.agreed(), census.described) {
+        (Ok(Some(agreed)), _) => Some(agreed),
+        // Where it cannot be told which cabinet the folder's is, the file speaks for itself.
+        (Err(_), _) => None,
+        (Ok(None), Ok(described)) => described,
+        (Ok(None), Err(_)) if Description::of_settings(arguments)?.is_some() => None,
+        (Ok(None), Err(failure)) => return Err(failure),
     };
     let own = opened.label.map(|label| label.cabinet);
     let named = Description::of_settings(arguments)?.filter(|_| own.is_none());

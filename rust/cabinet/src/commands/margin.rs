@@ -13,14 +13,14 @@ use crate::terminal::arguments::Arguments;
 use crate::terminal::cabinet_map;
 use crate::terminal::report;
 use crate::terminal::screen::{Paint, Screen};
-use crate::terminal::words::trays;
+use crate::terminal::words::{hanging, trays};
 use gesarumbo::{ABSENT, DEMONSTRATION, LIVE};
 
 pub const COMMAND: Command = Command {
     name: "margin",
     summary: "say how many more trays may be lost",
     help: HELP,
-    settings: &description::SETTINGS,
+    settings: &description::SETTINGS_AND_JOBS,
     run,
 };
 
@@ -30,8 +30,9 @@ cabinet margin DIR
 Draws the cabinet and says its loss margin, the least of its segments. A tray
 counts as live in a segment if its header is taken and its checksum is right, as
 demonstration if it is refused for that, and else as absent; in the drawing it
-is live if it is in every segment. Trays with wrong checksums are named. A
-margin below zero is an answer too (0): the records cannot be recovered.
+is live if it is in every segment. Trays with wrong checksums, with a label that
+cannot be read and with a file that is too long are named. A margin below zero
+is an answer too (0): the records cannot be recovered.
 ";
 
 fn run(arguments: &Arguments, disk: &dyn Disk, screen: &mut Screen) -> Result<Outcome, Failure> {
@@ -56,10 +57,22 @@ fn margin<S: Symbol>(cabinet: &Cabinet, screen: &mut Screen) -> Result<Outcome, 
         (1, _) | (_, true) => String::new(),
         _ => format!(" in {}, the first with the least", stripes(&survey.worst)),
     };
+    let unlabelled = (cabinet.unlabelled(), "labels that cannot be read");
+    let long = (cabinet.too_long(), "files that are too long");
     if !survey.rotten.is_empty() {
         let words = screen.paint(Paint::Bad, "wrong checksums");
         let trays = trays(&survey.rotten);
         screen.line(format!("  {words}: {trays}; cabinet test says where"));
+    }
+    for (found, words) in [unlabelled, long] {
+        if !found.is_empty() {
+            let words = screen.paint(Paint::Warning, words);
+            let text = format!(
+                "{words}: {}; cabinet recover writes them anew",
+                trays(&found)
+            );
+            screen.line(hanging("  ", &text));
+        }
     }
     say(survey.margin.into(), &place, screen);
     screen.fact("cabinet", report::cabinet(cabinet));

@@ -118,7 +118,7 @@ fn read<S: Symbol>(
     let stripe = segment.stripe(asked.stripe);
     let reading = match asked.lost {
         None => Reading::of_store(&stripe, asked.tray),
-        Some(lost) => under_repair(&stripe, lost, arguments, screen)?,
+        Some(lost) => under_repair(cabinet, &stripe, lost, arguments, screen)?,
     };
     let (part, source, held) = reading
         .read(asked.tray, asked.layers.clone())
@@ -158,13 +158,14 @@ fn say_held<S>(part: &[S], held: Held, screen: &mut Screen) -> Outcome {
 
 /// Opens the spare of a lost tray, and says how far its repair is and what was not compared.
 fn under_repair<'a, S: Symbol>(
+    cabinet: &Cabinet,
     stripe: &'a Stripe<'a, S>,
     lost: Tray,
     arguments: &Arguments,
     screen: &mut Screen,
 ) -> Result<Reading<'a, S>, Failure> {
-    let path = checkpoint_path(arguments, stripe.cabinet, &[lost])?;
-    let (reading, origin) = Reading::open(stripe, lost, &path)?;
+    let path = checkpoint_path(arguments, cabinet, &[lost])?;
+    let (reading, origin) = Reading::open(cabinet, stripe, lost, &path)?;
     let (done, groups) = (reading.done, stripe.cabinet.numbers.groups);
     screen.line(format!(
         "  tray {lost} is under repair: {done} of {groups} groups are done"

@@ -2,32 +2,32 @@
 
 use super::Command;
 use crate::code::field::in_field;
-use crate::code::symbol::{to_data, Symbol};
+use crate::code::symbol::{is_zero, to_data, Symbol};
 use crate::disk::Disk;
 use crate::failure::{Failure, Outcome};
 use crate::files::cabinet::Cabinet;
 use crate::files::checkpoint::Checkpoint;
 use crate::files::description;
+use crate::files::erasures::{Erasures, INSIST};
 use crate::files::faults::Faults;
-use crate::files::mend::{mend, union, Held, Mended};
+use crate::files::mend::{mend_as, union, Held, Mended, Mending};
 use crate::files::rebuild::{Rebuild, Rebuilding};
-use crate::files::segment::Segment;
+use crate::files::segment::{with_segment, Segment};
 use crate::files::survey::Survey;
+use crate::jobs::JOBS;
 use crate::terminal::arguments::{Arguments, Setting};
 use crate::terminal::screen::{Paint, Screen};
 use crate::terminal::words::trays;
 use crate::terminal::{progress, report};
 use gesarumbo::{checksum, Tray};
+use std::collections::BTreeMap;
 use std::path::Path;
 
 const ERASE: Setting = Setting::with(
     "--erase",
-    "a,b,..",
-    "write these trays anew too, as the others say they should be",
-);
-const INSIST: Setting = Setting::plain(
-    "--insist",
-    "write trays that are named by --erase anew though nothing is left to test the others by",
+    "a,b:S,..",
+    "write these trays anew too, as the others say they should be; b is doubted only in stripe S, or \
+     stripes S-T, with --insist",
 );
 
 pub const COMMAND: Command = Command {
@@ -37,6 +37,7 @@ pub const COMMAND: Command = Command {
     settings: &[
         ERASE,
         INSIST,
+        JOBS,
         description::LAYOUT,
         description::VOLUME,
         description::FIELD,
@@ -46,7 +47,7 @@ pub const COMMAND: Command = Command {
 };
 
 const HELP: &str = "\
-cabinet recover DIR [--erase a,b,.. [--insist]]
+cabinet recover DIR [--erase a,b:S,.. [--insist]]
 
 Brings back every tray of DIR that is absent, damaged, refused (malformed,
 demonstration, of another layout or volume), of another place or of another
@@ -72,10 +73,10 @@ const WORK: &str = "recover";
 
 fn run(arguments: &Arguments, disk: &dyn Disk, screen: &mut Screen) -> Result<Outcome, Failure> {
     let [folder] = arguments.words(["DIR"])?;
-    let named = arguments.list(ERASE)?.unwrap_or_default();
-    let named: Vec<Tray> = named.into_iter().map(Tray::new).collect();
+    let named = Erasures::asked(arguments, ERASE)?;
     let insists = arguments.has(INSIST);
     let cabinet = Cabinet::find(disk, folder, arguments)?;
+    named.judge(&cabinet)?;
     in_field!(
         cabinet.description.field,
         recover(&cabinet, &named, insists, screen)
@@ -85,38 +86,53 @@ fn run(arguments: &Arguments, disk: &dyn Disk, screen: &mut Screen) -> Result<Ou
 /// What a recovery is to do, and what it has found.
 struct Recovery<'a> {
     cabinet: &'a Cabinet<'a>,
-    named: &'a [Tray],
+    named: &'a Erasures,
     faults: Faults,
     held: Held,
     /// Of the data of the stripes examined so far.
     checksum: u64,
     /// Bytes of data that are not examined yet.
     left: u64,
+    /// Whether zeros follow the data, as they were stored.
+    is_filled: bool,
+    /// The segments that only the checksum of all data bears out, and what they are known by.
+    doubted: BTreeMap<u32, u64>,
+}
+
+/// What the stripes of a segment are known by.
+fn known_by<S: Symbol>(stripes: &[Mended<S>]) -> u64 {
+    let sum = |sum, one: &Mended<S>| checksum(sum, &S::to_bytes(&one.codeword));
+    stripes.iter().fold(0, sum)
 }
 
 /// Brings back all trays that are missing, wrong or named.
 pub fn recover<S: Symbol>(
     cabinet: &Cabinet,
-    named: &[Tray],
+    erasures: &Erasures,
     insists: bool,
     screen: &mut Screen,
 ) -> Result<Outcome, Failure> {
     let survey = Survey::of::<S>(cabinet, screen)?;
+    let named = &erasures.trays();
     judge::<S>(cabinet, named)?;
-    if let Some((tray, words)) = survey.closed.iter().find(|(tray, _)| !named.contains(tray)) {
+    let not_named = |(tray, _): &&(Tray, String)| !named.contains(tray);
+    if let Some((tray, words)) = survey.closed.iter().find(not_named) {
         let path = cabinet.image_path(*tray);
         return Err(Failure::File(format!(
             "{}: {words}; this is not taken for damage (see --erase)",
             path.display()
         )));
     }
+    cabinet.guard_newer(named)?;
     let mut recovery = Recovery {
         cabinet,
-        named,
+        named: erasures,
         faults: Faults::default(),
         held: Held::Checks,
         checksum: 0,
         left: cabinet.description.length.unwrap_or(0),
+        is_filled: true,
+        doubted: BTreeMap::new(),
     };
     recovery.examine::<S>()?;
     if recovery.held == Held::Nothing && !named.is_empty() && !insists {
@@ -128,9 +144,8 @@ pub fn recover<S: Symbol>(
         )));
     }
     let mut erased = union(&survey.damaged(), named);
+    recovery.faults.add_files(cabinet, &survey.damaged());
     erased = union(&erased, &recovery.faults.trays());
-    erased = union(&erased, &cabinet.unlabelled());
-    recovery.faults.add_labels(cabinet, &survey.damaged());
     recovery.rebuild::<S>(&erased, screen)?;
     recovery.faults.say(cabinet, screen);
     Ok(recovery.report(&erased, screen))
@@ -149,15 +164,26 @@ impl Recovery<'_> {
     /// Puts all stripes right once, without writing: which trays are wrong is known before any is
     /// written.
     fn examine<S: Symbol>(&mut self) -> Result<(), Failure> {
-        for segment in self.cabinet.segments::<S>(0) {
-            let segment = segment?;
-            let mended = mend(&segment, self.named)?;
-            self.faults.add(&segment, &mended);
-            let held = mended.iter().map(|one| one.held).min();
+        let mut doubt = None;
+        let (cabinet, named) = (self.cabinet, self.named);
+        let mend = with_segment(|segment: &Segment<S>| mend_as(segment, named));
+        cabinet.over(cabinet.from_segment(0), mend, |(segment, mended)| {
+            let mended = mended?;
+            let stripes = mended.stripes;
+            if mended.doubt.is_some() {
+                self.doubted.insert(segment.number, known_by(&stripes));
+            }
+            doubt = doubt.take().or(mended.doubt);
+            self.faults.add(&segment, &stripes);
+            let held = stripes.iter().map(|one| one.held).min();
             self.held = self.held.min(held.unwrap_or(Held::Checks));
-            mended.iter().for_each(|one| self.sum(&one.codeword));
-        }
+            stripes.iter().for_each(|one| self.sum(&one.codeword));
+            Ok(())
+        })?;
         let stored = self.cabinet.description.checksum;
+        if stored != Some(self.checksum) || !self.is_filled {
+            doubt.map_or(Ok(()), Err)?;
+        }
         match stored.is_none_or(|stored| stored == self.checksum) {
             true => Ok(()),
             false => Err(Failure::Contents(
@@ -174,6 +200,7 @@ impl Recovery<'_> {
         let data = to_data(&codeword[..here]).unwrap_or_default();
         self.checksum = checksum(self.checksum, &data);
         self.left -= here as u64;
+        self.is_filled &= is_zero(&codeword[here..room]);
     }
 
     /// Writes these trays anew.
@@ -184,16 +211,25 @@ impl Recovery<'_> {
         let cabinet = self.cabinet;
         let mut rebuild = open::<S>(cabinet, erased, screen)?;
         let first = cabinet.geometry.segment_of(rebuild.next);
-        for segment in cabinet.segments::<S>(first) {
-            let segment = segment?;
-            let mended = mend(&segment, self.named)?;
-            write(&mut rebuild, &segment, &mended, erased)?;
-            progress::segment(cabinet, &segment.stripes, screen);
-            if rebuild.is_due() {
-                let over = segment.stripe(segment.stripes.end - 1).fingerprint();
-                rebuild.save(0, over, &[])?;
+        let named = self.named;
+        let mend = with_segment(|segment: &Segment<S>| mend_as(segment, named));
+        cabinet.over(cabinet.from_segment(first), mend, |(segment, mended)| {
+            let Mending { stripes, doubt } = mended?;
+            if let Some(doubt) = doubt {
+                let seen = self.doubted.get(&segment.number);
+                seen.filter(|seen| **seen == known_by(&stripes))
+                    .ok_or(doubt)?;
             }
-        }
+            write(&mut rebuild, &segment, &stripes, erased)?;
+            progress::segment(cabinet, &segment.stripes, screen);
+            match rebuild.is_due() {
+                true => {
+                    let over = segment.stripe(segment.stripes.end - 1).fingerprint();
+                    rebuild.save(0, over, &[])
+                }
+                false => Ok(()),
+            }
+        })?;
         rebuild.publish()
     }
 

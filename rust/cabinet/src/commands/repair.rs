@@ -9,6 +9,7 @@ use crate::failure::{Failure, Outcome};
 use crate::files::cabinet::Cabinet;
 use crate::files::description;
 use crate::files::survey::Survey;
+use crate::jobs::JOBS;
 use crate::repair::helpers::helpers;
 use crate::repair::in_groups::{is_full_set, GroupRepair, Means};
 use crate::repair::shares::Shares;
@@ -64,6 +65,7 @@ pub const COMMAND: Command = Command {
         BUDGET,
         CARD,
         SPARE,
+        JOBS,
         description::LAYOUT,
         description::VOLUME,
         description::FIELD,

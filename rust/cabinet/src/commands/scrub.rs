@@ -8,6 +8,7 @@ use crate::drawing::scrub_picture;
 use crate::failure::{Failure, Outcome};
 use crate::files::cabinet::Cabinet;
 use crate::files::{checkpoint, description, output};
+use crate::jobs::JOBS;
 use crate::scrub::verdict::conclude;
 use crate::scrub::{self, record, Scrub};
 use crate::terminal::arguments::{Arguments, Setting};
@@ -42,6 +43,7 @@ pub const COMMAND: Command = Command {
         RECORD,
         MAP,
         SVG,
+        JOBS,
         description::LAYOUT,
         description::VOLUME,
         description::FIELD,

@@ -9,6 +9,7 @@ use crate::files;
 use crate::files::cabinet::Cabinet;
 use crate::files::description::{Description, Format};
 use crate::files::geometry::many;
+use crate::jobs::{self, JOBS};
 use crate::storing::store;
 use crate::terminal::arguments::{needed, Arguments, Setting};
 use crate::terminal::report;
@@ -34,7 +35,7 @@ pub const COMMAND: Command = Command {
     name: "store",
     summary: "store a file of any length in a new cabinet",
     help: HELP,
-    settings: &[VOLUME, FIELD, EXACT, REPLACE],
+    settings: &[VOLUME, FIELD, EXACT, REPLACE, JOBS],
     run,
 };
 
@@ -79,7 +80,8 @@ fn run(arguments: &Arguments, disk: &dyn Disk, screen: &mut Screen) -> Result<Ou
     if description.last_volume().is_none() || u64::from(description.stripes) * room < length {
         return Err(Failure::Usage(description.too_many()));
     }
-    let cabinet = Cabinet::new(disk, Path::new(folder), description)?;
+    let mut cabinet = Cabinet::new(disk, Path::new(folder), description)?;
+    cabinet.jobs = jobs::asked(arguments)?;
     let replace = arguments.has(REPLACE);
     let description = in_field!(field, store(cabinet, &mut data, replace, screen))?;
     let cabinet = Cabinet::new(disk, Path::new(folder), description)?;

@@ -16,7 +16,7 @@ pub const COMMAND: Command = Command {
     name: "test",
     summary: "test whether all trays fit together, and name those that do not",
     help: HELP,
-    settings: &description::SETTINGS,
+    settings: &description::SETTINGS_AND_JOBS,
     run,
 };
 

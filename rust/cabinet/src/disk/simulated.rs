@@ -105,6 +105,10 @@ pub enum Kept {
     First(usize),
     /// By a number without a pattern.
     Some(u64),
+    /// Those whose bits are set.
+    Set(u64),
+    /// All, but only the first half of what each has written.
+    Halves,
 }
 
 impl Kept {
@@ -116,6 +120,8 @@ impl Kept {
             Kept::Only(one) => place == one,
             Kept::First(count) => place < count,
             Kept::Some(seed) => mixed(seed, place as u64) & 1 == 1,
+            Kept::Set(bits) => (bits >> place) & 1 == 1,
+            Kept::Halves => true,
         }
     }
 }
@@ -257,8 +263,13 @@ impl Simulated {
         for file in files.values_mut() {
             let mut bytes = file.synced.clone();
             for pending in std::mem::take(&mut file.pending) {
-                if contents.keeps(place) {
-                    change(&mut bytes, &pending);
+                match (contents, pending) {
+                    (Kept::Halves, Change::Write(at, mut written)) => {
+                        written.truncate(written.len() / 2);
+                        change(&mut bytes, &Change::Write(at, written));
+                    }
+                    (_, pending) if contents.keeps(place) => change(&mut bytes, &pending),
+                    _ => {}
                 }
                 place += 1;
             }
@@ -276,6 +287,16 @@ impl Simulated {
     /// A disk with the same contents, all of it synced, and no call made.
     pub fn copy(&self) -> Simulated {
         self.after_cut(Kept::All, Kept::All)
+    }
+
+    /// Every folder and file on the disk, with what it holds: what tells this disk from others.
+    pub fn everything(&self) -> BTreeMap<PathBuf, Option<Vec<u8>>> {
+        let state = self.0.borrow();
+        let one = |(path, node): (&PathBuf, &Node)| match node {
+            Node::File(number) => (path.clone(), Some(state.files[number].now.clone())),
+            Node::Folder => (path.clone(), None),
+        };
+        state.names.iter().map(one).collect()
     }
 
     /// Counts a call, which fails if it is told to.

@@ -1,33 +1,41 @@
 //! A cabinet kept as a folder: one file a tray, each with a label that says what the cabinet is, and
 //! one lock, which readers share.
 
-use super::census::{file_name, Census, TrayFile};
+use super::census::{Census, TrayFile};
 use super::description::{Description, Format, NAME};
-use super::geometry::Geometry;
-use super::segment::Segment;
-use crate::code::numbers::Numbers;
+use super::segment::{Raw, Segment};
+use super::shape::Shape;
 use crate::code::symbol::Symbol;
 use crate::disk::{Disk, Hold, Kind, Lock};
 use crate::failure::Failure;
+use crate::jobs;
 use crate::terminal::arguments::Arguments;
-use gesarumbo::{checksum, Tray, LIVE};
+use gesarumbo::Tray;
 use std::cell::RefCell;
-use std::path::{Path, PathBuf};
+use std::ops::{Deref, Range};
+use std::path::Path;
 
 /// Where a cabinet is, and which one is expected there.
 pub struct Cabinet<'d> {
     pub disk: &'d dyn Disk,
-    path: PathBuf,
     lock: RefCell<Option<Box<dyn Lock>>>,
-    pub description: Description,
+    shape: Shape,
     /// What the folder itself says, whatever the settings are.
     stored: Option<Description>,
-    /// Where the checksums of its segments start.
-    pub seed: u64,
-    pub numbers: Numbers,
-    pub geometry: Geometry,
     /// What stands at each tray's place.
     pub trays: Vec<Option<TrayFile>>,
+    /// The trays of cabinets that nothing here describes.
+    strange: Vec<Tray>,
+    /// How many threads compute at once.
+    pub jobs: usize,
+}
+
+impl Deref for Cabinet<'_> {
+    type Target = Shape;
+
+    fn deref(&self) -> &Shape {
+        &self.shape
+    }
 }
 
 impl<'d> Cabinet<'d> {
@@ -46,8 +54,10 @@ impl<'d> Cabinet<'d> {
         };
         let mut cabinet = Cabinet::new(disk, path, expected)?;
         cabinet.stored = stored;
-        cabinet.seed = stored.unwrap_or(expected).seed();
+        cabinet.jobs = jobs::asked(arguments)?;
+        cabinet.shape.seed = stored.unwrap_or(expected).seed();
         cabinet.lock = RefCell::new(Some(lock));
+        cabinet.strange = census.of_unknown();
         let trays = cabinet.numbers.trays as u32;
         cabinet.trays = census.of(&stored.unwrap_or(expected), trays);
         Ok(cabinet)
@@ -59,66 +69,87 @@ impl<'d> Cabinet<'d> {
         path: &Path,
         description: Description,
     ) -> Result<Cabinet<'d>, Failure> {
-        let numbers = Numbers::of(description.layout, description.field)?;
+        let shape = Shape::new(path, description)?;
         Ok(Cabinet {
             disk,
-            path: path.to_path_buf(),
             lock: RefCell::new(None),
-            description,
             stored: None,
-            seed: description.seed(),
-            numbers,
-            geometry: Geometry::of(&description, &numbers),
-            trays: (0..numbers.trays).map(|_| None).collect(),
+            trays: (0..shape.numbers.trays).map(|_| None).collect(),
+            strange: Vec::new(),
+            jobs: 1,
+            shape,
         })
     }
 
-    /// A file of the folder.
-    pub fn file(&self, name: &str) -> PathBuf {
-        self.path.join(name)
+    /// Why a file is not used that is of another cabinet, in words; nothing for one of this.
+    pub fn is_other(&self, file: &TrayFile) -> Option<String> {
+        let stored = self.stored?;
+        let what = match file.label {
+            Some(_) => "its label is",
+            None => "its segments are",
+        };
+        match file.cabinet() {
+            Some(other) if other == stored => None,
+            Some(other) if other.generation == stored.generation => {
+                Some(format!("{what} of another cabinet"))
+            }
+            Some(other) => {
+                let (found, expected) = (other.generation, stored.generation);
+                Some(format!("{what} of generation {found}, not {expected}"))
+            }
+            None => self
+                .strange
+                .contains(&file.tray)
+                .then(|| "its segments are of a cabinet that nothing here describes".to_string()),
+        }
     }
 
-    pub fn folder(&self) -> &Path {
-        &self.path
+    /// Fails where a tray may be of a newer cabinet than this one: nothing is written over it unless
+    /// a person names it.
+    pub fn guard_newer(&self, named: &[Tray]) -> Result<(), Failure> {
+        let generation = self.stored.map_or(0, |stored| stored.generation);
+        let is_newer = |file: &&TrayFile| match file.cabinet() {
+            Some(other) => other.generation > generation,
+            None => true,
+        };
+        let not_named = |file: &&TrayFile| !named.contains(&file.tray);
+        let files = self.trays.iter().flatten().filter(not_named);
+        let mut newer = files.filter(is_newer);
+        match newer.find_map(|file| Some((file, self.is_other(file)?))) {
+            None => Ok(()),
+            Some((file, words)) => Err(Failure::Contents(format!(
+                "{}: {words}: it may be newer, and is not written over unless it is named (see \
+                 --erase, or cabinet replace)",
+                file.path.display()
+            ))),
+        }
     }
 
-    /// A tray's file.
-    pub fn image_path(&self, tray: Tray) -> PathBuf {
-        self.path.join(file_name(tray))
-    }
-
-    /// Why a tray with a label of this cabinet is not used, in words; nothing where it is.
-    pub fn is_other(&self, labelled: &Description) -> Option<String> {
-        let stored = self.stored.filter(|stored| stored != labelled)?;
-        let (found, expected) = (labelled.generation, stored.generation);
-        Some(match found == expected {
-            true => "its label is of another cabinet".to_string(),
-            false => format!("its label is of generation {found}, not {expected}"),
-        })
+    /// The trays, of files that are used, of which this is so.
+    fn trays_with(&self, is_so: impl Fn(&TrayFile) -> bool) -> Vec<Tray> {
+        let files = self.trays.iter().flatten();
+        let used = files.filter(|file| file.file.is_ok() && self.is_other(file).is_none());
+        match self.description.format {
+            Format::First => Vec::new(),
+            Format::Second => used.filter(|file| is_so(file)).map(|of| of.tray).collect(),
+        }
     }
 
     /// The trays whose own label cannot be read, where there should be one.
     pub fn unlabelled(&self) -> Vec<Tray> {
-        let is_so = |tray: &Tray| {
-            let file = self.trays[tray.number() as usize].as_ref();
-            file.is_some_and(|file| file.file.is_ok() && file.label.is_none())
-        };
-        match self.description.format {
-            Format::First => Vec::new(),
-            Format::Second => self.numbers.all_trays().filter(is_so).collect(),
-        }
+        self.trays_with(|file| file.label.is_none())
+    }
+
+    /// The trays whose files go on after their last segment.
+    pub fn too_long(&self) -> Vec<Tray> {
+        let end = self.geometry.end();
+        self.trays_with(|file| file.entry.is_some_and(|entry| entry.length > end))
     }
 
     /// The mode that a new tray file has: that of one that is there.
     pub fn mode(&self) -> Option<u32> {
-        let open = self.trays.iter().flatten();
-        let mut modes = open.filter_map(|tray| tray.file.as_ref().ok()?.entry().ok());
-        modes.next().map(|entry| entry.mode)
-    }
-
-    /// The volume of a segment.
-    pub fn volume(&self, segment: u32) -> u32 {
-        self.description.volume + segment
+        let mut entries = self.trays.iter().flatten().filter_map(|file| file.entry);
+        entries.next().map(|entry| entry.mode)
     }
 
     /// The segments from one on, each with every tray.
@@ -128,6 +159,34 @@ impl<'d> Cabinet<'d> {
     ) -> impl Iterator<Item = Result<Segment<'_, S>, Failure>> {
         let all = first..self.geometry.segments();
         all.map(|number| Segment::read(self, number, &|_| true))
+    }
+
+    /// Goes over segments: each is read in its order, worked on beside others, and what comes of it
+    /// is taken in its order.
+    pub fn over<'a, S: Symbol, R: Send>(
+        &'a self,
+        segments: Range<u32>,
+        work: impl Fn(Segment<'a, S>) -> Result<R, Failure> + Sync,
+        mut take: impl FnMut(R) -> Result<(), Failure>,
+    ) -> Result<(), Failure> {
+        let shape = &self.shape;
+        let size = self.geometry.size(0) * self.numbers.trays;
+        let at_once = jobs::at_once(self.jobs, size);
+        for first in segments.clone().step_by(at_once) {
+            let end = segments.end.min(first.saturating_add(at_once as u32));
+            let read = |number| Raw::read(self, number, &|_| true);
+            let raw: Vec<Raw> = (first..end).map(read).collect::<Result<_, Failure>>()?;
+            let work = |raw| Segment::of(shape, raw).and_then(&work);
+            for done in jobs::map(self.jobs, raw, work) {
+                take(done?)?;
+            }
+        }
+        Ok(())
+    }
+
+    /// All segments from one on.
+    pub fn from_segment(&self, first: u32) -> Range<u32> {
+        first..self.geometry.segments()
     }
 
     /// The segment of a stripe.
@@ -141,64 +200,24 @@ impl<'d> Cabinet<'d> {
         }
     }
 
-    /// Where something is, for messages: nothing where there is only one stripe.
-    pub fn place(&self, stripe: u32) -> String {
-        match self.description.stripes {
-            1 => String::new(),
-            _ => format!("stripe {stripe}: "),
-        }
-    }
-
-    /// A tray's segment as its file has it, of symbols interleaved.
-    pub fn segment_bytes<S: Symbol>(
-        &self,
-        segment: u32,
-        tray: Tray,
-        part: &[S],
-    ) -> Result<Vec<u8>, Failure> {
-        self.segment_bytes_as(LIVE, segment, tray, part)
-    }
-
-    /// A tray's segment, in any state.
-    pub fn segment_bytes_as<S: Symbol>(
-        &self,
-        state: u8,
-        segment: u32,
-        tray: Tray,
-        part: &[S],
-    ) -> Result<Vec<u8>, Failure> {
-        let mut bytes = vec![0; self.geometry.image()];
-        let (layout, volume) = (self.description.layout, self.volume(segment));
-        let (first, rest) = part.split_at(self.numbers.layers);
-        (S::CALLS.write_image)(layout, tray, state.into(), volume, first, &mut bytes)
-            .map_err(Failure::refused(format!("image of tray {tray}")))?;
-        bytes.extend(S::to_bytes(rest));
-        if self.geometry.has_checksums() {
-            let check = checksum(self.seed, &bytes);
-            bytes.extend(check.to_le_bytes());
-        }
-        Ok(bytes)
-    }
-
     /// Takes the lock alone, once all readers are done, and makes sure that the folder still holds
     /// the cabinet that was found in it.
     pub fn take_alone(&self) -> Result<(), Failure> {
         self.lock.take();
         let lock = self
             .disk
-            .lock(&self.path, Hold::Exclusive, true)
-            .map_err(Failure::file(&self.path))?;
+            .lock(self.folder(), Hold::Exclusive, true)
+            .map_err(Failure::file(self.folder()))?;
         self.lock.replace(lock);
-        let census = Census::take(self.disk, &self.path)?;
-        let described = Description::of(self.disk, &self.path).unwrap_or_default();
-        match census.agreed(described).or(described) == self.stored {
+        let census = Census::take(self.disk, self.folder())?;
+        match census.agreed()?.or(census.description()) == self.stored {
             true => match self.stored {
-                Some(stored) => census.roll_forward(self.disk, &self.path, &stored),
+                Some(stored) => census.roll_forward(self.disk, self.folder(), &stored),
                 None => Ok(()),
             },
             false => Err(Failure::Contents(format!(
                 "{}: another cabinet has been stored here since; nothing is put in its place",
-                self.path.display()
+                self.folder().display()
             ))),
         }
     }
@@ -230,9 +249,9 @@ fn stored(
     path: &Path,
     arguments: &Arguments,
 ) -> Result<(Census, Option<Description>), Failure> {
-    let census = Census::take(disk, path)?;
-    let described = Description::of(disk, path);
-    let agreed = census.agreed(described.as_ref().ok().copied().flatten());
+    let mut census = Census::take(disk, path)?;
+    let agreed = census.agreed()?;
+    let described = std::mem::replace(&mut census.described, Ok(None));
     let stored = match (agreed, described) {
         (Some(agreed), _) => Some(agreed),
         (None, Ok(described)) => described,

@@ -1,17 +1,20 @@
-//! Which cabinet a folder holds: what most of its trays' labels agree on.
+//! Which cabinet a folder holds: what most of its trays agree on, by their labels, or by their
+//! segments' checksums where a label cannot be read.
 //!
 //! A store writes all tray files of a new generation under work names before the first gets its own.
 //! Where one has its own name, the new generation is whole, and the other files are found under
 //! their work names: so the old generation or the new one is there, whenever the store was cut.
 
-use super::description::{Description, NAME};
+use super::description::{Description, Format, NAME};
 use super::draft::{self, work_name};
 use super::geometry::many;
 use super::label::{Label, SIZE};
 use super::trouble::Trouble;
+use super::whose::{Start, Unlabelled, Whose};
 use super::{output, remove};
-use crate::disk::{read_part, Disk, Handle};
+use crate::disk::{read_part, Disk, Entry, Handle};
 use crate::failure::Failure;
+use crate::terminal::words::trays;
 use gesarumbo::Tray;
 use std::ffi::OsStr;
 use std::io;
@@ -27,29 +30,64 @@ pub struct TrayFile {
     /// Whether it has a tray's own name, and not a work name of a store.
     is_published: bool,
     pub file: Result<Box<dyn Handle>, (Trouble, String)>,
+    /// What the system says of it, where it is open.
+    pub entry: Option<Entry>,
     pub label: Option<Label>,
+    /// Whose it is, where the label cannot be read.
+    pub whose: Whose,
 }
 
 impl TrayFile {
-    /// A file that stands alone.
-    pub fn alone(tray: Tray, path: &Path, file: Box<dyn Handle>) -> TrayFile {
+    /// A file that stands alone, of this length.
+    pub fn alone(tray: Tray, path: &Path, file: Box<dyn Handle>, entry: Entry) -> TrayFile {
         TrayFile {
             tray,
             path: path.to_path_buf(),
             is_published: true,
             file: Ok(file),
+            entry: Some(entry),
             label: None,
+            whose: Whose::NOBODY,
+        }
+    }
+
+    /// Of which cabinet it is, by its label, or else by its segments.
+    pub fn cabinet(&self) -> Option<Description> {
+        match (&self.label, &self.whose) {
+            (Some(label), _) => Some(label.cabinet),
+            (None, Whose::Known(cabinet)) => Some(*cabinet),
+            (None, Whose::Unknown(_)) => None,
+        }
+    }
+
+    /// Which tray it is, by its label, or else by its name.
+    fn counted(&self) -> Tray {
+        self.label.map_or(self.tray, |label| label.tray)
+    }
+
+    /// The segments' starts, where no description of them is known.
+    fn starts(&self) -> &[Start] {
+        match &self.whose {
+            Whose::Unknown(starts) => starts,
+            Whose::Known(_) => &[],
         }
     }
 }
 
-/// All such files.
+/// All such files, and what `cabinet.txt` says.
 pub struct Census {
     files: Vec<TrayFile>,
+    pub described: Result<Option<Description>, Failure>,
+    folder: PathBuf,
 }
 
+/// How much speaks for a cabinet: whether as many trays of it are there as give its data back, and
+/// how many there are.
+type Weight = (bool, usize);
+
 impl Census {
-    /// Opens all tray files of a folder and reads their labels.
+    /// Opens all tray files of a folder and reads their labels; where one cannot be read, it looks
+    /// whose segments follow.
     pub fn take(disk: &dyn Disk, folder: &Path) -> Result<Census, Failure> {
         let names = disk.list(folder).map_err(Failure::file(folder))?;
         let mut files = Vec::new();
@@ -58,46 +96,149 @@ impl Census {
                 files.push(look(disk, folder.join(&name), tray, is_published)?);
             }
         }
-        Ok(Census { files })
-    }
-
-    /// The cabinet that most labels agree on, with one file of it at least under its own name, and
-    /// as many trays labelled as give the data back, if there is such a one; where as many agree on
-    /// two, the one that `cabinet.txt` describes, and else the newer.
-    pub fn agreed(&self, described: Option<Description>) -> Option<Description> {
-        let published = self.files.iter().filter(|file| file.is_published);
-        let all = published.filter_map(|file| file.label);
-        let weight = |label: &Label| {
-            let one = label.cabinet;
-            let votes = self.votes(one);
-            (
-                is_enough(&one, votes),
-                votes,
-                described == Some(one),
-                one.generation,
-            )
+        let mut census = Census {
+            files,
+            described: Description::of(disk, folder),
+            folder: folder.to_path_buf(),
         };
-        all.max_by_key(weight).map(|label| label.cabinet)
+        census.look_further()?;
+        Ok(census)
     }
 
-    fn votes(&self, cabinet: Description) -> usize {
-        let labels = self.files.iter().filter_map(|file| file.label);
-        let mut trays: Vec<u32> = labels
-            .filter(|label| label.cabinet == cabinet)
-            .map(|label| label.tray.number())
-            .collect();
+    /// What `cabinet.txt` says, if it can be read.
+    pub fn description(&self) -> Option<Description> {
+        self.described.as_ref().ok().copied().flatten()
+    }
+
+    /// Looks whose the files are that have no label. A folder of the first format has none at all.
+    fn look_further(&mut self) -> Result<(), Failure> {
+        let mut known: Vec<Description> = Vec::new();
+        let labelled = self.files.iter().filter_map(|file| file.label);
+        for cabinet in labelled
+            .map(|label| label.cabinet)
+            .chain(self.description())
+        {
+            if !known.contains(&cabinet) {
+                known.push(cabinet);
+            }
+        }
+        if known.iter().all(|cabinet| cabinet.format == Format::First) {
+            return Ok(());
+        }
+        for of in self.files.iter_mut().filter(|file| file.label.is_none()) {
+            let (Ok(file), Some(entry)) = (&of.file, of.entry) else {
+                continue;
+            };
+            let unlabelled = Unlabelled {
+                file: &**file,
+                tray: of.tray,
+                length: entry.length,
+            };
+            let whose = unlabelled.whose(&known);
+            of.whose = whose.map_err(Failure::file(&of.path))?;
+        }
+        Ok(())
+    }
+
+    /// The cabinet that most trays agree on, with one file of it at least under its own name, and
+    /// as many trays as give the data back, if there is such a one. Before all others of these goes
+    /// the newest, if `cabinet.txt` describes it; where as many trays agree on two, the one that it
+    /// describes, and else the newer. It cannot be told where as many are of a cabinet that nothing
+    /// here describes, and `cabinet.txt` is silent, nor where a newer one may be meant.
+    pub fn agreed(&self) -> Result<Option<Description>, Failure> {
+        let published = self.files.iter().filter(|file| file.is_published);
+        let all: Vec<Description> = published.filter_map(TrayFile::cabinet).collect();
+        let described = self.description();
+        let newest = all.iter().map(|one| one.generation).max();
+        let best = all.iter().copied().max_by_key(|one| {
+            let (is_enough, votes) = self.weight(one);
+            let (is_described, generation) = (described == Some(*one), one.generation);
+            let is_newest = is_described && Some(generation) == newest;
+            (is_enough, is_newest, votes, is_described, generation)
+        });
+        let weight = best.map(|best| self.weight(&best)).unwrap_or_default();
+        if let Some((other, found)) = self.unknown() {
+            let is_described = best.is_some() && described == best;
+            if other >= weight && !is_described && described.or(best).is_some() {
+                return Err(self.undecided(&found, "no label of theirs can be read", best));
+            }
+        }
+        let is_told = described.is_some_and(|described| all.contains(&described));
+        let is_meant = |one: &&Description| match is_told {
+            true => described == Some(**one),
+            false => self.weight(one).0,
+        };
+        let is_newer =
+            |one: &&Description| best.is_some_and(|best| one.generation > best.generation);
+        match all.iter().filter(is_newer).find(is_meant) {
+            Some(newer) => Err(self.undecided(&self.trays_of(newer), &newer_words(newer), best)),
+            None => Ok(best),
+        }
+    }
+
+    /// The trays of a cabinet, rising.
+    fn trays_of(&self, cabinet: &Description) -> Vec<Tray> {
+        let of_it = self.files.iter();
+        let of_it = of_it.filter(|file| file.cabinet().as_ref() == Some(cabinet));
+        let mut trays: Vec<Tray> = of_it.map(TrayFile::counted).collect();
         trays.sort();
         trays.dedup();
-        trays.len()
+        trays
     }
 
-    /// The newest generation of any label.
+    fn weight(&self, cabinet: &Description) -> Weight {
+        let trays = self.trays_of(cabinet).len();
+        (is_enough(cabinet, trays), trays)
+    }
+
+    /// The trays of a cabinet of which no description is known, those of the one with the most:
+    /// two segments or more whose checksums start from one number.
+    fn unknown(&self) -> Option<(Weight, Vec<Tray>)> {
+        let published = || self.files.iter().filter(|file| file.is_published);
+        let all: Vec<Start> = published().flat_map(TrayFile::starts).copied().collect();
+        let weigh = |one: &Start| {
+            if all.iter().filter(|other| *other == one).count() < 2 {
+                return None;
+            }
+            let of_it = published().filter(|file| file.starts().contains(one));
+            let trays: Vec<Tray> = of_it.map(|file| file.tray).collect();
+            Some(((trays.len() >= one.needed, trays.len()), trays))
+        };
+        all.iter()
+            .filter_map(weigh)
+            .max_by_key(|(weight, _)| *weight)
+    }
+
+    /// The trays of cabinets of which no description is known.
+    pub fn of_unknown(&self) -> Vec<Tray> {
+        let published = || self.files.iter().filter(|file| file.is_published);
+        let all: Vec<Start> = published().flat_map(TrayFile::starts).copied().collect();
+        let is_one = |start: &Start| all.iter().filter(|other| *other == start).count() > 1;
+        let of_one = published().filter(|file| file.starts().iter().any(is_one));
+        of_one.map(|file| file.tray).collect()
+    }
+
+    fn undecided(&self, found: &[Tray], why: &str, best: Option<Description>) -> Failure {
+        let (folder, found) = (self.folder.display(), trays(found));
+        let other = match best {
+            None => format!("{NAME} tells of another cabinet"),
+            Some(best) => {
+                let (of_it, generation) = (trays(&self.trays_of(&best)), best.generation);
+                format!("there is generation {generation} too: {of_it}")
+            }
+        };
+        Failure::Contents(format!(
+            "{folder}: which cabinet this is cannot be told: {found} belong together ({why}), and \
+             {other}; take those out that are not wanted"
+        ))
+    }
+
+    /// The newest generation of any tray, and of the description.
     pub fn newest(&self) -> u64 {
-        let labels = self.files.iter().filter_map(|file| file.label);
-        labels
-            .map(|label| label.cabinet.generation)
-            .max()
-            .unwrap_or(0)
+        let cabinets = self.files.iter().filter_map(TrayFile::cabinet);
+        let described = cabinets.chain(self.description());
+        let generations = described.map(|cabinet| cabinet.generation);
+        generations.max().unwrap_or(0)
     }
 
     /// Whether a file stands under a tray's own name.
@@ -144,7 +285,7 @@ impl Census {
     /// The file of each tray of a cabinet: the one under its own name, unless that is of another
     /// cabinet or missing and there is one under the work name.
     pub fn of(mut self, cabinet: &Description, trays: u32) -> Vec<Option<TrayFile>> {
-        let is_of = |file: &TrayFile| file.label.is_some_and(|label| label.cabinet == *cabinet);
+        let is_of = |file: &TrayFile| file.cabinet().as_ref() == Some(cabinet);
         let mut chosen = Vec::new();
         for tray in (0..trays).map(Tray::new) {
             let mut of_tray = |wanted: &dyn Fn(&TrayFile) -> bool| {
@@ -161,6 +302,10 @@ impl Census {
         }
         chosen
     }
+}
+
+fn newer_words(newer: &Description) -> String {
+    format!("generation {}, which is newer", newer.generation)
 }
 
 /// A tray's file name.
@@ -187,11 +332,13 @@ fn look(
     tray: Tray,
     is_published: bool,
 ) -> Result<TrayFile, Failure> {
-    let opened = disk.open(&path).map_err(|error| judged(&path, error));
-    let file = match opened {
-        Err(Err(local)) => return Err(local),
-        Err(Ok(trouble)) => Err(trouble),
-        Ok(file) => Ok(file),
+    let opened = disk.open(&path).and_then(|file| {
+        let entry = file.entry()?;
+        Ok((file, entry))
+    });
+    let (file, entry) = match opened {
+        Ok((file, entry)) => (Ok(file), Some(entry)),
+        Err(error) => (Err(judged(&path, error)?), None),
     };
     let mut label = None;
     if let Ok(file) = &file {
@@ -206,7 +353,9 @@ fn look(
         path,
         is_published,
         file,
+        entry,
         label,
+        whose: Whose::NOBODY,
     })
 }
 

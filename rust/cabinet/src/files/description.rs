@@ -10,6 +10,7 @@ use crate::code::layout;
 use crate::disk::Disk;
 use crate::failure::Failure;
 use crate::files;
+use crate::jobs::JOBS;
 use crate::terminal::arguments::{Arguments, Setting};
 use crate::terminal::words::{count, grouped};
 use gesarumbo::{checksum, Layout};
@@ -39,6 +40,9 @@ pub const STRIPES: Setting = Setting::with(
 
 /// The settings in place of a description, or of a part of it.
 pub const SETTINGS: [Setting; 4] = [LAYOUT, VOLUME, FIELD, STRIPES];
+
+/// The same with that of the threads.
+pub const SETTINGS_AND_JOBS: [Setting; 5] = [JOBS, LAYOUT, VOLUME, FIELD, STRIPES];
 
 /// The description's file.
 pub const NAME: &str = "cabinet.txt";

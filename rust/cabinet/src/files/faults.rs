@@ -31,6 +31,8 @@ pub struct Faults {
     unsure: BTreeMap<u32, Runs>,
     /// Trays that are used and whose label cannot be read.
     labels: Vec<Tray>,
+    /// Trays that are used and whose files go on after their last segment.
+    long: Vec<Tray>,
 }
 
 impl Faults {
@@ -58,10 +60,14 @@ impl Faults {
         }
     }
 
-    /// Takes in the trays whose label cannot be read, but for those that cannot be used at all.
-    pub fn add_labels(&mut self, cabinet: &Cabinet, unused: &[Tray]) {
-        self.labels = cabinet.unlabelled();
-        self.labels.retain(|tray| !unused.contains(tray));
+    /// Takes in the trays whose label cannot be read or whose file is too long, but for those that
+    /// cannot be used at all.
+    pub fn add_files(&mut self, cabinet: &Cabinet, unused: &[Tray]) {
+        let but = |trays: Vec<Tray>| -> Vec<Tray> {
+            let used = trays.into_iter().filter(|tray| !unused.contains(tray));
+            used.collect()
+        };
+        (self.labels, self.long) = (but(cabinet.unlabelled()), but(cabinet.too_long()));
     }
 
     /// Takes in the wrong trays of a stripe.
@@ -74,14 +80,16 @@ impl Faults {
 
     pub fn is_empty(&self) -> bool {
         let by_tray = [&self.wrong, &self.unsummed, &self.unsure];
-        by_tray.iter().all(|faults| faults.is_empty()) && self.labels.is_empty()
+        let is_none = self.labels.is_empty() && self.long.is_empty();
+        by_tray.iter().all(|faults| faults.is_empty()) && is_none
     }
 
     /// The trays with a fault.
     pub fn trays(&self) -> Vec<Tray> {
         let keys = self.wrong.keys().chain(self.unsummed.keys());
         let mut trays: Vec<u32> = keys.chain(self.unsure.keys()).copied().collect();
-        trays.extend(self.labels.iter().map(|tray| tray.number()));
+        let files = self.labels.iter().chain(&self.long);
+        trays.extend(files.map(|tray| tray.number()));
         trays.sort();
         trays.dedup();
         trays.into_iter().map(Tray::new).collect()
@@ -117,6 +125,12 @@ impl Faults {
         for tray in &self.labels {
             let words = screen.paint(Paint::Warning, "label cannot be read");
             screen.line(format!("  tray {tray}'s {words}"));
+        }
+        for tray in &self.long {
+            let words = screen.paint(Paint::Warning, "file is too long");
+            screen.line(format!(
+                "  tray {tray}'s {words}: bytes follow its last segment"
+            ));
         }
     }
 
@@ -188,6 +202,7 @@ impl Faults {
             unsummed: faults_of(unsummed)?,
             unsure: faults_of(unsure)?,
             labels: Vec::new(),
+            long: Vec::new(),
         })
     }
 }

@@ -73,9 +73,20 @@ impl Geometry {
         self.label + u64::from(segment) * whole as u64
     }
 
+    /// Where the last segment ends.
+    pub fn end(&self) -> u64 {
+        let last = self.segments() - 1;
+        self.offset(last) + self.size(last) as u64
+    }
+
     /// Bytes of a segment.
     pub fn size(&self, segment: u32) -> usize {
         HEADER + self.stripes_of(segment).len() * self.stripe + self.checksum
+    }
+
+    /// Bytes of a segment before its checksum.
+    pub fn summed(&self, segment: u32) -> usize {
+        self.size(segment) - self.checksum
     }
 
     /// Bytes of a segment's header and its first L symbols: what the library judges.

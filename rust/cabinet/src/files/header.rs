@@ -44,6 +44,11 @@ impl Header {
         self.0[..2] == starts && Field::with_edition(self.0[2]).is_some() && known
     }
 
+    /// Whether it is whole, and of a live image.
+    pub fn is_live(&self) -> bool {
+        self.is_whole() && self.0[3] == LIVE
+    }
+
     /// One line a number.
     pub fn words(&self) -> Vec<String> {
         let Description { layout, volume, .. } = self.claimed();

@@ -2,10 +2,13 @@
 //!
 //! Trays with a wrong checksum are erased first, and the library says whether the others fit, and
 //! which one is wrong where one is. Where too many have a wrong checksum to erase them all, each
-//! stripe is corrected with those erased that must be, and the result is taken only if the
-//! checksums bear it out: with the trays put right, no more of them may keep a wrong checksum than
-//! could be erased.
+//! stripe is corrected with those erased that must be. Then the checksums must bear it out: with the
+//! trays put right, k of them or more have the checksum that was written, so that the codewords are
+//! theirs. Where they do not, other sets are tried in the stripes that no check has settled; what is
+//! still not borne out only the checksum of all data can decide.
 
+use super::erasures::Erasures;
+use super::found::Found;
 use super::interleave::together;
 use super::segment::Segment;
 use super::stripe::Stripe;
@@ -14,12 +17,23 @@ use crate::failure::Failure;
 use gesarumbo::{Kept, Refusal, Tray};
 
 /// A stripe put right.
+#[derive(Clone)]
 pub struct Mended<S> {
     pub codeword: Vec<S>,
     /// Trays that are there and hold other symbols than they should.
     pub wrong: Vec<Tray>,
     /// What it was held against.
     pub held: Held,
+    /// How many checks were left over that it meets.
+    checks: usize,
+}
+
+/// A segment put right.
+pub struct Mending<S> {
+    pub stripes: Vec<Mended<S>>,
+    /// Why checks and checksums do not bear it out, where they do not: then the checksum of all data
+    /// has to.
+    pub doubt: Option<Failure>,
 }
 
 /// What symbols were held against.
@@ -33,30 +47,48 @@ pub enum Held {
     Checks,
 }
 
-/// No more sets of trays are tried for a stripe.
+/// No more sets of trays are tried for a stripe, and no more choices for a segment.
 const MOST_TRIES: usize = 4096;
 
-/// Puts all stripes of a segment right; trays that a person insists on are not looked at.
+/// Puts all stripes of a segment right; trays that a person insists on are not looked at. What is not
+/// sure is refused.
 pub fn mend<S: Symbol>(segment: &Segment<S>, insisted: &[Tray]) -> Result<Vec<Mended<S>>, Failure> {
-    let first = segment.stripe(segment.stripes.start);
-    let erased = union(&first.missing(), insisted);
-    let mut rotten = first.rotten();
-    rotten.retain(|tray| !erased.contains(tray));
-    let all = union(&erased, &rotten);
-    let is_clear = all.len() <= segment.cabinet.numbers.checks;
-    let mut mended = Vec::new();
+    let mending = mend_as(segment, &Erasures::whole(insisted))?;
+    match mending.doubt {
+        None => Ok(mending.stripes),
+        Some(doubt) => Err(doubt),
+    }
+}
+
+/// Puts all stripes of a segment right, with some trays not looked at in some stripes.
+pub fn mend_as<S: Symbol>(
+    segment: &Segment<S>,
+    erasures: &Erasures,
+) -> Result<Mending<S>, Failure> {
+    let (missing, rotten) = (segment.missing(), segment.rotten());
+    let checks = segment.cabinet.numbers.checks;
+    let (mut stripes, mut is_clear) = (Vec::new(), true);
     for number in segment.stripes.clone() {
         let stripe = segment.stripe(number);
-        let one = match is_clear {
+        let erased = union(&erasures.of(number), &segment.with_gaps(number));
+        let doubt = Doubt::of(&missing, &erased, &rotten);
+        let all = union(&doubt.erased, &doubt.rotten);
+        let one = match all.len() <= checks {
             true => correct(&stripe, &all),
-            false => search(&stripe, &erased, &rotten),
+            false => {
+                is_clear = false;
+                doubt.search(&stripe)
+            }
         };
-        mended.push(one.map_err(stripe.named())?);
+        stripes.push(one.map_err(stripe.named())?);
     }
-    if !is_clear {
-        confirm(segment, &mended, &erased, &rotten).map_err(segment.named())?;
+    let mut doubt = None;
+    if !is_clear && !is_borne_out(segment, &stripes)? && !choose(segment, &mut stripes, erasures)? {
+        let about = "the trays put right do not have the checksums that were written";
+        let failure = Failure::refused(about)(Refusal::Survivors);
+        doubt = Some(segment.named()(failure));
     }
-    Ok(mended)
+    Ok(Mending { stripes, doubt })
 }
 
 /// Two lists as one that rises.
@@ -86,11 +118,19 @@ fn correct<S: Symbol>(stripe: &Stripe<S>, erased: &[Tray]) -> Result<Mended<S>, 
         0 => Held::Nothing,
         _ => Held::Checks,
     };
-    Ok(finished(stripe, codeword, held))
+    // To find a wrong tray takes two checks.
+    let spent = if done.tray.is_some() { 2 } else { 0 };
+    let left = (done.checks as usize).saturating_sub(spent);
+    Ok(finished(stripe, codeword, held, left))
 }
 
 /// The stripe with its wrong trays named: those that are there and differ.
-fn finished<S: Symbol>(stripe: &Stripe<S>, codeword: Vec<S>, held: Held) -> Mended<S> {
+fn finished<S: Symbol>(
+    stripe: &Stripe<S>,
+    codeword: Vec<S>,
+    held: Held,
+    checks: usize,
+) -> Mended<S> {
     let layers = stripe.cabinet.numbers.layers;
     let pairs = codeword.chunks(layers).zip(stripe.codeword.chunks(layers));
     let trays = stripe.cabinet.numbers.all_trays().zip(pairs);
@@ -100,49 +140,180 @@ fn finished<S: Symbol>(stripe: &Stripe<S>, codeword: Vec<S>, held: Held) -> Mend
         wrong: wrong.map(|(tray, _)| tray).collect(),
         codeword,
         held,
+        checks,
     }
 }
 
-/// One stripe with more trays of a wrong checksum than can be erased: as few of them as must be.
-fn search<S: Symbol>(
-    stripe: &Stripe<S>,
-    erased: &[Tray],
-    rotten: &[Tray],
-) -> Result<Mended<S>, Failure> {
-    let (layout, checks) = (
-        stripe.cabinet.description.layout,
-        stripe.cabinet.numbers.checks,
-    );
-    let found = correct(stripe, erased);
-    match found {
-        Ok(found) if found.wrong.iter().all(|tray| rotten.contains(tray)) => return Ok(found),
-        Err(Failure::Refused { refusal, .. }) if refusal != Refusal::Survivors => return found,
-        _ => {}
+/// The trays of a stripe that are erased, and those of which it is not known whether they are right
+/// there.
+struct Doubt {
+    erased: Vec<Tray>,
+    rotten: Vec<Tray>,
+}
+
+impl Doubt {
+    fn of(missing: &[Tray], insisted: &[Tray], rotten: &[Tray]) -> Doubt {
+        let erased = union(missing, insisted);
+        let mut rotten = rotten.to_vec();
+        rotten.retain(|tray| !erased.contains(tray));
+        Doubt { erased, rotten }
     }
-    let room = checks.saturating_sub(erased.len() + 1);
-    for set in sets(rotten, room).take(MOST_TRIES) {
-        let tried = union(erased, &set);
-        if let Kept::Sound { checks: 1.. } = stripe.kept(&stripe.codeword, &tried)? {
-            let mut codeword = stripe.codeword.clone();
-            (S::CALLS.recover)(layout, &mut codeword, &tried)
-                .map_err(Failure::refused("recovery"))?;
-            return Ok(finished(stripe, codeword, Held::Checksums));
+
+    fn is_doubted(&self, tray: &Tray) -> bool {
+        self.rotten.contains(tray) || self.erased.contains(tray)
+    }
+
+    /// One stripe with more trays of a wrong checksum than can be erased: as few of them as must be.
+    fn search<S: Symbol>(&self, stripe: &Stripe<S>) -> Result<Mended<S>, Failure> {
+        let found = correct(stripe, &self.erased);
+        match found {
+            Ok(found) if found.wrong.iter().all(|tray| self.is_doubted(tray)) => return Ok(found),
+            Err(Failure::Refused { refusal, .. }) if refusal != Refusal::Survivors => return found,
+            _ => {}
         }
+        // Where no check is left to test by, the checksums have to tell.
+        for least in [1, 0] {
+            if let Some(found) = self.tries(stripe, least).next() {
+                return found;
+            }
+        }
+        let about = format!(
+            "{} trays are missing and {} have a wrong checksum",
+            self.erased.len(),
+            self.rotten.len()
+        );
+        Err(Failure::refused(about)(Refusal::Survivors))
     }
-    let about = format!(
-        "{} trays are missing and {} have a wrong checksum",
-        erased.len(),
-        rotten.len()
-    );
-    Err(Failure::refused(about)(Refusal::Survivors))
+
+    /// The stripe with sets of these trays erased besides, small sets first, wherever the others fit
+    /// and so many checks are left.
+    fn tries<'s, S: Symbol>(
+        &'s self,
+        stripe: &'s Stripe<'s, S>,
+        least: usize,
+    ) -> impl Iterator<Item = Result<Mended<S>, Failure>> + 's {
+        let (layout, checks) = (
+            stripe.cabinet.description.layout,
+            stripe.cabinet.numbers.checks,
+        );
+        let room = checks.saturating_sub(self.erased.len());
+        let one = move |set: Vec<Tray>| -> Result<Option<Mended<S>>, Failure> {
+            let tried = union(&self.erased, &set);
+            match stripe.kept(&stripe.codeword, &tried)? {
+                Kept::Sound { checks } if checks as usize >= least => {
+                    let mut codeword = stripe.codeword.clone();
+                    (S::CALLS.recover)(layout, &mut codeword, &tried)
+                        .map_err(Failure::refused("recovery"))?;
+                    let left = checks as usize;
+                    Ok(Some(finished(stripe, codeword, Held::Checksums, left)))
+                }
+                _ => Ok(None),
+            }
+        };
+        let sets = sets(&self.rotten, room).take(MOST_TRIES);
+        sets.filter_map(move |set| one(set).transpose())
+    }
+
+    /// All that a stripe may be: what the library finds, where a check is left over that it meets,
+    /// and else any with some of these trays erased, wherever the others fit.
+    fn all<S: Symbol>(&self, stripe: &Stripe<S>) -> Result<Vec<Mended<S>>, Failure> {
+        let found = correct(stripe, &self.erased);
+        let found = found.ok().filter(|found| {
+            let is_doubted = |tray| self.is_doubted(tray);
+            found.wrong.iter().all(is_doubted)
+        });
+        let mut all: Vec<Mended<S>> = found.into_iter().collect();
+        if all.first().is_some_and(|found| found.checks > 0) {
+            return Ok(all);
+        }
+        for one in self.tries(stripe, 0) {
+            let one = one?;
+            if all.iter().all(|other| other.codeword != one.codeword) {
+                all.push(one);
+            }
+        }
+        Ok(all)
+    }
 }
 
-/// All sets of two or more of these trays, no larger than this, small ones first.
+/// No more sets of trays are taken as wrong in a whole segment.
+const MOST_SETS: usize = 256;
+
+/// What the stripes of a segment may be with some trays erased in all of them.
+struct Choice<S> {
+    stripes: Vec<Vec<Mended<S>>>,
+    /// How many ways there are to take one for each stripe.
+    ways: usize,
+}
+
+impl<S: Symbol> Choice<S> {
+    /// With these trays erased in all stripes; nothing where a stripe cannot be anything then.
+    fn of(
+        segment: &Segment<S>,
+        erasures: &Erasures,
+        set: &[Tray],
+    ) -> Result<Option<Choice<S>>, Failure> {
+        let (missing, rotten) = (segment.missing(), segment.rotten());
+        let missing = union(&missing, set);
+        let (mut stripes, mut ways) = (Vec::new(), 1_usize);
+        for number in segment.stripes.clone() {
+            let erased = union(&erasures.of(number), &segment.with_gaps(number));
+            let doubt = Doubt::of(&missing, &erased, &rotten);
+            let all = doubt.all(&segment.stripe(number))?;
+            ways = ways.saturating_mul(all.len());
+            stripes.push(all);
+        }
+        Ok((ways > 0).then_some(Choice { stripes, ways }))
+    }
+
+    /// One of the ways.
+    fn way(&self, mut way: usize) -> Vec<Mended<S>> {
+        let take = |all: &Vec<Mended<S>>| {
+            let one = all[way % all.len()].clone();
+            way /= all.len();
+            one
+        };
+        self.stripes.iter().map(take).collect()
+    }
+}
+
+/// Tries all that the stripes may be, with some trays taken as wrong in all of them and others in
+/// some, those with the fewest ways first, until the checksums bear one out.
+fn choose<S: Symbol>(
+    segment: &Segment<S>,
+    stripes: &mut Vec<Mended<S>>,
+    erasures: &Erasures,
+) -> Result<bool, Failure> {
+    let rotten = segment.rotten();
+    let sets = std::iter::once(Vec::new()).chain(sets(&rotten, rotten.len()));
+    let mut choices: Vec<Choice<S>> = Vec::new();
+    for set in sets.take(MOST_SETS) {
+        choices.extend(Choice::of(segment, erasures, &set)?);
+    }
+    choices.sort_by_key(|choice| choice.ways);
+    let mut left = MOST_TRIES;
+    for choice in &choices {
+        for way in 0..choice.ways.min(left) {
+            let tried = choice.way(way);
+            if is_borne_out(segment, &tried)? {
+                *stripes = tried;
+                return Ok(true);
+            }
+        }
+        left -= choice.ways.min(left);
+    }
+    if let Some(choice) = choices.first() {
+        *stripes = choice.way(0);
+    }
+    Ok(false)
+}
+
+/// All sets of one or more of these trays, no larger than this, small ones first.
 fn sets(trays: &[Tray], most: usize) -> impl Iterator<Item = Vec<Tray>> + '_ {
     let mut set: Vec<usize> = Vec::new();
     std::iter::from_fn(move || {
         if !next_set(&mut set, trays.len()) {
-            set = (0..(set.len() + 1).max(2)).collect();
+            set = (0..set.len() + 1).collect();
         }
         let fits = set.len() <= most.min(trays.len());
         fits.then(|| set.iter().map(|place| trays[*place]).collect())
@@ -164,26 +335,18 @@ fn next_set(set: &mut [usize], end: usize) -> bool {
     false
 }
 
-/// Whether the checksums bear a search out: the trays that keep a wrong one, and the erased ones, are
-/// no more than the code has checks.
-fn confirm<S: Symbol>(
-    segment: &Segment<S>,
-    mended: &[Mended<S>],
-    erased: &[Tray],
-    rotten: &[Tray],
-) -> Result<(), Failure> {
-    let mut unproved = erased.len();
-    for tray in rotten {
-        let part = part_of(segment, mended, *tray);
-        unproved += usize::from(!segment.has_checksum(*tray, &part)?);
+/// Whether the checksums bear out what was put right: k trays or more have the one that was written.
+fn is_borne_out<S: Symbol>(segment: &Segment<S>, stripes: &[Mended<S>]) -> Result<bool, Failure> {
+    let mut right = 0;
+    for tray in segment.cabinet.numbers.all_trays() {
+        let is_right = match segment.found(tray) {
+            Found::Live => stripes.iter().all(|one| !one.wrong.contains(&tray)),
+            Found::Rotten => segment.has_checksum(tray, &part_of(segment, stripes, tray))?,
+            _ => false,
+        };
+        right += usize::from(is_right);
     }
-    match unproved <= segment.cabinet.numbers.checks {
-        true => Ok(()),
-        false => {
-            let about = "the trays put right do not have the checksums that were written";
-            Err(Failure::refused(about)(Refusal::Survivors))
-        }
-    }
+    Ok(right >= segment.cabinet.numbers.dimension)
 }
 
 /// A tray's part of a segment put right, interleaved.
@@ -208,9 +371,10 @@ mod tests {
         let found: Vec<Vec<u32>> = sets(&trays, 3)
             .map(|set| set.iter().map(|tray| tray.number()).collect())
             .collect();
-        let expected: [&[u32]; 4] = [&[3, 5], &[3, 8], &[5, 8], &[3, 5, 8]];
+        let expected: [&[u32]; 7] = [&[3], &[5], &[8], &[3, 5], &[3, 8], &[5, 8], &[3, 5, 8]];
         assert_eq!(found, expected);
-        assert_eq!(sets(&trays, 1).count(), 0);
-        assert_eq!(sets(&trays[..1], 3).count(), 0);
+        assert_eq!(sets(&trays, 1).count(), 3);
+        assert_eq!(sets(&trays, 0).count(), 0);
+        assert_eq!(sets(&trays[..1], 3).count(), 1);
     }
 }

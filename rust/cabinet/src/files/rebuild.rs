@@ -11,6 +11,7 @@ use super::draft::{self, Draft};
 use super::geometry::HEADER;
 use super::interleave::{apart, together};
 use super::label::{Label, SIZE};
+use super::shape::Shape;
 use crate::code::symbol::Symbol;
 use crate::failure::Failure;
 use crate::files;
@@ -219,7 +220,7 @@ impl<'a, S: Symbol> Rebuild<'a, S> {
 
 /// A tray's part of a segment as its work file has it, if it is just as it is written.
 fn written_part<S: Symbol>(
-    cabinet: &Cabinet,
+    cabinet: &Shape,
     segment: u32,
     tray: Tray,
     read: impl Fn(u64, &mut [u8]) -> Result<usize, Failure>,
@@ -262,7 +263,7 @@ pub fn done_before<S: Symbol>(
 
 /// The parts of a segment under work that a checkpoint begins with, and what follows.
 pub fn held<S: Symbol>(
-    cabinet: &Cabinet,
+    cabinet: &Shape,
     trays: usize,
     checkpoint: &Checkpoint,
 ) -> Option<(Vec<Vec<S>>, Vec<u8>)> {
@@ -279,7 +280,7 @@ pub fn held<S: Symbol>(
 }
 
 /// The symbols of one stripe of the trays' parts, tray after tray.
-fn stripe_of<S: Symbol>(cabinet: &Cabinet, parts: &[Vec<S>], many: usize, place: usize) -> Vec<S> {
+fn stripe_of<S: Symbol>(cabinet: &Shape, parts: &[Vec<S>], many: usize, place: usize) -> Vec<S> {
     let layers = cabinet.numbers.layers;
     let mut symbols = vec![S::default(); parts.len() * layers];
     for (part, out) in parts.iter().zip(symbols.chunks_mut(layers)) {

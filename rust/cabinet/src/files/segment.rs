@@ -6,6 +6,7 @@ use super::found::{Found, Kind};
 use super::geometry::{CHECKSUM, HEADER};
 use super::header::Header;
 use super::interleave::apart;
+use super::shape::Shape;
 use super::stripe::Stripe;
 use super::trouble::Trouble;
 use crate::code::symbol::Symbol;
@@ -16,7 +17,7 @@ use std::ops::Range;
 
 /// A segment with every tray read.
 pub struct Segment<'a, S> {
-    pub cabinet: &'a Cabinet<'a>,
+    pub cabinet: &'a Shape,
     pub number: u32,
     pub stripes: Range<u32>,
     /// What stands at each tray's place.
@@ -27,6 +28,8 @@ pub struct Segment<'a, S> {
     images: Vec<u8>,
     /// The checksum that each tray's segment ends with.
     checks: Vec<Option<u64>>,
+    /// Trays of a wrong checksum, and the stripes of which they have not all symbols.
+    gaps: Vec<(Tray, Vec<u32>)>,
 }
 
 /// What was read at a tray's place.
@@ -35,32 +38,70 @@ enum Read {
     Not(Found),
 }
 
-impl<'a, S: Symbol> Segment<'a, S> {
+/// A segment as its bytes were read, with nothing worked out.
+pub struct Raw {
+    number: u32,
+    read: Vec<Read>,
+}
+
+impl Raw {
     /// Reads a segment of the wanted trays; others are taken as absent. Only trouble of the system
     /// itself is a failure.
     pub fn read(
-        cabinet: &'a Cabinet<'a>,
+        cabinet: &Cabinet,
         number: u32,
         wanted: &dyn Fn(Tray) -> bool,
-    ) -> Result<Segment<'a, S>, Failure> {
+    ) -> Result<Raw, Failure> {
         let trays = cabinet.numbers.all_trays();
         let read = |tray| match wanted(tray) {
             true => read(cabinet, number, tray),
             false => Ok(Read::Not(Found::Absent)),
         };
-        let read: Vec<Read> = trays.map(read).collect::<Result<_, Failure>>()?;
+        let read = trays.map(read).collect::<Result<_, Failure>>()?;
+        Ok(Raw { number, read })
+    }
+}
+
+/// The bytes of a tray's segment, as far as they are there, and whether its checksum is right.
+struct Held {
+    bytes: Vec<u8>,
+    /// The same, with zeros for numbers that are no symbols where the checksum is wrong.
+    clean: Option<Vec<u8>>,
+    is_right: bool,
+    check: Option<u64>,
+}
+
+impl<'a, S: Symbol> Segment<'a, S> {
+    /// Reads a segment of the wanted trays; others are taken as absent.
+    pub fn read(
+        cabinet: &'a Cabinet<'a>,
+        number: u32,
+        wanted: &dyn Fn(Tray) -> bool,
+    ) -> Result<Segment<'a, S>, Failure> {
+        Segment::of(cabinet, Raw::read(cabinet, number, wanted)?)
+    }
+
+    /// What a segment is that was read.
+    pub fn of(cabinet: &'a Shape, raw: Raw) -> Result<Segment<'a, S>, Failure> {
+        let number = raw.number;
+        let sum = |read| match read {
+            Read::Bytes(bytes) => Ok(summed::<S>(cabinet, number, bytes)),
+            Read::Not(found) => Err(found),
+        };
+        let held: Vec<Result<Held, Found>> = raw.read.into_iter().map(sum).collect();
         let mut segment = Segment {
             cabinet,
             number,
             stripes: cabinet.geometry.stripes_of(number),
             found: Vec::new(),
             parts: Vec::new(),
-            images: images(cabinet, number, &read),
+            images: images(cabinet, number, &held),
             checks: Vec::new(),
+            gaps: Vec::new(),
         };
         let missing = segment.gathered()?;
-        for (tray, read) in cabinet.numbers.all_trays().zip(read) {
-            segment.add(tray, read, missing.contains(&tray));
+        for (tray, held) in cabinet.numbers.all_trays().zip(held) {
+            segment.add(tray, held, missing.contains(&tray));
         }
         Ok(segment)
     }
@@ -78,41 +119,60 @@ impl<'a, S: Symbol> Segment<'a, S> {
     }
 
     /// Takes in what was read of one tray.
-    fn add(&mut self, tray: Tray, read: Read, is_missing: bool) {
-        let bytes = match read {
-            Read::Not(found) => return self.add_found(found, Vec::new(), None),
-            Read::Bytes(bytes) => bytes,
+    fn add(&mut self, tray: Tray, held: Result<Held, Found>, is_missing: bool) {
+        let held = match held {
+            Err(found) => return self.add_found(found, Vec::new(), None),
+            Ok(held) => held,
         };
         if is_missing {
-            let found = self.refused(tray, &bytes);
+            let found = self.refused(tray, &held.bytes);
             return self.add_found(found, Vec::new(), None);
         }
-        let geometry = &self.cabinet.geometry;
-        let size = geometry.size(self.number);
-        let symbols = size
-            - if geometry.has_checksums() {
-                CHECKSUM
-            } else {
-                0
-            };
-        let check = bytes.get(symbols..size).and_then(|end| end.try_into().ok());
-        let check: Option<u64> = check.map(u64::from_le_bytes);
-        let summed = prefix(&bytes, symbols);
-        let is_right = check == Some(checksum(self.cabinet.seed, summed));
-        let mut held = summed[HEADER..].to_vec();
-        held.resize(symbols - HEADER, 0);
-        let part = S::from_bytes(&held).unwrap_or_default();
+        let symbols = self.cabinet.geometry.summed(self.number);
+        let mut bytes = prefix(held.clean(), symbols)[HEADER..].to_vec();
+        bytes.resize(symbols - HEADER, 0);
+        let part = S::from_bytes(&bytes).unwrap_or_default();
         let found = match part.iter().all(|symbol| symbol.is_symbol()) {
             false => Found::Refused(Refusal::Malformed),
-            true if is_right || !geometry.has_checksums() => Found::Live,
+            true if held.is_right => Found::Live,
             true => Found::Rotten,
         };
+        if found == Found::Rotten {
+            self.add_gaps(tray, prefix(&held.bytes, symbols));
+        }
         let part = if found.has_symbols() {
             part
         } else {
             Vec::new()
         };
-        self.add_found(found, part, check);
+        self.add_found(found, part, held.check);
+    }
+
+    /// Takes in the stripes of which a tray has not all symbols: its file is too short for them, or
+    /// has a number that is none.
+    fn add_gaps(&mut self, tray: Tray, bytes: &[u8]) {
+        let many = self.stripes.len();
+        let is_whole = |bytes: &[u8]| S::of_bytes(bytes).is_some_and(|symbol| symbol.is_symbol());
+        let mut symbols = bytes[HEADER..].chunks(S::WIDTH).map(is_whole);
+        let mut is_open = vec![false; many];
+        for place in 0..self.cabinet.numbers.layers * many {
+            if !symbols.next().unwrap_or(false) {
+                is_open[place % many] = true;
+            }
+        }
+        let stripes = self.stripes.clone().zip(is_open);
+        let gaps: Vec<u32> = stripes
+            .filter_map(|(stripe, is_open)| is_open.then_some(stripe))
+            .collect();
+        if !gaps.is_empty() {
+            self.gaps.push((tray, gaps));
+        }
+    }
+
+    /// The trays that have not all symbols of a stripe, and no right checksum.
+    pub fn with_gaps(&self, stripe: u32) -> Vec<Tray> {
+        let here = self.gaps.iter().filter(|(_, gaps)| gaps.contains(&stripe));
+        here.map(|(tray, _)| *tray).collect()
     }
 
     fn add_found(&mut self, found: Found, part: Vec<S>, check: Option<u64>) {
@@ -159,6 +219,21 @@ impl<'a, S: Symbol> Segment<'a, S> {
     pub fn found(&self, tray: Tray) -> &Found {
         let found = self.found.get(tray.number() as usize);
         found.unwrap_or(&Found::Absent)
+    }
+
+    fn trays(&self, is_wanted: impl Fn(&Found) -> bool) -> Vec<Tray> {
+        let all = self.cabinet.numbers.all_trays();
+        all.filter(|tray| is_wanted(self.found(*tray))).collect()
+    }
+
+    /// The trays that have no symbols here.
+    pub fn missing(&self) -> Vec<Tray> {
+        self.trays(|found| !found.has_symbols())
+    }
+
+    /// The trays with a wrong checksum.
+    pub fn rotten(&self) -> Vec<Tray> {
+        self.trays(|found| *found == Found::Rotten)
     }
 
     /// A stripe of it.
@@ -236,20 +311,28 @@ impl<'a, S: Symbol> Segment<'a, S> {
     }
 }
 
+/// Works on a segment, and gives what comes of it with the segment.
+pub fn with_segment<'a, S, R>(
+    work: impl Fn(&Segment<'a, S>) -> R + Sync,
+) -> impl Fn(Segment<'a, S>) -> Result<(Segment<'a, S>, R), Failure> + Sync {
+    move |segment| {
+        let result = work(&segment);
+        Ok((segment, result))
+    }
+}
+
 /// Up to so many bytes from the start.
 fn prefix(bytes: &[u8], length: usize) -> &[u8] {
     &bytes[..length.min(bytes.len())]
 }
 
-/// Reads a tray's segment, and at the end of the file one byte more.
+/// Reads a tray's segment, and at the end of the file one byte more where no checksum tells whether
+/// the segment is whole.
 fn read(cabinet: &Cabinet, number: u32, tray: Tray) -> Result<Read, Failure> {
     let Some(file) = &cabinet.trays[tray.number() as usize] else {
         return Ok(Read::Not(Found::Absent));
     };
-    if let Some(words) = file
-        .label
-        .and_then(|label| cabinet.is_other(&label.cabinet))
-    {
+    if let Some(words) = cabinet.is_other(file) {
         return Ok(Read::Not(Found::Other(words)));
     }
     let handle = match &file.file {
@@ -257,8 +340,8 @@ fn read(cabinet: &Cabinet, number: u32, tray: Tray) -> Result<Read, Failure> {
         Err((trouble, words)) => return Ok(Read::Not(not_read(*trouble, words.clone()))),
     };
     let geometry = &cabinet.geometry;
-    let last = number + 1 == geometry.segments();
-    let size = geometry.size(number) + usize::from(last);
+    let is_asked = number + 1 == geometry.segments() && !geometry.has_checksums();
+    let size = geometry.size(number) + usize::from(is_asked);
     match read_part(&**handle, geometry.offset(number), size) {
         Ok(bytes) => Ok(Read::Bytes(bytes)),
         Err(error) => match Trouble::of(&error) {
@@ -275,15 +358,59 @@ fn not_read(trouble: Trouble, words: String) -> Found {
     }
 }
 
+/// Whether the checksum of a tray's segment is right; without checksums it is. Where it is wrong, a
+/// number that is no symbol is as wrong as any other, and zero stands in its place.
+fn summed<S: Symbol>(cabinet: &Shape, number: u32, bytes: Vec<u8>) -> Held {
+    let geometry = &cabinet.geometry;
+    let (end, size) = (geometry.summed(number), geometry.size(number));
+    let check = bytes.get(end..size).and_then(|end| end.try_into().ok());
+    let check: Option<u64> = check.map(u64::from_le_bytes);
+    let is_right = match geometry.has_checksums() {
+        true => check == Some(checksum(cabinet.seed, prefix(&bytes, end))),
+        false => true,
+    };
+    let clean = match is_right {
+        true => None,
+        false => cleaned::<S>(prefix(&bytes, end)),
+    };
+    Held {
+        bytes,
+        clean,
+        is_right,
+        check,
+    }
+}
+
+/// A header and symbols, with zeros for numbers that are none; nothing where all are.
+fn cleaned<S: Symbol>(bytes: &[u8]) -> Option<Vec<u8>> {
+    let is_none = |bytes: &[u8]| !S::of_bytes(bytes).is_some_and(|symbol| symbol.is_symbol());
+    let symbols = bytes.get(HEADER..)?;
+    if !symbols.chunks(S::WIDTH).any(is_none) {
+        return None;
+    }
+    let mut clean = bytes.to_vec();
+    let symbols = clean[HEADER..].chunks_mut(S::WIDTH);
+    symbols
+        .filter(|symbol| is_none(symbol))
+        .for_each(|symbol| symbol.fill(0));
+    Some(clean)
+}
+
+impl Held {
+    fn clean(&self) -> &[u8] {
+        self.clean.as_ref().unwrap_or(&self.bytes)
+    }
+}
+
 /// What the library is lent of all trays; what is too short or longer than it may be, as zeros.
-fn images(cabinet: &Cabinet, number: u32, read: &[Read]) -> Vec<u8> {
+fn images(cabinet: &Shape, number: u32, held: &[Result<Held, Found>]) -> Vec<u8> {
     let size = cabinet.geometry.image();
     let most = cabinet.geometry.size(number);
-    let mut images = vec![0; read.len() * size];
-    for (image, read) in images.chunks_mut(size).zip(read) {
-        match read {
-            Read::Bytes(bytes) if (size..=most).contains(&bytes.len()) => {
-                image.copy_from_slice(&bytes[..size]);
+    let mut images = vec![0; held.len() * size];
+    for (image, held) in images.chunks_mut(size).zip(held) {
+        match held {
+            Ok(held) if held.clean().len() >= size && held.bytes.len() <= most => {
+                image.copy_from_slice(&held.clean()[..size]);
             }
             _ => {}
         }

@@ -1,7 +1,7 @@
 //! One stripe of a cabinet: the codeword that its trays are, as far as they are there.
 
-use super::cabinet::Cabinet;
 use super::found::Found;
+use super::shape::Shape;
 use crate::code::symbol::Symbol;
 use crate::failure::Failure;
 use crate::terminal::words;
@@ -9,7 +9,7 @@ use gesarumbo::{checksum, Kept, Rack, Refusal, Tray};
 
 /// A stripe with every tray read.
 pub struct Stripe<'a, S> {
-    pub cabinet: &'a Cabinet<'a>,
+    pub cabinet: &'a Shape,
     pub number: u32,
     /// What stands at each tray's place in its segment.
     pub found: &'a [Found],

@@ -3,6 +3,7 @@
 use super::cabinet::Cabinet;
 use super::found::{Found, Kind};
 use super::segment::Segment;
+use super::shape::Shape;
 use crate::code::symbol::Symbol;
 use crate::failure::Failure;
 use crate::terminal::screen::{Paint, Screen};
@@ -18,17 +19,16 @@ pub struct Unused {
 impl Unused {
     /// Prints a line for each tray that cannot be used in this segment, and could in those before
     /// it.
-    pub fn say<S: Symbol>(&mut self, segment: &Segment<S>, screen: &mut Screen) {
-        for tray in segment.cabinet.numbers.all_trays() {
-            let found = segment.found(tray);
+    fn say(&mut self, cabinet: &Shape, met: &Met, screen: &mut Screen) {
+        for (tray, found) in cabinet.numbers.all_trays().zip(&met.found) {
             if found.has_symbols() || self.said.contains(&tray) {
                 continue;
             }
             self.said.push(tray);
             let why = screen.paint(Paint::Warning, &found.why_not().unwrap_or_default());
-            let place = match (found, segment.cabinet.geometry.segments()) {
+            let place = match (found, cabinet.geometry.segments()) {
                 (Found::Absent | Found::Other(_) | Found::Closed(_), _) | (_, 1) => String::new(),
-                _ => format!(" in {}", stripes(&segment.stripes)),
+                _ => format!(" in {}", stripes(&met.stripes)),
             };
             screen.line(format!("  tray {tray:>2} is not used{place}: {why}"));
         }
@@ -40,10 +40,21 @@ impl Unused {
         segment: &Segment<S>,
         screen: &mut Screen,
     ) {
-        match unused {
-            None => *unused = Some(introduce(segment, screen)),
-            Some(unused) => unused.say(segment, screen),
+        Unused::begin_or_say_met(unused, segment.cabinet, &Met::of(segment), screen);
+    }
+
+    /// The same for a segment that was met before.
+    pub fn begin_or_say_met(
+        unused: &mut Option<Unused>,
+        cabinet: &Shape,
+        met: &Met,
+        screen: &mut Screen,
+    ) {
+        if unused.is_none() {
+            screen.heading(cabinet.description.words());
         }
+        let unused = unused.get_or_insert_with(Unused::default);
+        unused.say(cabinet, met, screen);
     }
 
     /// The trays that were met and cannot be used.
@@ -63,11 +74,23 @@ pub fn stripes(run: &Range<u32>) -> String {
 }
 
 /// Prints whose segment this is, and why each tray that is not live is not used.
-pub fn introduce<S: Symbol>(segment: &Segment<S>, screen: &mut Screen) -> Unused {
-    let mut unused = Unused::default();
-    screen.heading(segment.cabinet.description.words());
-    unused.say(segment, screen);
-    unused
+pub fn introduce<S: Symbol>(segment: &Segment<S>, screen: &mut Screen) {
+    Unused::begin_or_say(&mut None, segment, screen);
+}
+
+/// What stands at each tray's place in some stripes.
+pub struct Met {
+    found: Vec<Found>,
+    stripes: Range<u32>,
+}
+
+impl Met {
+    pub fn of<S: Symbol>(segment: &Segment<S>) -> Met {
+        Met {
+            found: segment.found.clone(),
+            stripes: segment.stripes.clone(),
+        }
+    }
 }
 
 /// What all segments together are.
@@ -91,14 +114,14 @@ impl Survey {
     /// Looks at all segments, and says why each tray that is not live is not used.
     pub fn of<S: Symbol>(cabinet: &Cabinet, screen: &mut Screen) -> Result<Survey, Failure> {
         let (mut survey, mut unused) = (None, None);
-        for segment in cabinet.segments::<S>(0) {
-            let segment = segment?;
+        cabinet.over(cabinet.from_segment(0), Ok, |segment: Segment<S>| {
             Unused::begin_or_say(&mut unused, &segment, screen);
             match &mut survey {
                 None => survey = Some(Survey::first(&segment)?),
                 Some(survey) => survey.add(&segment)?,
             }
-        }
+            Ok(())
+        })?;
         survey.ok_or_else(|| Failure::Internal("a cabinet without stripes".to_string()))
     }
 
@@ -152,7 +175,7 @@ impl Survey {
 }
 
 /// How many trays more may be lost, of these kinds.
-pub fn margin<S: Symbol>(cabinet: &Cabinet, kinds: &[Kind]) -> Result<i32, Failure> {
+pub fn margin<S: Symbol>(cabinet: &Shape, kinds: &[Kind]) -> Result<i32, Failure> {
     let states: Vec<u8> = kinds.iter().map(|kind| kind.state()).collect();
     (S::CALLS.margin)(cabinet.description.layout, &states).map_err(Failure::refused("margin"))
 }

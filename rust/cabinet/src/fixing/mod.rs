@@ -11,6 +11,7 @@ use crate::failure::{Failure, Outcome};
 use crate::files;
 use crate::files::cabinet::Cabinet;
 use crate::files::description::Description;
+use crate::files::erasures::Erasures;
 use crate::files::mend::union;
 use crate::files::survey::Survey;
 use crate::files::{draft, tasks};
@@ -215,6 +216,7 @@ impl<'f> Fixing<'f> {
         screen: &mut Screen,
     ) -> Result<Outcome, Failure> {
         let cabinet = self.find()?;
+        cabinet.guard_newer(&self.named)?;
         let survey = Survey::of::<S>(&cabinet, &mut Screen::silent())?;
         let helpers = helpers(&cabinet, &survey, &lost, &spare_path(&cabinet, &lost))?;
         let repair = Repair { lost, helpers };
@@ -242,6 +244,7 @@ impl<'f> Fixing<'f> {
             false => Vec::new(),
         };
         let insists = self.insists;
+        let named = Erasures::whole(&named);
         let recover =
             |screen: &mut Screen| recover::recover::<S>(&cabinet, &named, insists, screen);
         let (ended, facts) = screen.apart(recover);

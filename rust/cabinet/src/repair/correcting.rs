@@ -44,14 +44,15 @@ pub fn repair<S: Symbol>(
     for segment in cabinet.segments::<S>(cabinet.geometry.segment_of(from)) {
         let segment = segment?;
         Unused::begin_or_say(&mut unused, &segment, screen);
-        let ready = Ready::of(segment, repair, &shares, &mut work.tally)?;
+        let ready = Ready::of(segment, repair, shares.are_of_trays())?;
+        ready.tell(&mut work.tally);
         let stripes = ready.segment.stripes.clone();
         for number in stripes.filter(|number| *number >= from) {
             work.stripe(&ready, number, &mut shares, screen)?;
         }
     }
     let unused = union(&Unused::trays(unused), &repair.lost);
-    work.tally.faults.add_labels(cabinet, &unused);
+    work.tally.faults.add_files(cabinet, &unused);
     say_shares(cabinet, repair, &work.tally, screen);
     work.tally.faults.say(cabinet, screen);
     say_recovered(work.tally.recovered, screen);
@@ -149,7 +150,7 @@ fn repair_stripe<S: Symbol>(
             return Ok(spare);
         }
     }
-    match settle(ready, stripe, &[lost], &mut spare, tally)? {
+    match settle(ready, stripe, &[lost], (&mut spare, None), tally)? {
         None => Ok(spare),
         Some(_) => Err(Failure::Contents(format!(
             "tray {lost} and the others do not fit together: some tray or more than one share \

@@ -12,9 +12,12 @@ use crate::files::cabinet::Cabinet;
 use crate::files::checkpoint::Checkpoint;
 use crate::files::mend::union;
 use crate::files::rebuild::Rebuild;
+use crate::files::segment::Segment;
+use crate::files::shape::Shape;
 use crate::files::stripe::Stripe;
-use crate::files::survey::Unused;
+use crate::files::survey::{Met, Unused};
 use crate::terminal::screen::{Paint, Screen};
+use gesarumbo::Kept;
 use std::ops::Range;
 use std::path::{Path, PathBuf};
 
@@ -129,39 +132,64 @@ impl<'a, S: Symbol> GroupRepair<'a, S> {
         screen: &mut Screen,
     ) -> Result<(), Failure> {
         let (cabinet, repair) = (self.cabinet, self.repair);
-        let mut meter = Meter::new(cabinet, repair.lost.len(), run);
+        let mut meter = Meter::new(cabinet, repair.lost.len(), run.clone());
         let from = match (self.over, self.done) {
             (Some(_), 0) => self.rebuild.next.saturating_sub(1),
             _ => self.rebuild.next,
         };
         means.shares.skip_to::<S>(cabinet, repair, from)?;
-        for segment in cabinet.segments::<S>(cabinet.geometry.segment_of(from)) {
-            let segment = segment?;
-            Unused::begin_or_say(&mut self.unused, &segment, screen);
-            let ready = Ready::of(segment, repair, means.shares, &mut self.tally)?;
-            let stripes = ready.segment.stripes.clone();
-            for number in stripes.filter(|number| *number >= from) {
-                let is_done = number < self.rebuild.next;
-                self.stripe(&ready, number, means, &mut meter, screen)?;
-                if meter.is_over() && !is_done {
+        let groups = self.groups();
+        let is_of_trays = means.shares.are_of_trays();
+        // Whole stripes by shares of the trays can be done beside others.
+        let whole = match is_of_trays && means.cards.is_empty() && cabinet.description.stripes > 1 {
+            true => run.start.div_ceil(groups) as u32..(run.end / groups) as u32,
+            false => 0..0,
+        };
+        let last = (run.end.max(run.start + 1) - 1) / groups;
+        let last = self.rebuild.next.max(last as u32);
+        let last = last.min(cabinet.description.stripes - 1);
+        let segments = cabinet.geometry.segment_of(from)..cabinet.geometry.segment_of(last) + 1;
+        let mut is_over = false;
+        cabinet.over(
+            segments,
+            get_ready(repair, is_of_trays, whole),
+            |(met, ready)| {
+                if is_over {
                     return Ok(());
                 }
-            }
-        }
-        Ok(())
+                Unused::begin_or_say_met(&mut self.unused, cabinet, &met, screen);
+                let mut ready = ready?;
+                ready.tell(&mut self.tally);
+                let stripes = ready.segment.stripes.clone();
+                for number in stripes.filter(|number| *number >= from) {
+                    let is_done = number < self.rebuild.next;
+                    self.stripe(&mut ready, number, means, &mut meter, screen)?;
+                    if meter.is_over() && !is_done {
+                        is_over = true;
+                        return Ok(());
+                    }
+                }
+                Ok(())
+            },
+        )
     }
 
     /// Does the groups of one stripe, as far as the run goes.
     fn stripe(
         &mut self,
-        ready: &Ready<S>,
+        ready: &mut Ready<S>,
         number: u32,
         means: &mut Means<S>,
         meter: &mut Meter,
         screen: &mut Screen,
     ) -> Result<(), Failure> {
+        let ahead = ready.take_ahead(number);
+        let ready = &*ready;
         let stripe = ready.stripe(number);
-        let shares = means.shares.next(&stripe, self.repair);
+        let shares = match &ahead {
+            Some(ahead) => Ok(ahead.shares.clone()),
+            None => means.shares.next(&stripe, self.repair),
+        };
         let task = shares.and_then(|shares| StripeRepair::new(&stripe, self.repair, shares));
         let task = task.map_err(stripe.named())?;
         let over = self.over.take();
@@ -171,13 +199,23 @@ impl<'a, S: Symbol> GroupRepair<'a, S> {
         if number < self.rebuild.next {
             return Ok(());
         }
-        self.groups_of(&task, number, means.cards, meter, screen)
-            .map_err(stripe.named())?;
+        let kept = ahead.as_ref().map(|ahead| ahead.kept);
+        match ahead {
+            Some(ahead) => {
+                meter.enter(number);
+                self.spare = ahead.spare;
+                self.done = ahead.done.groups;
+                meter.advance(&ahead.done, screen);
+            }
+            None => self
+                .groups_of(&task, number, means.cards, meter, screen)
+                .map_err(stripe.named())?,
+        }
         match self.done {
             // Nothing was to be done, and the checkpoint of the stripe before stays.
             0 if number > 0 => Ok(()),
             done if done == self.groups() => self
-                .complete(ready, &stripe, &task, meter.is_over())
+                .complete(ready, &stripe, (&task, kept), meter.is_over())
                 .map_err(stripe.named()),
             _ => self.save(task.fingerprint()),
         }
@@ -215,11 +253,12 @@ impl<'a, S: Symbol> GroupRepair<'a, S> {
         &mut self,
         ready: &Ready<S>,
         stripe: &Stripe<S>,
-        task: &StripeRepair<S>,
+        (task, kept): (&StripeRepair<S>, Option<Kept>),
         is_last: bool,
     ) -> Result<(), Failure> {
         let lost = &self.repair.lost;
-        if let Some(layer) = settle(ready, stripe, lost, &mut self.spare, &mut self.tally)? {
+        let spare = (&mut self.spare[..], kept);
+        if let Some(layer) = settle(ready, stripe, lost, spare, &mut self.tally)? {
             self.save(task.fingerprint())?;
             let ((names, _), place) = (self.repair.names(), self.path().display());
             return Err(Failure::Contents(format!(
@@ -247,7 +286,7 @@ impl<'a, S: Symbol> GroupRepair<'a, S> {
     pub fn finish(mut self, screen: &mut Screen) -> Result<Outcome, Failure> {
         let (names, are) = self.repair.names();
         let unused = union(&Unused::trays(self.unused.take()), &self.repair.lost);
-        self.tally.faults.add_labels(self.cabinet, &unused);
+        self.tally.faults.add_files(self.cabinet, &unused);
         let tested = self.tally.tested(self.cabinet, screen);
         let outcome = self.tally.outcome();
         self.tally.faults.say(self.cabinet, screen);
@@ -264,6 +303,23 @@ impl<'a, S: Symbol> GroupRepair<'a, S> {
     }
 }
 
+/// Makes a segment ready, with these of its stripes done ahead.
+fn get_ready<'a, 'r, S: Symbol>(
+    repair: &'r Repair,
+    is_of_trays: bool,
+    whole: Range<u32>,
+) -> impl Fn(Segment<'a, S>) -> Result<(Met, Made<'a, S>), Failure> + Sync + use<'a, 'r, S> {
+    move |segment| {
+        let met = Met::of(&segment);
+        let ready = Ready::of(segment, repair, is_of_trays);
+        let ready = ready.map(|ready| ready.with_ahead(repair, &whole));
+        Ok((met, ready))
+    }
+}
+
+/// A segment that is ready, or why it is not.
+type Made<'a, S> = Result<Ready<'a, S>, Failure>;
+
 /// Says in how many stripes shares did not do.
 pub fn say_recovered(stripes: u32, screen: &mut Screen) {
     if stripes > 0 {
@@ -277,13 +333,13 @@ pub fn say_recovered(stripes: u32, screen: &mut Screen) {
 
 /// Whether there is a card for each group of a stripe that is about to begin: then they are for all
 /// stripes.
-pub fn is_full_set<S>(cabinet: &Cabinet, cards: &[Vec<S>], first: u64) -> bool {
+pub fn is_full_set<S>(cabinet: &Shape, cards: &[Vec<S>], first: u64) -> bool {
     first == 0 && cards.len() == cabinet.numbers.groups
 }
 
 /// The tally and the spare of a checkpoint, if its place is one of this cabinet.
 pub fn own_part<S: Symbol>(
-    cabinet: &Cabinet,
+    cabinet: &Shape,
     lost: usize,
     step: u64,
     rest: &[u8],

@@ -1,6 +1,6 @@
 //! How far a repair in groups is: which groups are next, and what has crossed.
 
-use crate::files::cabinet::Cabinet;
+use crate::files::shape::Shape;
 use crate::terminal::progress::Run;
 use crate::terminal::screen::Screen;
 use gesarumbo::Repaired;
@@ -21,7 +21,7 @@ pub struct Meter {
 
 impl Meter {
     /// A repair of so many trays, with a run of groups to be done, counted over all stripes.
-    pub fn new(cabinet: &Cabinet, lost: usize, run: Range<u64>) -> Meter {
+    pub fn new(cabinet: &Shape, lost: usize, run: Range<u64>) -> Meter {
         let of_group = (lost * cabinet.numbers.helpers) as u64;
         Meter {
             groups: cabinet.numbers.groups as u64,

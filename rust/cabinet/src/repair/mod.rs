@@ -16,6 +16,7 @@ use crate::failure::Failure;
 use crate::files::cabinet::Cabinet;
 use crate::files::checkpoint;
 use crate::files::rebuild::Rebuilding;
+use crate::files::shape::Shape;
 use crate::terminal::arguments::{Arguments, Setting};
 use crate::terminal::words::trays;
 use gesarumbo::{Rack, Tray};
@@ -39,13 +40,13 @@ pub struct Repair {
 
 impl Repair {
     /// The checkpoint's first line.
-    pub fn task(&self, cabinet: &Cabinet) -> String {
+    pub fn task(&self, cabinet: &Shape) -> String {
         let helpers: Vec<String> = self.helpers.iter().map(Rack::to_string).collect();
         format!("{}{}", subject(cabinet, &self.lost), helpers.join(" "))
     }
 
     /// The repair in a checkpoint's first line, if it is of just these trays of this cabinet.
-    pub fn parse(task: &str, cabinet: &Cabinet, lost: &[Tray]) -> Option<Repair> {
+    pub fn parse(task: &str, cabinet: &Shape, lost: &[Tray]) -> Option<Repair> {
         let helpers = task.strip_prefix(&subject(cabinet, lost))?;
         let rack = |word: &str| word.parse().ok().map(Rack::new);
         Some(Repair {
@@ -55,12 +56,12 @@ impl Repair {
     }
 
     /// The rack of the lost trays, of which there is one at least.
-    pub fn host(&self, cabinet: &Cabinet) -> Rack {
+    pub fn host(&self, cabinet: &Shape) -> Rack {
         cabinet.numbers.host_of(&self.lost)
     }
 
     /// The new files of this repair, with the checkpoint in a file.
-    pub fn rebuilding(&self, cabinet: &Cabinet, path: PathBuf) -> Rebuilding {
+    pub fn rebuilding(&self, cabinet: &Shape, path: PathBuf) -> Rebuilding {
         Rebuilding {
             trays: self.lost.clone(),
             work: WORK,
@@ -77,7 +78,7 @@ impl Repair {
 }
 
 /// The line up to the helpers: what anyone knows who knows the lost trays and their cabinet.
-fn subject(cabinet: &Cabinet, lost: &[Tray]) -> String {
+fn subject(cabinet: &Shape, lost: &[Tray]) -> String {
     let (lost, cabinet) = (trays(lost), cabinet.description.key());
     format!("repair of {lost} of {cabinet} by racks ")
 }
@@ -95,7 +96,7 @@ pub fn checkpoint_path(
 }
 
 /// The checkpoint beside the trays' files.
-pub fn spare_path(cabinet: &Cabinet, lost: &[Tray]) -> PathBuf {
+pub fn spare_path(cabinet: &Shape, lost: &[Tray]) -> PathBuf {
     let numbers: String = lost.iter().map(|tray| format!("-{tray:02}")).collect();
     cabinet.file(&format!("tray{numbers}.spare"))
 }

@@ -11,6 +11,7 @@ use crate::files::checkpoint::Checkpoint;
 use crate::files::found::Found;
 use crate::files::mend::{union, Held};
 use crate::files::rebuild;
+use crate::files::shape::Shape;
 use crate::files::stripe::Stripe;
 use gesarumbo::{Kept, Refusal, Tray};
 use std::ops::Range;
@@ -51,11 +52,11 @@ impl<'a, S: Symbol> Reading<'a, S> {
     /// Reading while one tray is under repair. Its checkpoint must be of this tray alone and of this
     /// cabinet, and of these shares and trays if they are all here.
     pub fn open(
+        cabinet: &Cabinet,
         stripe: &'a Stripe<'a, S>,
         lost: Tray,
         path: &Path,
     ) -> Result<(Reading<'a, S>, Origin), Failure> {
-        let cabinet = stripe.cabinet;
         let repair = |task: &str| Repair::parse(task, cabinet, &[lost]);
         let is_of = |task: &str| repair(task).is_some();
         let found = Checkpoint::read(cabinet.disk, path, is_of, foreign)?;
@@ -138,6 +139,12 @@ impl<'a, S: Symbol> Reading<'a, S> {
             && stripe.cabinet.geometry.has_checksums();
         match stripe.kept(&codeword, &erased)? {
             Kept::Sound { checks: 0 } if checksum => Ok(Held::Checksums),
+            Kept::Sound { checks: 0 } if tray != self.lost && *stripe.found(tray) == Found::Rotten => {
+                Err(Failure::Contents(format!(
+                    "tray {tray}: its checksum is wrong, and there is no tray to spare to tell which \
+                     symbols are; nothing is handed out (see cabinet recover)"
+                )))
+            }
             Kept::Sound { checks: 0 } => Ok(Held::Nothing),
             Kept::Sound { .. } => Ok(Held::Checks),
             Kept::Bad { layer, .. } => Err(Failure::Contents(format!(
@@ -149,7 +156,7 @@ impl<'a, S: Symbol> Reading<'a, S> {
 }
 
 /// Sets all layers but these to zeros, which meet every check.
-fn keep_only<S: Symbol>(cabinet: &Cabinet, codeword: &mut [S], layers: &Range<u32>) {
+fn keep_only<S: Symbol>(cabinet: &Shape, codeword: &mut [S], layers: &Range<u32>) {
     for symbols in codeword.chunks_mut(cabinet.numbers.layers) {
         for (layer, symbol) in (0..).zip(symbols) {
             if !layers.contains(&layer) {

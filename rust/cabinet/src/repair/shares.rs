@@ -6,6 +6,7 @@ use crate::disk::{read_part, Handle};
 use crate::failure::Failure;
 use crate::files;
 use crate::files::cabinet::Cabinet;
+use crate::files::shape::Shape;
 use crate::files::stripe::Stripe;
 use gesarumbo::Refusal;
 use std::ffi::OsStr;
@@ -62,6 +63,11 @@ impl Shares {
         files.map(Shares::Files)
     }
 
+    /// Whether they are worked out from the helpers' trays.
+    pub fn are_of_trays(&self) -> bool {
+        matches!(self, Shares::OfTrays)
+    }
+
     /// Skips the stripes before one.
     pub fn skip_to<S: Symbol>(
         &mut self,
@@ -95,7 +101,7 @@ impl Shares {
 }
 
 /// Bytes of one helper's shares for one stripe.
-fn size<S: Symbol>(cabinet: &Cabinet, repair: &Repair) -> u64 {
+fn size<S: Symbol>(cabinet: &Shape, repair: &Repair) -> u64 {
     (repair.lost.len() * cabinet.numbers.groups * S::WIDTH) as u64
 }
 

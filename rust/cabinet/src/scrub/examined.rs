@@ -6,12 +6,15 @@ use crate::files::mend::{mend, Mended};
 use crate::files::segment::Segment;
 use crate::files::stripe::Stripe;
 use gesarumbo::{Kept, ScrubRecord, Tray};
+use std::collections::VecDeque;
 
 /// A segment, and its stripes put right where something is wrong.
 pub struct Examined<'a, S> {
     pub segment: Segment<'a, S>,
     /// What a mending gave, once one was needed.
     pub mended: Option<Result<Vec<Mended<S>>, Failure>>,
+    /// What was found in stripes that have been looked at, from the first of these on.
+    seen: VecDeque<Result<Seen, Failure>>,
 }
 
 /// What was found in a stripe.
@@ -28,6 +31,7 @@ impl<'a, S: Symbol> Examined<'a, S> {
         let mut examined = Examined {
             segment,
             mended: None,
+            seen: VecDeque::new(),
         };
         let first = examined.segment.stripes.start;
         if !examined.segment.stripe(first).rotten().is_empty() {
@@ -42,8 +46,26 @@ impl<'a, S: Symbol> Examined<'a, S> {
         }
     }
 
-    /// Tests one stripe: all trays that are there, those with a wrong checksum too.
+    /// The same with all stripes from one on looked at.
+    pub fn seen(mut self, from: u32) -> Examined<'a, S> {
+        let stripes = self.segment.stripes.clone();
+        for number in stripes.filter(|number| *number >= from) {
+            let seen = self.look(number);
+            self.seen.push_back(seen);
+        }
+        self
+    }
+
+    /// What was found in the next stripe, which is this one.
     pub fn see(&mut self, number: u32) -> Result<Seen, Failure> {
+        match self.seen.pop_front() {
+            Some(seen) => seen,
+            None => self.look(number),
+        }
+    }
+
+    /// Tests one stripe: all trays that are there, those with a wrong checksum too.
+    fn look(&mut self, number: u32) -> Result<Seen, Failure> {
         let stripe = self.segment.stripe(number);
         let missing = stripe.missing();
         let (layer, checks) = match stripe.kept(&stripe.codeword, &missing)? {

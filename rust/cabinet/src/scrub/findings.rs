@@ -1,7 +1,7 @@
 //! What a scrub has found so far: the bad layers of a cabinet, counted, and a cell for each layer or
 //! for some stripes, which says whether one is bad.
 
-use crate::files::cabinet::Cabinet;
+use crate::files::shape::Shape;
 use crate::terminal::json::Json;
 use crate::terminal::screen::Screen;
 use crate::terminal::words::{count, grouped};
@@ -51,7 +51,7 @@ pub struct Findings {
 
 impl Findings {
     /// Nothing is looked at.
-    pub fn new(cabinet: &Cabinet) -> Findings {
+    pub fn new(cabinet: &Shape) -> Findings {
         Findings {
             stripes: cabinet.description.stripes.into(),
             layers: cabinet.numbers.layers as u64,
@@ -188,7 +188,7 @@ impl Findings {
 
     /// The findings of a checkpoint at which so many layers have been looked at, if they agree with
     /// one another.
-    pub fn parse(cabinet: &Cabinet, at: u64, rest: &[u8]) -> Option<Findings> {
+    pub fn parse(cabinet: &Shape, at: u64, rest: &[u8]) -> Option<Findings> {
         let text = str::from_utf8(rest).ok()?.strip_suffix('\n')?;
         let (counts, cells) = text.split_once("\ncells")?;
         let words: Vec<&str> = counts.split(' ').collect();

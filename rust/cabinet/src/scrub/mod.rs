@@ -11,6 +11,7 @@ use crate::files::cabinet::Cabinet;
 use crate::files::checkpoint::{self, Checkpoint, MOST_UNSAVED};
 use crate::files::description::Format;
 use crate::files::faults::Faults;
+use crate::files::segment::Segment;
 use crate::files::survey::Unused;
 use crate::terminal::progress::{self, Run};
 use crate::terminal::report;
@@ -127,31 +128,32 @@ impl<'a> Scrub<'a> {
             progress::goes_on(self.cabinet, self.stripe, screen);
         }
         let mut unused = None;
-        let first = self.cabinet.geometry.segment_of(self.stripe);
-        for segment in self.cabinet.segments::<S>(first) {
-            let segment = segment?;
-            Unused::begin_or_say(&mut unused, &segment, screen);
-            self.segment(Examined::new(segment), &mut run, screen)?;
-            if run.is_over() {
-                break;
-            }
-        }
+        let cabinet = self.cabinet;
+        let first = cabinet.geometry.segment_of(self.stripe);
+        // A run of no layers still looks at a stripe, to say what cannot be used.
+        let last = (end.max(at + 1) - 1) / layers as u64;
+        let last = cabinet.geometry.segment_of(last as u32);
+        let from = self.stripe;
+        let look = examine::<S>(from);
+        cabinet.over(first..last + 1, look, |examined| {
+            Unused::begin_or_say(&mut unused, &examined.segment, screen);
+            self.segment(examined, &mut run, screen)
+        })?;
         self.unused = Unused::trays(unused);
-        self.faults.add_labels(self.cabinet, &self.unused);
+        self.faults.add_files(self.cabinet, &self.unused);
         Ok(())
     }
 
     /// Looks at all layers, with a line for stripes alone and no checkpoint.
     pub fn work_quietly<S: Symbol>(&mut self, screen: &mut Screen) -> Result<(), Failure> {
         let mut unused = None;
-        let layers = self.cabinet.numbers.layers;
-        for segment in self.cabinet.segments::<S>(0) {
-            let segment = segment?;
-            Unused::begin_or_say(&mut unused, &segment, screen);
-            let stripes = segment.stripes.clone();
-            let mut examined = Examined::new(segment);
+        let (cabinet, layers) = (self.cabinet, self.cabinet.numbers.layers);
+        let look = examine::<S>(0);
+        cabinet.over(cabinet.from_segment(0), look, |mut examined| {
+            Unused::begin_or_say(&mut unused, &examined.segment, screen);
+            let stripes = examined.segment.stripes.clone();
             for number in stripes.clone() {
-                let place = self.cabinet.place(number);
+                let place = cabinet.place(number);
                 let seen = examined.see(number).map_err(|failure| failure.at(&place))?;
                 let bad = seen.bad.iter();
                 bad.for_each(|layer| self.findings.add(number, *layer));
@@ -159,10 +161,11 @@ impl<'a> Scrub<'a> {
                 self.findings.at += layers as u64;
             }
             self.add_faults(&examined);
-            progress::segment(self.cabinet, &stripes, screen);
-        }
+            progress::segment(cabinet, &stripes, screen);
+            Ok(())
+        })?;
         self.unused = Unused::trays(unused);
-        self.faults.add_labels(self.cabinet, &self.unused);
+        self.faults.add_files(self.cabinet, &self.unused);
         Ok(())
     }
 
@@ -265,6 +268,13 @@ impl<'a> Scrub<'a> {
     pub fn discard(&self) -> Result<(), Failure> {
         checkpoint::remove(self.cabinet.disk, &self.path)
     }
+}
+
+/// Looks at all stripes of a segment from one on.
+fn examine<'a, S: Symbol>(
+    from: u32,
+) -> impl Fn(Segment<'a, S>) -> Result<Examined<'a, S>, Failure> + Sync {
+    move |segment| Ok(Examined::new(segment).seen(from))
 }
 
 /// Lets the library judge a checkpoint's next layer: a scrub of zeros that looks at no layer.

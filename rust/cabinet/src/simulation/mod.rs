@@ -7,6 +7,7 @@
 mod beside;
 mod cuts;
 mod errors;
+mod hostile;
 mod places;
 mod scenes;
 

@@ -11,7 +11,9 @@ use crate::files::description::{Description, NAME};
 use crate::files::draft::{self, work_name, Draft};
 use crate::files::interleave::together;
 use crate::files::label::{Label, SIZE};
+use crate::files::shape::Shape;
 use crate::files::tasks;
+use crate::jobs;
 use crate::scrub;
 use crate::terminal::progress;
 use crate::terminal::screen::Screen;
@@ -62,7 +64,6 @@ fn judge<S: Symbol>(cabinet: &Cabinet) -> Result<(), Failure> {
 fn prepare(cabinet: &mut Cabinet, replace: bool) -> Result<Census, Failure> {
     let (disk, folder) = (cabinet.disk, cabinet.folder().to_path_buf());
     let census = Census::take(disk, &folder)?;
-    let described = Description::of(disk, &folder).unwrap_or_default();
     let text = folder.join(NAME);
     let has_text = disk.look(&text).map_err(Failure::file(&text))?.is_some();
     let is_taken = has_text || (census.has_trays() && !was_cut(cabinet)?);
@@ -72,19 +73,21 @@ fn prepare(cabinet: &mut Cabinet, replace: bool) -> Result<Census, Failure> {
             folder.display()
         )));
     }
-    if let Some(agreed) = census.agreed(described) {
+    // Where it cannot be told which cabinet is there, the new one takes the place of all.
+    if let Ok(Some(agreed)) = census.agreed() {
         census.roll_forward(disk, &folder, &agreed)?;
     }
-    let newest = described.map_or(0, |described| described.generation);
-    let newest = newest.max(census.newest());
-    let generation = newest
+    let generation = census
+        .newest()
         .checked_add(1)
         .ok_or_else(|| Failure::Contents(format!("{}: no generation is left", folder.display())))?;
     let description = Description {
         generation,
         ..cabinet.description
     };
+    let jobs = cabinet.jobs;
     *cabinet = Cabinet::new(disk, &folder, description)?;
+    cabinet.jobs = jobs;
     // New trays get the mode of those that they replace.
     cabinet.trays = Census::take(disk, &folder)?.of(&description, cabinet.numbers.trays as u32);
     Ok(census)
@@ -156,24 +159,68 @@ fn write_segments<S: Symbol>(
     drafts: &mut [Draft],
     screen: &mut Screen,
 ) -> Result<u64, Failure> {
-    let layers = cabinet.numbers.layers;
+    let (shape, segments): (&Shape, u32) = (cabinet, cabinet.geometry.segments());
+    let size = cabinet.geometry.size(0) * cabinet.numbers.trays;
+    let at_once = jobs::at_once(cabinet.jobs, size);
     let mut sum = 0;
-    for segment in 0..cabinet.geometry.segments() {
-        let stripes = cabinet.geometry.stripes_of(segment);
-        let mut parts = vec![vec![S::default(); layers * stripes.len()]; drafts.len()];
-        for (place, stripe) in stripes.clone().enumerate() {
-            let codeword = codeword::<S>(cabinet, data, stripe, &mut sum)?;
-            for (part, symbols) in parts.iter_mut().zip(codeword.chunks(layers)) {
-                together(symbols, stripes.len(), place, part);
+    for first in (0..segments).step_by(at_once) {
+        let end = segments.min(first.saturating_add(at_once as u32));
+        let read = |segment| Ok((segment, read_segment(shape, data, segment, &mut sum)?));
+        let read: Vec<_> = (first..end).map(read).collect::<Result<_, Failure>>()?;
+        let work = |(segment, bytes): (u32, Vec<u8>)| encode::<S>(shape, segment, &bytes);
+        for (segment, trays) in (first..end).zip(jobs::map(cabinet.jobs, read, work)) {
+            for (bytes, draft) in trays?.iter().zip(&mut *drafts) {
+                draft.write(bytes)?;
             }
+            progress::segment(cabinet, &cabinet.geometry.stripes_of(segment), screen);
         }
-        let trays = (0..).map(Tray::new).zip(&parts);
-        for ((tray, part), draft) in trays.zip(&mut *drafts) {
-            draft.write(&cabinet.segment_bytes(segment, tray, part)?)?;
-        }
-        progress::segment(cabinet, &stripes, screen);
     }
     Ok(sum)
+}
+
+/// The data of the next segment, with zeros after the last of them; their checksum is taken on.
+fn read_segment(
+    shape: &Shape,
+    data: &mut dyn Read,
+    segment: u32,
+    sum: &mut u64,
+) -> Result<Vec<u8>, Failure> {
+    let (stripes, stripe) = (shape.geometry.stripes_of(segment), shape.numbers.data());
+    let room = stripes.len() * stripe;
+    let before = u64::from(stripes.start) * stripe as u64;
+    let left = shape.description.length.unwrap_or_default() - before;
+    let wanted = usize::try_from(left).map_or(room, |left| left.min(room));
+    let mut bytes = Vec::with_capacity(room);
+    data.take(wanted as u64)
+        .read_to_end(&mut bytes)
+        .map_err(|error| Failure::File(format!("the data: {error}")))?;
+    if bytes.len() < wanted {
+        return Err(Failure::File(
+            "the data end before their length".to_string(),
+        ));
+    }
+    *sum = checksum(*sum, &bytes);
+    bytes.resize(room, 0);
+    Ok(bytes)
+}
+
+/// A segment of every tray, of the data of its stripes.
+fn encode<S: Symbol>(shape: &Shape, segment: u32, data: &[u8]) -> Result<Vec<Vec<u8>>, Failure> {
+    let numbers = &shape.numbers;
+    let (layers, stripes) = (numbers.layers, shape.geometry.stripes_of(segment).len());
+    let mut parts = vec![vec![S::default(); layers * stripes]; numbers.trays];
+    let mut codeword = vec![S::default(); numbers.codeword()];
+    for (place, data) in data.chunks(numbers.data()).enumerate() {
+        (S::CALLS.store)(numbers.layout, &from_data(data), &mut codeword)
+            .map_err(Failure::refused("store"))?;
+        for (part, symbols) in parts.iter_mut().zip(codeword.chunks(layers)) {
+            together(symbols, stripes, place, part);
+        }
+    }
+    let trays = (0..).map(Tray::new).zip(&parts);
+    trays
+        .map(|(tray, part)| shape.segment_bytes(segment, tray, part))
+        .collect()
 }
 
 fn write_labels(cabinet: &Cabinet, drafts: &mut [Draft]) -> Result<(), Failure> {
@@ -200,35 +247,4 @@ fn forget_cut_tasks(disk: &dyn Disk, folder: &Path) -> Result<(), Failure> {
         }
     }
     Ok(())
-}
-
-/// The codeword of the next stripe's data, with zeros after the last of them; their checksum is taken
-/// on.
-fn codeword<S: Symbol>(
-    cabinet: &Cabinet,
-    data: &mut dyn Read,
-    stripe: u32,
-    sum: &mut u64,
-) -> Result<Vec<S>, Failure> {
-    let numbers = &cabinet.numbers;
-    let room = numbers.data();
-    let before = u64::from(stripe) * room as u64;
-    let left = cabinet.description.length.unwrap_or_default() - before;
-    let wanted = usize::try_from(left).map_or(room, |left| left.min(room));
-    let mut bytes = Vec::with_capacity(room);
-    data.take(wanted as u64)
-        .read_to_end(&mut bytes)
-        .map_err(|error| Failure::File(format!("the data: {error}")))?;
-    if bytes.len() < wanted {
-        return Err(Failure::File(
-            "the data end before their length".to_string(),
-        ));
-    }
-    *sum = checksum(*sum, &bytes);
-    bytes.resize(room, 0);
-    let mut codeword = vec![S::default(); numbers.codeword()];
-    let layout = cabinet.description.layout;
-    (S::CALLS.store)(layout, &from_data(&bytes), &mut codeword)
-        .map_err(Failure::refused("store"))?;
-    Ok(codeword)
 }

@@ -1,7 +1,7 @@
 //! Bars, and the lines that say how far a task is.
 
 use super::screen::Screen;
-use crate::files::cabinet::Cabinet;
+use crate::files::shape::Shape;
 use std::ops::Range;
 
 /// A task prints as many lines, or fewer.
@@ -52,7 +52,7 @@ struct Place {
 }
 
 impl Place {
-    fn of(cabinet: &Cabinet, steps: usize, at: u64) -> Place {
+    fn of(cabinet: &Shape, steps: usize, at: u64) -> Place {
         Place {
             steps: steps as u64,
             stripes: cabinet.description.stripes.into(),
@@ -101,7 +101,7 @@ impl Place {
 
 /// After a stripe of a task without anything else to say: how many stripes are done, if it is time
 /// for a line.
-pub fn stripes(cabinet: &Cabinet, done: u32, screen: &mut Screen) {
+pub fn stripes(cabinet: &Shape, done: u32, screen: &mut Screen) {
     let place = Place::of(cabinet, 1, done.into());
     let before = Place {
         at: place.at - 1,
@@ -113,7 +113,7 @@ pub fn stripes(cabinet: &Cabinet, done: u32, screen: &mut Screen) {
 }
 
 /// After a segment of such a task: a line if one was due within it.
-pub fn segment(cabinet: &Cabinet, stripes: &Range<u32>, screen: &mut Screen) {
+pub fn segment(cabinet: &Shape, stripes: &Range<u32>, screen: &mut Screen) {
     let whole = u64::from(cabinet.description.stripes);
     let size = whole.div_ceil(LINES);
     let (start, end) = (u64::from(stripes.start), u64::from(stripes.end));
@@ -124,7 +124,7 @@ pub fn segment(cabinet: &Cabinet, stripes: &Range<u32>, screen: &mut Screen) {
 }
 
 /// Says with which stripe a task goes on that was cut, where there are several.
-pub fn goes_on(cabinet: &Cabinet, stripe: u32, screen: &mut Screen) {
+pub fn goes_on(cabinet: &Shape, stripe: u32, screen: &mut Screen) {
     if cabinet.description.stripes > 1 {
         screen.line(format!("  goes on with stripe {stripe}"));
     }
@@ -141,7 +141,7 @@ pub struct Run {
 
 impl Run {
     /// A run of steps, of which each stripe has as many; it ends with the last stripe.
-    pub fn new(cabinet: &Cabinet, thing: &'static str, steps: usize, run: Range<u64>) -> Run {
+    pub fn new(cabinet: &Shape, thing: &'static str, steps: usize, run: Range<u64>) -> Run {
         let place = Place::of(cabinet, steps, run.start);
         Run {
             thing,

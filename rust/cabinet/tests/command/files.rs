@@ -308,19 +308,16 @@ fn files_without_a_cabinet() {
         bench.poke("broken", LABEL + at, 0xEE);
         bench.refused(9, "inspect broken");
     }
-    for length in [
-        LABEL,
-        LABEL + 1,
-        LABEL + 23,
-        LABEL + 24,
-        LABEL + 39,
-        561,
-        2 << 20,
-    ] {
+    for length in [LABEL, LABEL + 1, LABEL + 23, LABEL + 24, LABEL + 39] {
+        bench.write("broken", &image[..length]);
+        bench.refused(9, "inspect broken");
+    }
+    for length in [561, 2 << 20] {
         let mut bytes = image.clone();
         bytes.resize(length, 0);
         bench.write("broken", &bytes);
-        bench.refused(9, "inspect broken");
+        let message = bench.fails(65, "inspect broken");
+        assert!(message.contains("it is too long"), "{message}");
     }
     bench.write("broken", &image[..LABEL + 40]);
     bench.fails(65, "inspect broken");

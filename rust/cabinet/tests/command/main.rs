@@ -15,6 +15,7 @@ mod help;
 mod json;
 mod large;
 mod manual;
+mod mixed;
 mod plan;
 mod read;
 mod refusals;

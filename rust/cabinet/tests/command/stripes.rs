@@ -472,12 +472,10 @@ fn files_cut_short_or_too_long() {
         assert!(before == bench.snapshot("c"), "{length}");
     }
     bench.write(&image(7), &[&tray[..], b"!"].concat());
-    let out = bench.ends(16, "test c");
-    assert!(
-        out.contains("tray  7 is not used in stripes 512-599: refused (9)"),
-        "{out}"
-    );
-    bench.done("recover c");
+    let message = bench.fails(65, "test c");
+    assert!(message.contains("bad: tray 7"), "{message}");
+    let out = bench.ends(17, "recover c");
+    assert!(out.contains("tray 7's file is too long"), "{out}");
     assert!(before == bench.snapshot("c"));
 }
 
