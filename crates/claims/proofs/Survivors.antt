@@ -42,14 +42,11 @@ use Rattle.gesarumbo.specs.Boundary.{testNumbers}
 use Rattle.claims.specs.Words.{LayerAlike}
 
 module _ {A : Type 0} (f : Field A) (l : Layout) where
-  itself : (es c : List ℕ) → Survivors l es c c
-  itself es c = record { long = refl; same = λ x j hx hj kept. refl }
-
   -- whatever a recovery answers, it has written erased trays only
   pub erased-only : (es c d : List ℕ) (n : ℕ) → RecoverAnswer f l es c d n → Survivors l es c d
   erased-only es c d n p = elim (ℕ-discrete n 0) [
     | yes e ↦ p .done e .survivors
-    | no h ↦ subst (λ y. Survivors l es c y) (sym (p .unchanged h)) (itself es c)
+    | no h ↦ subst (λ y. Survivors l es c y) (sym (p .unchanged h)) (record { long = refl; same = λ x j hx hj kept. refl })
   ]
 
   -- with none erased the trays kept are the whole buffer
@@ -166,5 +163,5 @@ module _ {A : Type 0} {f : Field A} (W : Working f) (l : Layout) where
       back : testRefusal f l c ≡ 0 → Codeword f l c → n ≡ 0
       back z good = elim (ℕ-discrete n 0) [
         | yes e ↦ e
-        | no h ↦ absurd (p .none (p .answers (grounds ∙ z) h) c good (itself f l [] c))
+        | no h ↦ absurd (p .none (p .answers (grounds ∙ z) h) c good (record { long = refl; same = λ x j hx hj kept. refl }))
       ]

@@ -14,7 +14,7 @@ use Rattle.lists.proofs.Tables.{table-length}
 use Rattle.layout.specs.declared.Layout.{Layout}
 use Rattle.layout.specs.Layout.{layers}
 use Rattle.reading.specs.Reading.{partRefusal, partGiven}
-use Rattle.reading.proofs.Grounds.{Accepted, accepted, run-end}
+use Rattle.reading.proofs.Grounds.{accepted, run-end}
 use Rattle.image.specs.Image.{edition1, headerLength, symbolAt, ownLayout, ownTray, ownSymbols, readRefusal, readTray, readSymbols}
 use Rattle.image.proofs.Editions.{proper1}
 use Rattle.image.proofs.ReadGrounds.{readable}
@@ -169,9 +169,6 @@ module _ (N : ℕ) (l : Layout) (codeword spare : List ℕ) (lost done tray firs
     module _ (z : n ≡ 0) where
       none : part-ground ≡ 0
       none = sym refusal-is ∙ z
-
-      pub part-facts : Accepted N l (length codeword) (length spare) lost done tray first end
-      part-facts = accepted N l (length codeword) (length spare) lost done tray first end none
 
       pub part-read : (part : List ℕ) → part ≡ partGiven N l codeword spare x done y first end →
           (m : ℕ) → m ≡ layers l → (r : PartNumbers) → r ≡ runNumbers lost tray first (tray * m + first) (length part) → r ≡ numbers

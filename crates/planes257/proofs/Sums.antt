@@ -57,23 +57,8 @@ module _ {A : Type 0} {f : Field A} (W : Working f) (w i : ℕ) (sums coefs : Li
 
 -- ---- places
 module _ (w m i : ℕ) (found sums coefs : List ℕ) (at : ℕ) (s : Rows w m i found sums coefs at) where
-  pub found-in : i * w + w ≤ length found
-  found-in = row-in found m w i (s .found-long) (s .row-in)
-
-  pub found-next : (mid is : List ℕ) → length mid ≡ length found → length is ≡ length mid → i * w + w ≤ length is
-  found-next mid is e d = let h = found-in in omega arith
-
-  pub found-fits : Fits w64 (length found) → Fits w64 (i * w)
-  found-fits f = let h = found-in in omega arith
-
   pub sums-in : (t : ℕ) → t < m → t * w + w ≤ length sums
   sums-in t h = row-in sums m w t (s .sums-long) h
 
   pub sums-fits : (t : ℕ) → t < m → Fits w64 (length sums) → Fits w64 (t * w)
   sums-fits t h f = let e = sums-in t h in omega arith
-
-  pub coef-in : (t : ℕ) → t < m → at + t < length coefs
-  coef-in t h = let e = s .coefs-long in omega arith
-
-  pub coef-fits : (t : ℕ) → t < m → Fits w64 (length coefs) → Fits w64 (at + t)
-  coef-fits t h f = let e = coef-in t h in omega arith

@@ -7,7 +7,7 @@ use native.Mathlib.Omega.{arith}
 use Rattle.algebra.specs.Shape.{Field}
 use Rattle.algebra.specs.Plain.{Working}
 use Rattle.layout.specs.declared.Layout.{Layout}
-use Rattle.recover.specs.Recover.{recoverRefusal, Survivors, Restores}
+use Rattle.recover.specs.Recover.{Survivors, Restores}
 use Rattle.recover.proofs.Settled.{back, through, refusal-same}
 use Rattle.recover_correcting.specs.declared.Recovered.{Recovered}
 use Rattle.recover_correcting.specs.declared.Recovered.the-variants.{Done, Refused}
@@ -17,9 +17,6 @@ use Rattle.recover_correcting.proofs.WithTray.{kept-old}
 use Rattle.recover_correcting.proofs.Settled.{answer-unique}
 
 module _ {A : Type 0} (f : Field A) (l : Layout) (es c c′ : List ℕ) (s : Survivors l es c c′) where
-  grounds-same : recoverRefusal f l es c ≡ recoverRefusal f l es c′
-  grounds-same = refusal-same f l es c c′ s
-
   fewer : (x : ℕ) → Survivors l (withTray es x) c c′
   fewer x = record { long = s .long; same = λ z j hz hj kept. s .same z j hz hj (kept-old es x z kept) }
 
@@ -57,7 +54,7 @@ module _ {A : Type 0} (f : Field A) (l : Layout) (es c c′ : List ℕ) (s : Sur
   done-moved : (d : List ℕ) (x left : ℕ) → CorrectionDone f l es c′ d (report (Done x left)) → CorrectionDone f l es c d
       (report (Done x left))
   done-moved d x left p = record {
-    accepted = grounds-same ∙ p .accepted;
+    accepted = refusal-same f l es c c′ s ∙ p .accepted;
     checks-are = p .checks-are;
     sound = λ e. restores-moved es d s (p .sound e);
     named = λ n. corrects-moved d x (p .named n);
@@ -67,8 +64,8 @@ module _ {A : Type 0} (f : Field A) (l : Layout) (es c c′ : List ℕ) (s : Sur
       (report (Refused e))
   refused-moved d e p = record {
     ground = p .ground;
-    refused = λ n. p .refused (λ z. n (grounds-same ∙ z)) ∙ sym grounds-same;
-    last = λ z. let q = p .last (sym grounds-same ∙ z) in (q .0, not-correctable-moved (q .1));
+    refused = λ n. p .refused (λ z. n (refusal-same f l es c c′ s ∙ z)) ∙ sym (refusal-same f l es c c′ s);
+    last = λ z. let q = p .last (sym (refusal-same f l es c c′ s) ∙ z) in (q .0, not-correctable-moved (q .1));
     kept = refl;
   }
 

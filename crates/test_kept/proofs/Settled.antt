@@ -32,9 +32,6 @@ use Rattle.test_kept.specs.Claims.{AsRecover}
 use Rattle.test_kept.proofs.Solutions.{solution-of, fits-of, solution-moved}
 
 -- a layer is its number
-layer-same : (j i : Layer) → j .0 ≡ i .0 → j ≡ i
-layer-same j i e = ap (λ n. record { 0 = n }) e
-
 module _ {A : Type 0} (f : Field A) (l : Layout) (es c : List ℕ) where
   -- one first layer
   first-same : (j i : ℕ) → FirstUnsolved f l es c j → FirstUnsolved f l es c i → j ≡ i
@@ -50,7 +47,7 @@ module _ {A : Type 0} (f : Field A) (l : Layout) (es c : List ℕ) where
   answer-unique (Sound n) (Bad i m) p q = absurd (q .2 .unsolved (p .2 (i .0) (q .2 .layer-in)))
   answer-unique (Sound n) (Refused e) p q = absurd (let a = p .0 in let b = q .0 in let g = q .1 in omega arith)
   answer-unique (Bad j n) (Sound m) p q = absurd (p .2 .unsolved (q .2 (j .0) (p .2 .layer-in)))
-  answer-unique (Bad j n) (Bad i m) p q = ap₂ Bad (layer-same j i (first-same (j .0) (i .0) (p .2) (q .2))) (p .1 ∙ sym (q .1))
+  answer-unique (Bad j n) (Bad i m) p q = ap₂ Bad (ap (λ n. record { 0 = n }) (first-same (j .0) (i .0) (p .2) (q .2))) (p .1 ∙ sym (q .1))
   answer-unique (Bad j n) (Refused e) p q = absurd (let a = p .0 in let b = q .0 in let g = q .1 in omega arith)
   answer-unique (Refused e) (Sound m) p q = absurd (let a = q .0 in let b = p .0 in let g = p .1 in omega arith)
   answer-unique (Refused e) (Bad i m) p q = absurd (let a = q .0 in let b = p .0 in let g = p .1 in omega arith)
@@ -61,9 +58,6 @@ module _ {A : Type 0} (f : Field A) (l : Layout) (es c : List ℕ) where
     there : (j : ℕ) → j < layers l → Solution f l es c′ j → Solution f l es c j
     there = solution-moved f l es c′ c (back f l es c c′ s)
 
-    here : (j : ℕ) → j < layers l → Solution f l es c j → Solution f l es c′ j
-    here = solution-moved f l es c c′ s
-
     pub answer-moved : (r : Kept) → KeptAnswer f l es c′ r → KeptAnswer f l es c r
     answer-moved (Sound n) p = (refusal-same f l es c c′ s ∙ p .0, p .1, λ j h. there j h (p .2 j h))
     answer-moved (Bad j n) p =
@@ -72,7 +66,7 @@ module _ {A : Type 0} (f : Field A) (l : Layout) (es c : List ℕ) where
           p .1,
           record {
             layer-in = b .layer-in;
-            unsolved = λ g. b .unsolved (here (j .0) (b .layer-in) g);
+            unsolved = λ g. b .unsolved (solution-moved f l es c c′ s (j .0) (b .layer-in) g);
             earlier = λ i h. there i (let k = b .layer-in in omega arith) (b .earlier i h);
           },
         )

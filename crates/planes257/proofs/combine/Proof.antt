@@ -6,7 +6,8 @@ use borrow.Author.Needs.{needs}
 use Rattle.symbol257.specs.Elem.{gf257}
 use Rattle.symbol257.proofs.Working.{working}
 use Rattle.planes.specs.Inner.{Summed}
-use Rattle.planes257.proofs.Sums.{summed-none, summed-more, summed-end, found-in, found-next, found-fits, sums-in, sums-fits, coef-in, coef-fits}
+use Rattle.planes.proofs.Planes.{whole-in, whole-next, whole-fits, coef-in, coef-fits}
+use Rattle.planes257.proofs.Sums.{summed-none, summed-more, summed-end, sums-in, sums-fits}
 use Rattle.planes257.proofs.combine.Statement.{statement}
 use Rattle.planes257.proofs.combine.Tie as tie
 
@@ -19,14 +20,14 @@ abbrev μ-loop : tie.MeasureT-loop
 pub combine-spec : {M : Type 1} → statement M
 combine-spec =
     tie.close (tie.spec Inv-loop μ-loop
-    (λ c. search found-fits)
-    (λ c κs. search found-in)
+    (λ c. search whole-fits)
+    (λ c κs. search whole-in)
     (λ c. (omega arith, refl, search (summed-none working)))
     (λ c. search coef-fits)
     (λ c κs. search coef-in)
-    (λ c. search found-fits)
+    (λ c. search whole-fits)
     (λ c. search sums-fits)
-    (λ c κs. (search found-next, search sums-in))
+    (λ c κs. (search whole-next, search sums-in))
     (λ c. omega arith)
     (λ c. omega arith)
     (λ c. (omega arith, search needs, search (summed-more working)))

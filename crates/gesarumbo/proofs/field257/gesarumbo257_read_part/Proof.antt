@@ -4,8 +4,8 @@ use lib.ListN.{length}
 use mathlib.Core.Path.{refl}
 use borrow.Author.Needs.{needs}
 use Rattle.symbol257.specs.Elem.{gf257}
-use Rattle.reading.proofs.Grounds.{Accepted, run-high}
-use Rattle.gesarumbo.proofs.Shown.{part-refused, part-facts, part-read}
+use Rattle.reading.proofs.Grounds.{Accepted, facts, run-high}
+use Rattle.gesarumbo.proofs.Shown.{part-refused, part-read}
 use Rattle.gesarumbo.proofs.field257.gesarumbo257_read_part.Statement.{statement}
 use Rattle.gesarumbo.proofs.field257.gesarumbo257_read_part.Tie as tie
 
@@ -17,7 +17,7 @@ Given c =
 given : (c : tie.Else1) → Given c
 given c =
     let s = c .before .before .before .before .before .before .before .args in
-    part-facts (gf257 .order) (s .l) (s .codeword .now) (s .spare .now) (s .lost) (s .done) (s .tray) (s .first) (s .end) _ _ _
+    facts (gf257 .order) (s .l) (s .codeword .now) (s .spare .now) (s .lost) (s .done) (s .tray) (s .first) (s .end) _ _ _
     (c .before .before .before .before .of .ensures) (c .before .before .before .of2 .ensures)
     (c .before .read-part .ensures .1) (c .if1 .left)
 
