@@ -26,8 +26,6 @@ DATA = {'List ℕ', '(ℕ → A) → ℕ → List A', 'Signature', 'Param n', 'T
 # a lemma of each group that is left to merge
 OPEN = {
     'algebra/Points digits-same',
-    'blocks/Digits power-next',
-    'blocks/Digits power-none',
     'box_recover/Steps free-none',
     'cards/Grounds cabinet-so',
     'checksum/Unique bit-lt',
@@ -35,8 +33,6 @@ OPEN = {
     'columns/Rows row-fits',
     'columns/Rows spread-fits',
     'columns/Rows spread-in',
-    'kernel/Rows row-before',
-    'layout/Facts size-pos',
     'least/Same cells',
     'rack_solving/Points row-next',
     'rack_solving/Points sampled-in',

@@ -59,9 +59,6 @@ top-fits l n top a e h = let u = bounds l a in let t = a .trays-high in omega ar
 pub top-low : (l : Layout) (top : ℕ) → Cabinet l → 1 ≤ top + l .size
 top-low l top a = let u = bounds l a .size-low in omega arith
 
-pub size-some : (l : Layout) → Cabinet l → 0 < l .size
-size-some l a = bounds l a .size-low
-
 -- ---- trays of which none is listed
 pub kept-none : (es : List ℕ) (x : ℕ) → Kept es x 0
 kept-none es x = record { at = λ g h. absurd (omega arith) }

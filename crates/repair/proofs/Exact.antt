@@ -15,6 +15,7 @@ use Rattle.algebra.specs.Plain.{Working}
 use Rattle.layout.specs.declared.Layout.{Layout}
 use Rattle.layout.specs.Layout.{layers, groups, traffic, AdmissibleWith}
 use Rattle.layout.proofs.Facts.{facts-admissible, size-pos, fits}
+use Rattle.kernel.proofs.Rows.{row-before}
 use Rattle.codeword.specs.Codeword.{Usable, Solvable}
 use Rattle.codeword.proofs.Usable.{solvable}
 use Rattle.rule.specs.Rule.{rackPart, shareSymbol}
@@ -27,7 +28,6 @@ use Rattle.share.specs.Share.{shareOf}
 use Rattle.share.specs.Many.{sharesBuffer, manyRefusal, manyBuffer}
 use Rattle.share.proofs.Sums.{groups-pos}
 use Rattle.share.proofs.Refusals.{rack-symbols, some-seen, ground-0, rack-grounds, buffer-refused, buffer-done, many-same, many-done}
-use Rattle.share.proofs.Weights.{row-in}
 use Rattle.share.proofs.Shares.{sent, sent-many}
 use Rattle.repair.specs.declared.Repaired.{Repaired}
 use Rattle.repair.specs.declared.Repaired.the-variants.{Done, Refused}
@@ -123,7 +123,7 @@ module _ {A : Type 0} {f : Field A} (W : Working f) (l : Layout) (adm : Admissib
     block-long : length (take (e * groups l) (drop (k * (e * groups l)) shares)) ≡ e * groups l
     block-long =
         length-take-le (e * groups l) (drop (k * (e * groups l)) shares)
-        (rw (length-drop (k * (e * groups l)) shares, s .setting .shares-long, swap e (l .helpers) (groups l)) (omega (arith, row-in (l .helpers) (e * groups l) k hk)))
+        (rw (length-drop (k * (e * groups l)) shares, s .setting .shares-long, swap e (l .helpers) (groups l)) (omega (arith, row-before k (l .helpers) (e * groups l) hk)))
 
     -- no such share call is refused
     pub call-done : manyRefusal f l e h i (rackPart l c i) (length (s .room k)) ≡ 0

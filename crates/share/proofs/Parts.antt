@@ -36,7 +36,6 @@ use Rattle.rule.proofs.Racks.{tray-at}
 use Rattle.share.specs.Share.{partSymbol}
 use Rattle.share.specs.Many.{sharesOf, partAt, fedMany}
 use Rattle.share.specs.Inner.{cut, sumAt, Summing, Summed, Weighing, Added, partsAt, Feeding, Rested, fedTrays, Gathering}
-use Rattle.share.proofs.Weights.{row-in}
 
 choose-sum : {A : Type 0} (o : Ops A) → Laws o → (n : ℕ) (b : Bool) (t : ℕ → A) → sum o n (λ g. choose b (t g) (o .zero)) ≡ choose b (sum o n t) (o .zero)
 unfolding choose
@@ -110,13 +109,13 @@ module _ {A : Type 0} (f : Field A) (laws : FieldLaws f) (l : Layout) where
 
 -- the share of weight m lies in the shares
 pub weight-in : (l : Layout) (e m to total : ℕ) (sums was is : List ℕ) → Weighing l e sums was → total ≡ groups l → to ≡ m * total + 0 → m < e → length is ≡ length was → to + total ≤ length is
-weight-in l e m to total sums was is t e-total e-to h same = rw (same ∙ t .room, e-to, e-total, add-zero (m * groups l)) (row-in e (groups l) m h)
+weight-in l e m to total sums was is t e-total e-to h same = rw (same ∙ t .room, e-to, e-total, add-zero (m * groups l)) (row-before m e (groups l) h)
 
 -- what is told of the two steps
 module _ {A : Type 0} (f : Field A) (l : Layout) (e h : ℕ) (symbols : List ℕ) (at m : ℕ) (shares : List ℕ) (p : Feeding f l e h symbols at m shares) where
   pub summing-of : Summing f l h symbols at m shares
   summing-of =
-      let b : groups l ≤ length shares = omega (arith, p .room, row-in e (groups l) 0 (p .some)) in
+      let b : groups l ≤ length shares = omega (arith, p .room, row-before 0 e (groups l) (p .some)) in
       record { adm = p .adm; long = p .long; room = b; host-in = p .host-in; some-trays = p .some-trays; at-once = p .at-once; given = p .given; held = λ n k. p .held .at n (omega arith) }
 
   pub feeding-next : (shares′ : List ℕ) → Summed f l h symbols at m shares shares′ → Feeding f l e h symbols at m shares′

@@ -11,11 +11,12 @@ use Rattle.lists.proofs.Tables.{table-at}
 use Rattle.algebra.specs.Shape.{Field, FieldLaws}
 use Rattle.layout.specs.declared.Layout.{Layout}
 use Rattle.layout.specs.Layout.{groups}
+use Rattle.kernel.proofs.Rows.{row-before}
 use Rattle.rule.specs.Rule.{shareSymbol}
 use Rattle.rule.specs.Lost.{sentSymbol}
 use Rattle.share.specs.Share.{shareOf}
 use Rattle.share.specs.Many.{sharesOf}
-use Rattle.share.proofs.Weights.{row-in, shares-row}
+use Rattle.share.proofs.Weights.{shares-row}
 
 pub sent : {A : Type 0} (f : Field A) → FieldLaws f → (l : Layout) (e h : ℕ) (shares rack : List ℕ) (k m : ℕ) →
     take (groups l) (drop ((k * e + m) * groups l) shares) ≡ shareOf f l m h rack → (p : ℕ) → p < groups l → sentSymbol f l e shares m p k ≡ shareSymbol f l m h rack p
@@ -38,6 +39,6 @@ pub sent-many : {A : Type 0} (f : Field A) (l : Layout) (e h : ℕ) (shares rack
 sent-many f l e h shares rack k m lt q =
     ap (λ n. take (groups l) (drop n shares)) (add-mul (k * e) m (groups l) ∙ ap (λ n. n + m * groups l) (mul-assoc k e (groups l)))
     ∙ ap (take (groups l)) (sym (drop-drop (m * groups l) (k * (e * groups l)) shares))
-    ∙ sym (front-part (groups l) (m * groups l) (e * groups l) (drop (k * (e * groups l)) shares) (row-in e (groups l) m lt))
+    ∙ sym (front-part (groups l) (m * groups l) (e * groups l) (drop (k * (e * groups l)) shares) (row-before m e (groups l) lt))
     ∙ ap (λ s. take (groups l) (drop (m * groups l) s)) q
     ∙ shares-row f l e m h rack lt

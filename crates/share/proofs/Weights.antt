@@ -5,7 +5,7 @@ use mathlib.Core.Bool.{cond}
 use mathlib.Core.Path.{_≡_, sym, ap, ap₂, _∙_}
 use mathlib.Core.List.{List}
 use Prim.Native.Nat.{ℕ, _+_, _*_, _/_, _≤_, _<_}
-use native.Mathlib.Nat.{one-mul, mul-assoc, mul-comm, suc-mul, mul-le-mul-right, div-eq-of-lt, mod-eq-of-lt}
+use native.Mathlib.Nat.{one-mul, mul-assoc, mul-comm, div-eq-of-lt, mod-eq-of-lt}
 use native.Mathlib.Omega.{arith}
 use lib.Arith.{digits-div, digits-mod}
 use lib.Dec.{eqb}
@@ -22,6 +22,7 @@ use Rattle.algebra.specs.Points.{place}
 use Rattle.algebra.proofs.Pow.{pow-mul}
 use Rattle.layout.specs.declared.Layout.{Layout}
 use Rattle.layout.specs.Layout.{groups}
+use Rattle.kernel.proofs.Rows.{row-before}
 use Rattle.codeword.specs.Codeword.{shapeOf}
 use Rattle.rule.specs.Rule.{shareSymbol}
 use Rattle.share.specs.Share.{shareOf, partSymbol}
@@ -29,14 +30,10 @@ use Rattle.share.specs.One.{shareBuffer, fed, addBuffer}
 use Rattle.share.specs.Many.{sharesOf, sharesBuffer, partAt, fedMany, fedBuffer}
 use Rattle.share.proofs.Refusals.{one-refusal, one-add-refusal}
 
--- row m of e rows of n
-pub row-in : (e n m : ℕ) → m < e → m * n + n ≤ e * n
-row-in e n m h = rw (suc-mul m n) at (mul-le-mul-right n h)
-
 row-of : (F G : ℕ → ℕ) (e n m : ℕ) → m < e → ((p : ℕ) → p < n → F (m * n + p) ≡ G p) → take n (drop (m * n) (table F (e * n))) ≡ table G n
 row-of F G e n m h same =
     is-table _ G n
-    (length-take-le n (drop (m * n) (table F (e * n))) (rw (length-drop (m * n) (table F (e * n)), table-length F (e * n)) (omega (arith, row-in e n m h))))
+    (length-take-le n (drop (m * n) (table F (e * n))) (rw (length-drop (m * n) (table F (e * n)), table-length F (e * n)) (omega (arith, row-before m e n h))))
     (λ p k. getD-take n (drop (m * n) (table F (e * n))) p 0 k ∙ getD-drop (m * n) (table F (e * n)) p 0 ∙ table-at F (e * n) (m * n + p) (cell-in e n m p h k) ∙ same p k)
 
 pub one-row : (F G : ℕ → ℕ) (n : ℕ) → ((p : ℕ) → p < n → F p ≡ G p) → table F (1 * n) ≡ table G n

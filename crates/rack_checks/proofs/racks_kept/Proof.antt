@@ -1,5 +1,6 @@
 use borrow.Author.Needs.{needs}
-use Rattle.rack_checks.proofs.Numbers.{racks-below, racks-listed, top-fits, top-low, size-some}
+use Rattle.layout.proofs.Facts.{size-pos}
+use Rattle.rack_checks.proofs.Numbers.{racks-below, racks-listed, top-fits, top-low}
 use Rattle.rack_checks.proofs.racks_kept.Statement.{statement}
 use Rattle.rack_checks.proofs.racks_kept.Tie as tie
 
@@ -10,5 +11,5 @@ racks-kept-spec =
     (λ c κs. search needs)
     (λ c. search top-fits)
     (λ c. search top-low)
-    (λ c. search size-some)
+    (λ c. search size-pos)
     (λ c. (search racks-below, search racks-listed)))
