@@ -31,7 +31,7 @@ TWINS = {
     'restore': [],
     'range': ['higher', 'highest', 'highest_apart', 'highest_of_four'],
     'testing': [],
-    'sums': ['digit_point', 'inverse'],
+    'sums': ['digit_point'],
     'group': [],
     'multipliers': [],
     'cards': ['card_sum'],

@@ -4,6 +4,7 @@ pub mod Coding
 pub mod Sum
 pub mod Pow
 pub mod Plain
+pub mod Tables
 pub mod Poly
 pub mod Roots
 pub mod Lagrange

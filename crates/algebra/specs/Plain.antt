@@ -2,7 +2,9 @@
 -- number stands for an element, and every result is below the field's size. Nothing here has to be believed.
 -- Assumes nothing.
 use mathlib.Core.Path.{_≡_}
+use mathlib.Core.List.{List}
 use Prim.Native.Nat.{ℕ, suc, _<_, _≤_}
+use lib.ListN.{length, getD}
 use Rattle.algebra.specs.Field.{Ops}
 use Rattle.algebra.specs.Coding.{Coding}
 use Rattle.algebra.specs.Sum.{pow}
@@ -32,6 +34,17 @@ module _ {A : Type 0} (f : Field A) where
   -- the powers of the root
   unfoldable pub rootPower : ℕ → ℕ
   rootPower e = val (pow (f .ops) (f .root) e)
+
+  -- all powers of the root, in a list
+  pub record PowersIn (powers : List ℕ) : Type 0 where
+    pub long : length powers ≡ f .order
+    pub at : (i : ℕ) → i < f .order → getD powers i 0 ≡ rootPower i
+
+  -- the logarithms of all symbols, in a list; that of zero, which has none, is any number
+  pub record LogsIn (logs : List ℕ) : Type 0 where
+    pub long : length logs ≡ f .coding .size
+    pub below : (x : ℕ) → 0 < x → x < f .coding .size → getD logs x 0 < f .order
+    pub at : (x : ℕ) → 0 < x → x < f .coding .size → rootPower (getD logs x 0) ≡ x
 
   -- what the code needs of a field
   pub record Working : Type 0 where

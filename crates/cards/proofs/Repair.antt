@@ -18,7 +18,7 @@ use Rattle.algebra.specs.Repair.{hostSum}
 use Rattle.algebra.proofs.Plain.{elem-minus, elem-times}
 use Rattle.algebra.proofs.Ring.{ring}
 use Rattle.algebra.proofs.Sum.{sum-zero, sum-add-one}
-use Rattle.kernel.specs.Inner.{Run, filled, cell, Inverses}
+use Rattle.kernel.specs.Inner.{Run, filled, cell}
 use Rattle.layout.specs.declared.Layout.{Layout}
 use Rattle.layout.specs.Layout.{digits, layers, groups, parityRacks, trayLimit, layerLimit}
 use Rattle.layout.proofs.Facts.{bounds, rack-in}
@@ -145,9 +145,9 @@ module _ {A : Type 0} {f : Field A} (W : Working f) where
     repaired sums new s q =
         repaired-piece W l (x ∷ []) helpers shares host 1 p sums (g .adm) (one-loss f l ok x helpers (g .help)) (one .block) (one .inside) (sums-to sums s) spare new q
 
-    pub repairing-of : (sums table : List ℕ) → length sums ≡ length rowOf → Inverses f table → Repairing f l (x / l .size) (x ∷ []) host 1 p sums table
+    pub repairing-of : (sums : List ℕ) → length sums ≡ length rowOf → Repairing f l (x / l .size) (x ∷ []) host 1 p sums
     unfolding one
-    repairing-of sums table e t = record {
+    repairing-of sums e = record {
       losing = record {
         adm = g .adm .admissible .cabinet;
         host-in = rack-in l (g .adm .admissible .cabinet) x (g .help .lost-in);
@@ -158,7 +158,6 @@ module _ {A : Type 0} {f : Field A} (W : Working f) where
       };
       block = one;
       sums-long = omega (arith, digits-small l (g .adm .admissible .cabinet), e, row-long);
-      inverses = t;
     }
 
     pub spare-there : length spare ≡ 1 * layers l

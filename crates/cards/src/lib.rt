@@ -6,7 +6,6 @@ use layout::Layout;
 use layout::Tray;
 use repair::Repaired;
 use symbol::plain::ORDER;
-use symbol::plain::SIZE;
 use symbol::plain::difference;
 use symbol::plain::product;
 ghost use mathlib.Core.Path.{_≡_};
@@ -234,8 +233,6 @@ fn repair_by_card(
     let mut coefs = [0u8; blocks::BLOCK];
     let mut row = [0u8; blocks::BLOCK];
     let mut cur = [0u8; blocks::BLOCK];
-    let mut table = [0u8; SIZE];
-    kernel::inverses(&mut table);
     card_sums(&mut sums, l, card, shares, p);
     group::repair_block(
         l,
@@ -251,7 +248,6 @@ fn repair_by_card(
         &mut coefs,
         &mut row,
         &mut cur,
-        &table,
         spare,
     );
 }

@@ -7,7 +7,6 @@ use layout::Layout;
 use layout::Tray;
 use repair::Repaired;
 use symbol257::plain::ORDER;
-use symbol257::plain::SIZE;
 use symbol257::plain::difference;
 use symbol257::plain::product;
 ghost use mathlib.Core.Path.{_≡_};
@@ -238,8 +237,6 @@ fn repair_by_card(
     let mut coefs = [0u16; blocks::BLOCK];
     let mut row = [0u16; blocks::BLOCK];
     let mut cur = [0u16; blocks::BLOCK];
-    let mut table = [0u16; SIZE];
-    kernel257::inverses(&mut table);
     card_sums(&mut sums, l, card, shares, p);
     group257::repair_block(
         l,
@@ -255,7 +252,6 @@ fn repair_by_card(
         &mut coefs,
         &mut row,
         &mut cur,
-        &table,
         spare,
     );
 }

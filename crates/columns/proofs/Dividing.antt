@@ -15,9 +15,9 @@ use Rattle.algebra.specs.Poly.{coeff}
 use Rattle.algebra.proofs.Ring.{neg-mul}
 use Rattle.algebra.specs.Coding.{Coding}
 use Rattle.algebra.specs.Shape.{Field, FieldLaws}
-use Rattle.algebra.specs.Plain.{plus, minus, times, reduced, Working}
-use Rattle.algebra.proofs.Plain.{elem-one, elem-plus, elem-minus, elem-times, elem-reduced, reduced-below}
-use Rattle.kernel.specs.Inner.{cell, Run, Inverses, filled, parted, lookedUp}
+use Rattle.algebra.specs.Plain.{plus, minus, times, Working}
+use Rattle.algebra.proofs.Plain.{elem-one, elem-plus, elem-minus, elem-times}
+use Rattle.kernel.specs.Inner.{cell, Run, Standing, filled, parted, inverted}
 use Rattle.kernel.proofs.Runs.{run-more}
 use Rattle.kernel.proofs.Rows.{row-before, row-in, cell-other}
 use Rattle.columns.specs.Inner.{column, differences, grown, locator, turned, Columns, Locator, Turned, Divisors, Quotient, divided, scaled, scaledBy, negated}
@@ -131,14 +131,16 @@ module _ {A : Type 0} {f : Field A} (W : Working f) where
         go i c h l (yes d) = ahead g i c h l d
         go i c h l (no d) = behind g i c h l (omega arith)
 
-  pub divisors-of : (v m k : ℕ) (points table was is : List ℕ) → Inverses f table → Turned f v m points k was → k ≤ m → m ≤ k →
-      Run (lookedUp f was 0 table) was is 0 (m * v) → Divisors f v m points is
-  unfolding cell lookedUp
-  divisors-of v m k points table was is inv g a b r = record {
-    at = λ i c h l.
-        ap elem (first-done _ was is m v r i c h l)
-        ∙ inv .at (reduced f (getD was (0 + (i * v + c)) 0)) (reduced-below W (getD was (0 + (i * v + c)) 0))
-        ∙ ap (ops .inv) (elem-reduced W (getD was (0 + (i * v + c)) 0) ∙ ap (λ (x : ℕ). elem (getD was x 0)) (zero-add (i * v + c)) ∙ g .at i c h l
+  -- rows of inverses
+  inverses-done : (was is : List ℕ) (n v : ℕ) → Standing f (inverted f was 0) was is 0 (n * v) → (x c : ℕ) → x < n → c < v → cell f v is x c ≡ ops .inv (cell f v was x c)
+  unfolding cell inverted
+  inverses-done was is n v r x c h k =
+      ap (λ (i : ℕ). elem (getD is i 0)) (sym (zero-add (x * v + c))) ∙ r .done (x * v + c) (let e = row-before x n v h in omega arith)
+      ∙ ap (λ (i : ℕ). ops .inv (elem (getD was i 0))) (zero-add (x * v + c))
+
+  pub divisors-of : (v m k : ℕ) (points was is : List ℕ) → Turned f v m points k was → k ≤ m → m ≤ k → Standing f (inverted f was 0) was is 0 (m * v) → Divisors f v m points is
+  divisors-of v m k points was is g a b r = record {
+    at = λ i c h l. inverses-done was is m v r i c h l ∙ ap (ops .inv) (g .at i c h l
         ∙ ap (ops .neg) (ap (turned f (column f v points c) m i) same ∙ turned-all W (column f v points c) i m h));
   }
     where

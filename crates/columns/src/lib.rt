@@ -13,7 +13,7 @@ ghost use mathlib.Core.Path.{_≡_};
 ghost use Prim.Native.Nat.{_+_, _-_, _*_, _<_, _≤_, min};
 ghost use lib.ListN.{length};
 ghost use Rattle.symbol.specs.Elem.{gf256};
-ghost use Rattle.kernel.specs.Inner.{Run, Inverses};
+ghost use Rattle.kernel.specs.Inner.{Run};
 ghost use Rattle.columns.specs.Inner.{Columns, Timed, Locator, Turned, Divisors, Factored, Quotient, room};
 ghost use Rattle.columns.specs.Inner.{weighted, stretched, widened, Places, Systems, Wholes, Combined, Divided, RowSolved, Solved};
 
@@ -69,8 +69,8 @@ fn turn(out: &mut [u8], v: usize, m: usize, k: usize, points: &[u8])
 }
 
 // The inverses of less the products of each point's differences with the others.
-fn divisors(out: &mut [u8], v: usize, m: usize, points: &[u8], table: &[u8])
-    requires { ⌜ Columns v m (now points) (now out) × (0 < m) × Inverses gf256 (now table) ⌝ }
+fn divisors(out: &mut [u8], v: usize, m: usize, points: &[u8])
+    requires { ⌜ Columns v m (now points) (now out) × (0 < m) ⌝ }
     ensures { λ _. ⌜ Divisors gf256 v m (now (points .entry)) (now (out .exit)) ⌝ }
 {
     kernel::fill(out, 0, m * v, MINUS_ONE);
@@ -79,7 +79,7 @@ fn divisors(out: &mut [u8], v: usize, m: usize, points: &[u8], table: &[u8])
         turn(out, v, m, k, points);
         k += 1;
     }
-    kernel::look_up(out, 0, m * v, table);
+    kernel::invert(out, 0, m * v);
 }
 
 // The product's quotient by (X - point i), from the highest power down.
@@ -358,20 +358,12 @@ fn solve_rows(
 }
 
 // The product over all points and the divisors, which all rows go by.
-fn factor(
-    product: &mut [u8],
-    divs: &mut [u8],
-    carry: &mut [u8],
-    v: usize,
-    m: usize,
-    points: &[u8],
-    table: &[u8],
-)
-    requires { ⌜ Columns v m (now points) (now product) × Columns v m (now points) (now divs) × (v ≤ length (now carry)) × (0 < m) × Inverses gf256 (now table) ⌝ }
+fn factor(product: &mut [u8], divs: &mut [u8], carry: &mut [u8], v: usize, m: usize, points: &[u8])
+    requires { ⌜ Columns v m (now points) (now product) × Columns v m (now points) (now divs) × (v ≤ length (now carry)) × (0 < m) ⌝ }
     ensures { λ _. ⌜ Factored gf256 v m (now (points .entry)) (now (product .exit)) (now (divs .exit)) ⌝ }
 {
     locator(product, carry, v, m, points);
-    divisors(divs, v, m, points, table);
+    divisors(divs, v, m, points);
 }
 
 // The first n rows of more than one, with room for what they go by.
@@ -387,14 +379,13 @@ fn solve_many(
     points: &[u8],
     coefs: &mut [u8],
     row: &mut [u8],
-    table: &[u8],
 )
-    requires { ⌜ Systems w v run turns m (now found) (now sums) (now coefs) (now row) × (m * v ≤ length (now points)) × Inverses gf256 (now table) × (n ≤ m) × (m * v ≤ room) × (0 < m) ⌝ }
+    requires { ⌜ Systems w v run turns m (now found) (now sums) (now coefs) (now row) × (m * v ≤ length (now points)) × (n ≤ m) × (m * v ≤ room) × (0 < m) ⌝ }
     ensures { λ _. ⌜ Solved gf256 w v run m (now (sums .entry)) (now (points .entry)) (now (found .exit)) n ⌝ }
 {
     let mut product = [0u8; ROOM];
     let mut divs = [0u8; ROOM];
-    factor(&mut product, &mut divs, row, v, m, points, table);
+    factor(&mut product, &mut divs, row, v, m, points);
     solve_rows(
         found,
         w,
@@ -413,7 +404,7 @@ fn solve_many(
 }
 
 // The first n unknowns of every system, a row for each: those whose checks make up for the sums, so that the right sides are less these. `coefs` is room for a
-// row of columns for each point, `row` for a row of places, and `table` has the inverses of all symbols.
+// row of columns for each point, and `row` for a row of places.
 pub fn solve_first(
     found: &mut [u8],
     w: usize,
@@ -426,9 +417,8 @@ pub fn solve_first(
     points: &[u8],
     coefs: &mut [u8],
     row: &mut [u8],
-    table: &[u8],
 )
-    requires { ⌜ Systems w v run turns m (now found) (now sums) (now coefs) (now row) × (m * v ≤ length (now points)) × Inverses gf256 (now table) × (n ≤ m) × (m * v ≤ room) ⌝ }
+    requires { ⌜ Systems w v run turns m (now found) (now sums) (now coefs) (now row) × (m * v ≤ length (now points)) × (n ≤ m) × (m * v ≤ room) ⌝ }
     ensures { λ _. ⌜ Solved gf256 w v run m (now (sums .entry)) (now (points .entry)) (now (found .exit)) n ⌝ }
 {
     if n == 0 {
@@ -438,20 +428,7 @@ pub fn solve_first(
         negate(found, 0, w, sums, 0);
         return;
     }
-    solve_many(
-        found,
-        w,
-        v,
-        run,
-        turns,
-        m,
-        n,
-        sums,
-        points,
-        coefs,
-        row,
-        table,
-    );
+    solve_many(found, w, v, run, turns, m, n, sums, points, coefs, row);
 }
 
 // All of them.
@@ -466,23 +443,9 @@ pub fn solve(
     points: &[u8],
     coefs: &mut [u8],
     row: &mut [u8],
-    table: &[u8],
 )
-    requires { ⌜ Systems w v run turns m (now found) (now sums) (now coefs) (now row) × (m * v ≤ length (now points)) × Inverses gf256 (now table) × (m * v ≤ room) ⌝ }
+    requires { ⌜ Systems w v run turns m (now found) (now sums) (now coefs) (now row) × (m * v ≤ length (now points)) × (m * v ≤ room) ⌝ }
     ensures { λ _. ⌜ Solved gf256 w v run m (now (sums .entry)) (now (points .entry)) (now (found .exit)) m ⌝ }
 {
-    solve_first(
-        found,
-        w,
-        v,
-        run,
-        turns,
-        m,
-        m,
-        sums,
-        points,
-        coefs,
-        row,
-        table,
-    );
+    solve_first(found, w, v, run, turns, m, m, sums, points, coefs, row);
 }

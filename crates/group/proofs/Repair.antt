@@ -107,9 +107,9 @@ module _ {A : Type 0} {f : Field A} (W : Working f) where
     pub repaired-none : (old : List ℕ) → BlockRepaired f l h lost host w first sums 0 old old
     repaired-none old = record { long = refl; done = λ i b j hi hb. absurd (not-suc-le-zero hb); small = λ i b j hi hb. absurd (not-suc-le-zero hb); kept = λ i y hy out. refl }
 
-    pub repaired-more : (table : List ℕ) (a : ℕ) (old mid new : List ℕ) → Repairing f l h lost host w first sums table → a < digits l → BlockRepaired f l h lost host w first sums a old mid →
+    pub repaired-more : (a : ℕ) (old mid new : List ℕ) → Repairing f l h lost host w first sums → a < digits l → BlockRepaired f l h lost host w first sums a old mid →
         DigitRepaired f l h lost host w first sums a mid new → BlockRepaired f l h lost host w first sums (a + 1) old new
-    repaired-more table a old mid new q ha g d = record {
+    repaired-more a old mid new q ha g d = record {
       long = d .long ∙ g .long;
       done = λ i b j hi hb hj. go i b j hi hb hj (ℕ-discrete b a);
       small = λ i b j hi hb hj. low i b j hi hb hj (ℕ-discrete b a);

@@ -11,7 +11,7 @@ use Rattle.algebra.specs.Layers.{layerOf}
 use Rattle.algebra.specs.Field.{Ops}
 use Rattle.algebra.specs.Coding.{Coding}
 use Rattle.algebra.specs.Shape.{Field}
-use Rattle.kernel.specs.Inner.{cell, Inverses}
+use Rattle.kernel.specs.Inner.{cell}
 use Rattle.layout.specs.declared.Layout.{Layout}
 use Rattle.layout.specs.Layout.{digits, layers, Cabinet}
 use Rattle.codeword.specs.Codeword.{shapeOf, symbolAt}
@@ -134,9 +134,8 @@ module _ {A : Type 0} (f : Field A) where
     pub kept : (i y : ℕ) → y < layers l → ((b j : ℕ) → b < digits l → j < w → ¬ (y ≡ layerOf (digits l) h (first + j) b)) →
         getD new (i * layers l + y) 0 ≡ getD old (i * layers l + y) 0
 
-  -- what is told of a block: the lost trays, its groups, the host's sums and the inverses of all symbols
-  pub record Repairing (l : Layout) (h : ℕ) (lost host : List ℕ) (w first : ℕ) (sums table : List ℕ) : Type 0 where
+  -- what is told of a block: the lost trays, its groups and the host's sums
+  pub record Repairing (l : Layout) (h : ℕ) (lost host : List ℕ) (w first : ℕ) (sums : List ℕ) : Type 0 where
     pub losing : Losing l h lost host
     pub block : Groups l w first
     pub sums-long : length lost * digits l * w ≤ length sums
-    pub inverses : (Inverses f) table

@@ -204,10 +204,9 @@ fn repair_digit(
     coefs: &mut [u8],
     row: &mut [u8],
     cur: &mut [u8],
-    table: &[u8],
     spare: &mut [u8],
 )
-    requires { ⌜ Repairing gf256 l h (now lost) (now host) w first (now sums) (now table) × (a < digits l)
+    requires { ⌜ Repairing gf256 l h (now lost) (now host) w first (now sums) × (a < digits l)
         × Workspace (length (now lost)) w (now rests) (now found) (now places) (now coefs) (now row) (now cur) × LostPlaces gf256 l (now lost) (now places)
         × (length (now spare) ≡ length (now lost) * layers l) ⌝ }
     ensures { λ _. ⌜ DigitRepaired gf256 l h (now (lost .entry)) (now (host .entry)) w first (now (sums .entry)) a (now (spare .entry)) (now (spare .exit)) ⌝ }
@@ -215,12 +214,11 @@ fn repair_digit(
     let e = lost.len();
     let r = runs_of(l, h, w, first, a);
     fill_rests(rests, l, h, lost, w, a, r, host, sums, cur, row);
-    columns::solve(found, w, 1, w, 1, e, rests, places, coefs, row, table);
+    columns::solve(found, w, 1, w, 1, e, rests, places, coefs, row);
     put_rows(spare, l, w, e, r, found);
 }
 
-// Repairs the lost trays' layers in a block of groups, by the host's sums of the block. The other buffers are room to work in, and `table` has the inverses
-// of all symbols.
+// Repairs the lost trays' layers in a block of groups, by the host's sums of the block. The other buffers are room to work in.
 pub fn repair_block(
     l: Layout,
     h: u32,
@@ -235,10 +233,9 @@ pub fn repair_block(
     coefs: &mut [u8],
     row: &mut [u8],
     cur: &mut [u8],
-    table: &[u8],
     spare: &mut [u8],
 )
-    requires { ⌜ Repairing gf256 l h (now lost) (now host) w first (now sums) (now table)
+    requires { ⌜ Repairing gf256 l h (now lost) (now host) w first (now sums)
         × Workspace (length (now lost)) w (now rests) (now found) (now places) (now coefs) (now row) (now cur) × (length (now spare) ≡ length (now lost) * layers l) ⌝ }
     ensures { λ _. ⌜ BlockRepaired gf256 l h (now (lost .entry)) (now (host .entry)) w first (now (sums .entry)) (digits l) (now (spare .entry)) (now (spare .exit)) ⌝ }
 {
@@ -261,7 +258,6 @@ pub fn repair_block(
             coefs,
             row,
             cur,
-            table,
             spare,
         );
         a += 1;

@@ -205,10 +205,9 @@ fn repair_digit(
     coefs: &mut [u16],
     row: &mut [u16],
     cur: &mut [u16],
-    table: &[u16],
     spare: &mut [u16],
 )
-    requires { ⌜ Repairing gf257 l h (now lost) (now host) w first (now sums) (now table) × (a < digits l)
+    requires { ⌜ Repairing gf257 l h (now lost) (now host) w first (now sums) × (a < digits l)
         × Workspace (length (now lost)) w (now rests) (now found) (now places) (now coefs) (now row) (now cur) × LostPlaces gf257 l (now lost) (now places)
         × (length (now spare) ≡ length (now lost) * layers l) ⌝ }
     ensures { λ _. ⌜ DigitRepaired gf257 l h (now (lost .entry)) (now (host .entry)) w first (now (sums .entry)) a (now (spare .entry)) (now (spare .exit)) ⌝ }
@@ -216,12 +215,11 @@ fn repair_digit(
     let e = lost.len();
     let r = runs_of(l, h, w, first, a);
     fill_rests(rests, l, h, lost, w, a, r, host, sums, cur, row);
-    columns257::solve(found, w, 1, w, 1, e, rests, places, coefs, row, table);
+    columns257::solve(found, w, 1, w, 1, e, rests, places, coefs, row);
     put_rows(spare, l, w, e, r, found);
 }
 
-// Repairs the lost trays' layers in a block of groups, by the host's sums of the block. The other buffers are room to work in, and `table` has the inverses
-// of all symbols.
+// Repairs the lost trays' layers in a block of groups, by the host's sums of the block. The other buffers are room to work in.
 pub fn repair_block(
     l: Layout,
     h: u32,
@@ -236,10 +234,9 @@ pub fn repair_block(
     coefs: &mut [u16],
     row: &mut [u16],
     cur: &mut [u16],
-    table: &[u16],
     spare: &mut [u16],
 )
-    requires { ⌜ Repairing gf257 l h (now lost) (now host) w first (now sums) (now table)
+    requires { ⌜ Repairing gf257 l h (now lost) (now host) w first (now sums)
         × Workspace (length (now lost)) w (now rests) (now found) (now places) (now coefs) (now row) (now cur) × (length (now spare) ≡ length (now lost) * layers l) ⌝ }
     ensures { λ _. ⌜ BlockRepaired gf257 l h (now (lost .entry)) (now (host .entry)) w first (now (sums .entry)) (digits l) (now (spare .entry)) (now (spare .exit)) ⌝ }
 {
@@ -262,7 +259,6 @@ pub fn repair_block(
             coefs,
             row,
             cur,
-            table,
             spare,
         );
         a += 1;

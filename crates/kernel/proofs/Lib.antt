@@ -2,6 +2,5 @@ pub mod Runs
 pub mod Rows
 pub mod Spaced
 pub mod Standing
-pub mod Inverse
 pub mod Periods
 pub mod Apart

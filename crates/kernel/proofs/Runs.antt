@@ -17,7 +17,7 @@ use Rattle.algebra.specs.Field.{Ops}
 use Rattle.algebra.specs.Coding.{Coding}
 use Rattle.algebra.specs.Plain.{plus, minus, times, reduced, Working}
 use Rattle.algebra.proofs.Plain.{elem-reduced, reduced-below, elem-zero, elem-nil}
-use Rattle.kernel.specs.Inner.{Run, filled, copied, sampled, added, addedProduct, addedMultiple, shifted, parted, lookedUp, allZero}
+use Rattle.kernel.specs.Inner.{Run, filled, copied, sampled, added, addedProduct, addedMultiple, shifted, parted, allZero}
 
 pub run-none : (f : ℕ → ℕ) (was : List ℕ) (to : ℕ) → Run f was was to 0
 run-none f was to = record { long = refl; done = λ j h. absurd (not-suc-le-zero h); low = λ i h. refl; high = λ i h. refl }
@@ -130,12 +130,6 @@ module _ {A : Type 0} (f : Field A) where
   unfolding parted
   part-more was is src to a b j len p q r h l e d =
       run-more (parted f was to src a b) was is to j q r (omega arith) (d ∙ ap₂ (times f) (r .high (to + j) (omega arith)) e)
-
-  pub look-more : (was is table : List ℕ) (to j len p : ℕ) → Run (lookedUp f was to table) was is to j → j < len → to + len ≤ length was →
-      p ≡ reduced f (getD is (to + j) 0) → Run (lookedUp f was to table) was (set is (to + j) (getD table p 0)) to (j + 1)
-  unfolding lookedUp
-  look-more was is table to j len p r h l e =
-      run-more (lookedUp f was to table) was is to j _ r (omega arith) (ap (λ (x : ℕ). getD table x 0) (e ∙ ap (reduced f) (r .high (to + j) (omega arith))))
 
 -- the test for zeros
 module _ {A : Type 0} (f : Field A) (xs : List ℕ) (len : ℕ) where

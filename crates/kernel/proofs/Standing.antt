@@ -11,7 +11,7 @@ use lib.Seq.{getD-set-same, getD-set-other}
 use Rattle.algebra.specs.Field.{Ops}
 use Rattle.algebra.specs.Coding.{Coding}
 use Rattle.algebra.specs.Shape.{Field}
-use Rattle.kernel.specs.Inner.{Run, copied, Standing, stepped, accrued}
+use Rattle.kernel.specs.Inner.{Run, copied, Standing, stepped, accrued, inverted}
 
 module _ {A : Type 0} (f : Field A) where
   open Field f using (ops)
@@ -58,3 +58,10 @@ module _ {A : Type 0} (f : Field A) where
   step-more cw ci by j len p s h l e =
       rw (sym (ap (λ (i : ℕ). set ci i p) (zero-add j)))
       (standing-more (stepped f cw by) cw ci 0 j p s (omega arith) (e ∙ ap (λ (x : ℕ). ops .mul (elem x) (elem (getD by j 0))) (s .high j (omega arith))))
+
+  -- the inverses
+  pub invert-more : (was is : List ℕ) (to j len p : ℕ) → Standing f (inverted f was to) was is to j → j < len → to + len ≤ length was →
+      elem p ≡ ops .inv (elem (getD is (to + j) 0)) → Standing f (inverted f was to) was (set is (to + j) p) to (j + 1)
+  unfolding inverted
+  invert-more was is to j len p r h l e =
+      standing-more (inverted f was to) was is to j p r (omega arith) (e ∙ ap (λ (x : ℕ). ops .inv (elem x)) (r .high (to + j) (omega arith)))

@@ -9,9 +9,9 @@ use lib.ListN.{length, getD}
 use Rattle.lists.specs.Lists.{all}
 use Rattle.algebra.specs.Field.{Ops}
 use Rattle.algebra.specs.Coding.{Coding, InRange}
-use Rattle.algebra.specs.Sum.{sum, pow}
+use Rattle.algebra.specs.Sum.{sum}
 use Rattle.algebra.specs.Shape.{Field}
-use Rattle.algebra.specs.Plain.{plus, minus, times, reduced, rootPower}
+use Rattle.algebra.specs.Plain.{plus, minus, times, reduced}
 
 -- the buffer is holds f 0 .. f (len - 1) from the place to on, and elsewhere what the buffer was held
 pub record Run (f : ℕ → ℕ) (was is : List ℕ) (to len : ℕ) : Type 0 where
@@ -50,7 +50,7 @@ unfoldable pub sampled : List ℕ → ℕ → ℕ → ℕ
 sampled src step j = getD src (j * step) 0
 
 module _ {A : Type 0} (f : Field A) where
-  open Field f using (ops, root, order)
+  open Field f using (ops)
   open Coding (f .coding) using (elem, val, size)
 
   -- number c of row k, in rows of w
@@ -118,20 +118,9 @@ module _ {A : Type 0} (f : Field A) where
   unfoldable pub parted : List ℕ → ℕ → List ℕ → ℕ → ℕ → ℕ → ℕ
   parted out to src a b j = times f (getD out (to + j) 0) (minus f (getD src (a + j) 0) (getD src (b + j) 0))
 
-  unfoldable pub lookedUp : List ℕ → ℕ → List ℕ → ℕ → ℕ
-  lookedUp out to table j = getD table (reduced f (getD out (to + j) 0)) 0
+  unfoldable pub inverted : List ℕ → ℕ → ℕ → A
+  inverted out to j = ops .inv (elem (getD out (to + j) 0))
 
   -- whether the first n numbers of a list stand for zero
   unfoldable pub allZero : List ℕ → ℕ → Bool
   allZero xs n = all (λ j. eqb (reduced f (getD xs j 0)) 0) n
-
-  -- the inverses of all symbols
-  pub record Inverses (table : List ℕ) : Type 0 where
-    pub long : length table ≡ size
-    pub at : (x : ℕ) → x < size → elem (getD table x 0) ≡ ops .inv (elem x)
-
-  -- those of zero and of the first i powers of the root
-  pub record Inverted (table : List ℕ) (i : ℕ) : Type 0 where
-    pub long : length table ≡ size
-    pub none : getD table 0 0 ≡ 0
-    pub at : (m : ℕ) → m < i → ops .mul (elem (getD table (rootPower f m) 0)) (pow ops root m) ≡ ops .one

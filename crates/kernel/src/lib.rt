@@ -1,8 +1,8 @@
 // Kernels: loops over a run of symbols, one loop each with one step a symbol and no branch or table, so that the compiler does many symbols at a time.
-// Each promises what its run holds afterwards and that every other symbol of the buffer is as it was. Beside them the table of inverses with its look-up,
-// and the test for zeros, which stops early.
-use symbol::plain::ORDER;
-use symbol::plain::all_powers;
+// Each promises what its run holds afterwards and that every other symbol of the buffer is as it was. Beside them the inverses, which go by the symbol's
+// tables, and the test for zeros, which stops early.
+use symbol::Symbol;
+use symbol::logs::all_logs;
 use symbol::plain::difference;
 use symbol::plain::gather;
 use symbol::plain::index;
@@ -12,14 +12,15 @@ use symbol::plain::product;
 use symbol::plain::settle;
 use symbol::plain::sum;
 use symbol::plain::sum_product;
+use symbol::powers::all_powers;
 ghost use mathlib.Core.Path.{_≡_};
 ghost use Prim.Native.Nat.{_+_, _*_, _%_, _<_, _≤_};
 ghost use lib.ListN.{length, getD};
 ghost use Rattle.algebra.specs.Field.{Ops};
 ghost use Rattle.algebra.specs.Coding.{InRange};
 ghost use Rattle.symbol.specs.Elem.{gf256};
-ghost use Rattle.kernel.specs.Inner.{Run, Standing, filled, copied, repeated, added, addedProduct, addedMultiple, stepped, accrued, shifted, parted, lookedUp, sampled};
-ghost use Rattle.kernel.specs.Inner.{Spaced, addedSpaced, Spacing, apart, Grid, grid, Gridding, addedGrid, Parts, allZero, Inverses};
+ghost use Rattle.kernel.specs.Inner.{Run, Standing, filled, copied, repeated, added, addedProduct, addedMultiple, stepped, accrued, shifted, parted, inverted, sampled};
+ghost use Rattle.kernel.specs.Inner.{Spaced, addedSpaced, Spacing, apart, Grid, grid, Gridding, addedGrid, Parts, allZero};
 
 // The most symbols of a block.
 pub const BLOCK: usize = 16;
@@ -350,14 +351,16 @@ pub fn part(out: &mut [u8], to: usize, len: usize, src: &[u8], a: usize, b: usiz
     }
 }
 
-// What a table of all symbols has for each symbol of a run.
-pub fn look_up(out: &mut [u8], to: usize, len: usize, table: &[u8])
-    requires { ⌜ (to + len ≤ length (now out)) × (length (now table) ≡ gf256 .coding .size) ⌝ }
-    ensures { λ _. ⌜ Run (lookedUp gf256 (now (out .entry)) to (now (table .entry))) (now (out .entry)) (now (out .exit)) to len ⌝ }
+// The inverses of the symbols of a run; of zero, zero. The symbol's two tables are copied once for all of them.
+pub fn invert(out: &mut [u8], to: usize, len: usize)
+    requires { ⌜ to + len ≤ length (now out) ⌝ }
+    ensures { λ _. ⌜ Standing gf256 (inverted gf256 (now (out .entry)) to) (now (out .entry)) (now (out .exit)) to len ⌝ }
 {
+    let logs = all_logs();
+    let powers = all_powers();
     let mut j = 0usize;
     while j < len {
-        out[to + j] = table[index(out[to + j])];
+        out[to + j] = Symbol(out[to + j]).inverse_by(&logs, &powers).0;
         j += 1;
     }
 }
@@ -375,18 +378,4 @@ pub fn all_zero(xs: &[u8], len: usize) -> bool
         j += 1;
     }
     true
-}
-
-// A table of the inverses of all symbols; of zero, zero.
-pub fn inverses(table: &mut [u8])
-    requires { ⌜ length (now table) ≡ gf256 .coding .size ⌝ }
-    ensures { λ _. ⌜ Inverses gf256 (now (table .exit)) ⌝ }
-{
-    let powers = all_powers();
-    table[0] = 0;
-    let mut i = 0usize;
-    while i < ORDER {
-        table[index(powers[i])] = powers[(ORDER - i) % ORDER];
-        i += 1;
-    }
 }

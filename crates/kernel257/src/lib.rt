@@ -1,9 +1,9 @@
 // Made by tools/twin.py from crates/kernel/src/lib.rt.
 // Kernels: loops over a run of symbols, one loop each with one step a symbol and no branch or table, so that the compiler does many symbols at a time.
-// Each promises what its run holds afterwards and that every other symbol of the buffer is as it was. Beside them the table of inverses with its look-up,
-// and the test for zeros, which stops early.
-use symbol257::plain::ORDER;
-use symbol257::plain::all_powers;
+// Each promises what its run holds afterwards and that every other symbol of the buffer is as it was. Beside them the inverses, which go by the symbol's
+// tables, and the test for zeros, which stops early.
+use symbol257::Symbol;
+use symbol257::logs::all_logs;
 use symbol257::plain::difference;
 use symbol257::plain::gather;
 use symbol257::plain::index;
@@ -13,14 +13,15 @@ use symbol257::plain::product;
 use symbol257::plain::settle;
 use symbol257::plain::sum;
 use symbol257::plain::sum_product;
+use symbol257::powers::all_powers;
 ghost use mathlib.Core.Path.{_≡_};
 ghost use Prim.Native.Nat.{_+_, _*_, _%_, _<_, _≤_};
 ghost use lib.ListN.{length, getD};
 ghost use Rattle.algebra.specs.Field.{Ops};
 ghost use Rattle.algebra.specs.Coding.{InRange};
 ghost use Rattle.symbol257.specs.Elem.{gf257};
-ghost use Rattle.kernel.specs.Inner.{Run, Standing, filled, copied, repeated, added, addedProduct, addedMultiple, stepped, accrued, shifted, parted, lookedUp, sampled};
-ghost use Rattle.kernel.specs.Inner.{Spaced, addedSpaced, Spacing, apart, Grid, grid, Gridding, addedGrid, Parts, allZero, Inverses};
+ghost use Rattle.kernel.specs.Inner.{Run, Standing, filled, copied, repeated, added, addedProduct, addedMultiple, stepped, accrued, shifted, parted, inverted, sampled};
+ghost use Rattle.kernel.specs.Inner.{Spaced, addedSpaced, Spacing, apart, Grid, grid, Gridding, addedGrid, Parts, allZero};
 
 // The most symbols of a block.
 pub const BLOCK: usize = 16;
@@ -351,14 +352,16 @@ pub fn part(out: &mut [u16], to: usize, len: usize, src: &[u16], a: usize, b: us
     }
 }
 
-// What a table of all symbols has for each symbol of a run.
-pub fn look_up(out: &mut [u16], to: usize, len: usize, table: &[u16])
-    requires { ⌜ (to + len ≤ length (now out)) × (length (now table) ≡ gf257 .coding .size) ⌝ }
-    ensures { λ _. ⌜ Run (lookedUp gf257 (now (out .entry)) to (now (table .entry))) (now (out .entry)) (now (out .exit)) to len ⌝ }
+// The inverses of the symbols of a run; of zero, zero. The symbol's two tables are copied once for all of them.
+pub fn invert(out: &mut [u16], to: usize, len: usize)
+    requires { ⌜ to + len ≤ length (now out) ⌝ }
+    ensures { λ _. ⌜ Standing gf257 (inverted gf257 (now (out .entry)) to) (now (out .entry)) (now (out .exit)) to len ⌝ }
 {
+    let logs = all_logs();
+    let powers = all_powers();
     let mut j = 0usize;
     while j < len {
-        out[to + j] = table[index(out[to + j])];
+        out[to + j] = Symbol(out[to + j]).inverse_by(&logs, &powers).0;
         j += 1;
     }
 }
@@ -376,18 +379,4 @@ pub fn all_zero(xs: &[u16], len: usize) -> bool
         j += 1;
     }
     true
-}
-
-// A table of the inverses of all symbols; of zero, zero.
-pub fn inverses(table: &mut [u16])
-    requires { ⌜ length (now table) ≡ gf257 .coding .size ⌝ }
-    ensures { λ _. ⌜ Inverses gf257 (now (table .exit)) ⌝ }
-{
-    let powers = all_powers();
-    table[0] = 0;
-    let mut i = 0usize;
-    while i < ORDER {
-        table[index(powers[i])] = powers[(ORDER - i) % ORDER];
-        i += 1;
-    }
 }

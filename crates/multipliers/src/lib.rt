@@ -1,11 +1,9 @@
 // The multipliers of a right card (document 02, W13), for either field: by them the symbols that d helpers send for a group give the host's rack sums. They are found
 // by crate columns, a column for each helper, whose right sides are less the powers of its point. Promises the multipliers of crate card.
 use layout::Layout;
-use symbol::plain::SIZE;
 ghost use Prim.Native.Nat.{_≤_};
 ghost use lib.ListN.{length};
 ghost use Rattle.symbol.specs.Elem.{gf256};
-ghost use Rattle.kernel.specs.Inner.{Inverses};
 ghost use Rattle.blocks.specs.Inner.{roomLimit};
 ghost use Rattle.multipliers.specs.Inner.{Grouped, Space, Rooms, HelperPoints, PowerSides, Multipliers};
 
@@ -45,7 +43,7 @@ fn power_sides(
     syndrome::add_terms(sides, d, n, cur, row);
 }
 
-// The multipliers, by rooms to work in and a table of the inverses of all symbols.
+// The multipliers, by rooms to work in.
 fn solve_sides(
     found: &mut [u8],
     l: Layout,
@@ -57,9 +55,8 @@ fn solve_sides(
     coefs: &mut [u8],
     row: &mut [u8],
     cur: &mut [u8],
-    table: &[u8],
 )
-    requires { ⌜ Grouped l h p (now helpers) × Rooms (now found) (now sides) (now points) (now coefs) (now row) (now cur) × Inverses gf256 (now table) ⌝ }
+    requires { ⌜ Grouped l h p (now helpers) × Rooms (now found) (now sides) (now points) (now coefs) (now row) (now cur) ⌝ }
     ensures { λ _. ⌜ Multipliers gf256 l h p (now (helpers .entry)) (now (found .exit)) ⌝ }
 {
     let d = l.helpers as usize;
@@ -67,7 +64,7 @@ fn solve_sides(
     let s = layout::digit_count(l) as usize;
     sums::unknown_points(points, l, h, 1, p as usize, helpers, 1, 1, row);
     power_sides(sides, l, h, p, helpers, row, cur);
-    columns::solve_first(found, d, 1, d, 1, n, s, sides, points, coefs, row, table);
+    columns::solve_first(found, d, 1, d, 1, n, s, sides, points, coefs, row);
 }
 
 // The multipliers, first in a room, as a card has them: d, helpers rising, for each of the s sums, digit 0 first.
@@ -80,8 +77,6 @@ pub fn right_multipliers(found: &mut [u8], l: Layout, h: u32, p: u32, helpers: &
     let mut coefs = [0u8; blocks::ROOM];
     let mut row = [0u8; blocks::BLOCK];
     let mut cur = [0u8; blocks::BLOCK];
-    let mut table = [0u8; SIZE];
-    kernel::inverses(&mut table);
     solve_sides(
         found,
         l,
@@ -93,6 +88,5 @@ pub fn right_multipliers(found: &mut [u8], l: Layout, h: u32, p: u32, helpers: &
         &mut coefs,
         &mut row,
         &mut cur,
-        &table,
     );
 }

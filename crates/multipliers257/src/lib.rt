@@ -2,11 +2,9 @@
 // The multipliers of a right card (document 02, W13), for either field: by them the symbols that d helpers send for a group give the host's rack sums. They are found
 // by crate columns, a column for each helper, whose right sides are less the powers of its point. Promises the multipliers of crate card.
 use layout::Layout;
-use symbol257::plain::SIZE;
 ghost use Prim.Native.Nat.{_≤_};
 ghost use lib.ListN.{length};
 ghost use Rattle.symbol257.specs.Elem.{gf257};
-ghost use Rattle.kernel.specs.Inner.{Inverses};
 ghost use Rattle.blocks.specs.Inner.{roomLimit};
 ghost use Rattle.multipliers.specs.Inner.{Grouped, Space, Rooms, HelperPoints, PowerSides, Multipliers};
 
@@ -46,7 +44,7 @@ fn power_sides(
     syndrome257::add_terms(sides, d, n, cur, row);
 }
 
-// The multipliers, by rooms to work in and a table of the inverses of all symbols.
+// The multipliers, by rooms to work in.
 fn solve_sides(
     found: &mut [u16],
     l: Layout,
@@ -58,9 +56,8 @@ fn solve_sides(
     coefs: &mut [u16],
     row: &mut [u16],
     cur: &mut [u16],
-    table: &[u16],
 )
-    requires { ⌜ Grouped l h p (now helpers) × Rooms (now found) (now sides) (now points) (now coefs) (now row) (now cur) × Inverses gf257 (now table) ⌝ }
+    requires { ⌜ Grouped l h p (now helpers) × Rooms (now found) (now sides) (now points) (now coefs) (now row) (now cur) ⌝ }
     ensures { λ _. ⌜ Multipliers gf257 l h p (now (helpers .entry)) (now (found .exit)) ⌝ }
 {
     let d = l.helpers as usize;
@@ -68,7 +65,7 @@ fn solve_sides(
     let s = layout::digit_count(l) as usize;
     sums257::unknown_points(points, l, h, 1, p as usize, helpers, 1, 1, row);
     power_sides(sides, l, h, p, helpers, row, cur);
-    columns257::solve_first(found, d, 1, d, 1, n, s, sides, points, coefs, row, table);
+    columns257::solve_first(found, d, 1, d, 1, n, s, sides, points, coefs, row);
 }
 
 // The multipliers, first in a room, as a card has them: d, helpers rising, for each of the s sums, digit 0 first.
@@ -81,8 +78,6 @@ pub fn right_multipliers(found: &mut [u16], l: Layout, h: u32, p: u32, helpers: 
     let mut coefs = [0u16; blocks::ROOM];
     let mut row = [0u16; blocks::BLOCK];
     let mut cur = [0u16; blocks::BLOCK];
-    let mut table = [0u16; SIZE];
-    kernel257::inverses(&mut table);
     solve_sides(
         found,
         l,
@@ -94,6 +89,5 @@ pub fn right_multipliers(found: &mut [u16], l: Layout, h: u32, p: u32, helpers: 
         &mut coefs,
         &mut row,
         &mut cur,
-        &table,
     );
 }

@@ -9,7 +9,6 @@ use mir.Val.{Fits}
 use mir.Syntax.{w32}
 use lib.ListN.{length}
 use Rattle.algebra.specs.Shape.{Field}
-use Rattle.kernel.specs.Inner.{Inverses}
 use Rattle.layout.specs.declared.Layout.{Layout}
 use Rattle.layout.specs.Layout.{digits, layers, groups, parityRacks, trayLimit, Cabinet}
 use Rattle.layout.proofs.Facts.{bounds, rack-in}
@@ -98,9 +97,9 @@ module _ {n : ℕ} (N : ℕ) (l : Layout) (lost helpers shares host : List ℕ) 
         cur-long = le-trans (fit .small) (r .cur-long);
       }
 
-  pub repairing-of : {A : Type 0} (f : Field A) (sums′ table : List ℕ) → length sums′ ≡ length sums → Inverses f table → Repairing f l (firstLost l lost / l .size) lost host w first sums′ table
+  pub repairing-of : {A : Type 0} (f : Field A) (sums′ : List ℕ) → length sums′ ≡ length sums → Repairing f l (firstLost l lost / l .size) lost host w first sums′
   unfolding h
-  repairing-of f sums′ table e t = record {
+  repairing-of f sums′ e = record {
     losing = record {
       adm = p .adm .admissible .cabinet;
       host-in = host-in;
@@ -111,7 +110,6 @@ module _ {n : ℕ} (N : ℕ) (l : Layout) (lost helpers shares host : List ℕ) 
     };
     block = g;
     sums-long = rw e (le-trans (fit .sums) (r .sums-long));
-    inverses = t;
   }
 
   pub space-of : (sides′ found′ points′ coefs′ row′ cur′ : List ℕ) → length sides′ ≡ length sides → length found′ ≡ length found → length points′ ≡ length points →

@@ -2,11 +2,9 @@
 // go through it in runs (crates sums and group). Promises that the layers of these groups in the spare are as the rule fixes them, and every other symbol as
 // it was.
 use layout::Layout;
-use symbol::plain::SIZE;
 ghost use Prim.Native.Nat.{_+_, _%_, _≤_};
 ghost use lib.ListN.{length};
 ghost use Rattle.symbol.specs.Elem.{gf256};
-ghost use Rattle.kernel.specs.Inner.{Inverses};
 ghost use Rattle.layout.specs.Layout.{Cabinet};
 ghost use Rattle.rule.specs.Lost.{Piece};
 ghost use Rattle.sums.specs.Inner.{Groups};
@@ -42,11 +40,10 @@ fn repair_block(
     coefs: &mut [u8],
     row: &mut [u8],
     cur: &mut [u8],
-    table: &[u8],
 )
     requires { ⌜ Piecing (gf256 .order) l (now lost) (now helpers) (now shares) (now host) first w (now spare) × Groups l w first
         × Fitting l (length (now lost)) w (length (now sums))
-        × Rooms (length (now sums)) (now sums) (now sides) (now found) (now points) (now coefs) (now row) (now cur) × Inverses gf256 (now table) ⌝ }
+        × Rooms (length (now sums)) (now sums) (now sides) (now found) (now points) (now coefs) (now row) (now cur) ⌝ }
     ensures { λ _. ⌜ Piece gf256 l (now (lost .entry)) (now (helpers .entry)) (now (shares .entry)) (now (host .entry)) first w (now (spare .entry)) (now (spare .exit)) ⌝ }
 {
     let h = lost[0] / l.size;
@@ -66,7 +63,6 @@ fn repair_block(
         coefs,
         row,
         cur,
-        table,
     );
     group::repair_block(
         l,
@@ -82,7 +78,6 @@ fn repair_block(
         coefs,
         row,
         cur,
-        table,
         spare,
     );
 }
@@ -104,11 +99,10 @@ fn repair_blocks(
     coefs: &mut [u8],
     row: &mut [u8],
     cur: &mut [u8],
-    table: &[u8],
 )
     requires { ⌜ Piecing (gf256 .order) l (now lost) (now helpers) (now shares) (now host) first count (now spare)
         × Spacious l (length (now lost)) count (length (now sums))
-        × Rooms (length (now sums)) (now sums) (now sides) (now found) (now points) (now coefs) (now row) (now cur) × Inverses gf256 (now table) ⌝ }
+        × Rooms (length (now sums)) (now sums) (now sides) (now found) (now points) (now coefs) (now row) (now cur) ⌝ }
     ensures { λ _. ⌜ Piece gf256 l (now (lost .entry)) (now (helpers .entry)) (now (shares .entry)) (now (host .entry)) first count (now (spare .entry)) (now (spare .exit)) ⌝ }
 {
     let rows = row_count(l, lost.len() as u32);
@@ -131,7 +125,6 @@ fn repair_blocks(
             coefs,
             row,
             cur,
-            table,
         );
         k += w;
     }
@@ -158,8 +151,6 @@ fn repair_small(
     let mut coefs = [0u8; blocks::BLOCK];
     let mut row = [0u8; blocks::BLOCK];
     let mut cur = [0u8; blocks::BLOCK];
-    let mut table = [0u8; SIZE];
-    kernel::inverses(&mut table);
     repair_blocks(
         l,
         lost,
@@ -176,7 +167,6 @@ fn repair_small(
         &mut coefs,
         &mut row,
         &mut cur,
-        &table,
     );
 }
 
@@ -201,8 +191,6 @@ fn repair_large(
     let mut coefs = [0u8; blocks::ROOM];
     let mut row = [0u8; blocks::BLOCK];
     let mut cur = [0u8; blocks::BLOCK];
-    let mut table = [0u8; SIZE];
-    kernel::inverses(&mut table);
     repair_blocks(
         l,
         lost,
@@ -219,7 +207,6 @@ fn repair_large(
         &mut coefs,
         &mut row,
         &mut cur,
-        &table,
     );
 }
 

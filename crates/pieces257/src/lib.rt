@@ -3,11 +3,9 @@
 // go through it in runs (crates sums and group). Promises that the layers of these groups in the spare are as the rule fixes them, and every other symbol as
 // it was.
 use layout::Layout;
-use symbol257::plain::SIZE;
 ghost use Prim.Native.Nat.{_+_, _%_, _≤_};
 ghost use lib.ListN.{length};
 ghost use Rattle.symbol257.specs.Elem.{gf257};
-ghost use Rattle.kernel.specs.Inner.{Inverses};
 ghost use Rattle.layout.specs.Layout.{Cabinet};
 ghost use Rattle.rule.specs.Lost.{Piece};
 ghost use Rattle.sums.specs.Inner.{Groups};
@@ -43,11 +41,10 @@ fn repair_block(
     coefs: &mut [u16],
     row: &mut [u16],
     cur: &mut [u16],
-    table: &[u16],
 )
     requires { ⌜ Piecing (gf257 .order) l (now lost) (now helpers) (now shares) (now host) first w (now spare) × Groups l w first
         × Fitting l (length (now lost)) w (length (now sums))
-        × Rooms (length (now sums)) (now sums) (now sides) (now found) (now points) (now coefs) (now row) (now cur) × Inverses gf257 (now table) ⌝ }
+        × Rooms (length (now sums)) (now sums) (now sides) (now found) (now points) (now coefs) (now row) (now cur) ⌝ }
     ensures { λ _. ⌜ Piece gf257 l (now (lost .entry)) (now (helpers .entry)) (now (shares .entry)) (now (host .entry)) first w (now (spare .entry)) (now (spare .exit)) ⌝ }
 {
     let h = lost[0] / l.size;
@@ -67,7 +64,6 @@ fn repair_block(
         coefs,
         row,
         cur,
-        table,
     );
     group257::repair_block(
         l,
@@ -83,7 +79,6 @@ fn repair_block(
         coefs,
         row,
         cur,
-        table,
         spare,
     );
 }
@@ -105,11 +100,10 @@ fn repair_blocks(
     coefs: &mut [u16],
     row: &mut [u16],
     cur: &mut [u16],
-    table: &[u16],
 )
     requires { ⌜ Piecing (gf257 .order) l (now lost) (now helpers) (now shares) (now host) first count (now spare)
         × Spacious l (length (now lost)) count (length (now sums))
-        × Rooms (length (now sums)) (now sums) (now sides) (now found) (now points) (now coefs) (now row) (now cur) × Inverses gf257 (now table) ⌝ }
+        × Rooms (length (now sums)) (now sums) (now sides) (now found) (now points) (now coefs) (now row) (now cur) ⌝ }
     ensures { λ _. ⌜ Piece gf257 l (now (lost .entry)) (now (helpers .entry)) (now (shares .entry)) (now (host .entry)) first count (now (spare .entry)) (now (spare .exit)) ⌝ }
 {
     let rows = row_count(l, lost.len() as u32);
@@ -132,7 +126,6 @@ fn repair_blocks(
             coefs,
             row,
             cur,
-            table,
         );
         k += w;
     }
@@ -159,8 +152,6 @@ fn repair_small(
     let mut coefs = [0u16; blocks::BLOCK];
     let mut row = [0u16; blocks::BLOCK];
     let mut cur = [0u16; blocks::BLOCK];
-    let mut table = [0u16; SIZE];
-    kernel257::inverses(&mut table);
     repair_blocks(
         l,
         lost,
@@ -177,7 +168,6 @@ fn repair_small(
         &mut coefs,
         &mut row,
         &mut cur,
-        &table,
     );
 }
 
@@ -202,8 +192,6 @@ fn repair_large(
     let mut coefs = [0u16; blocks::ROOM];
     let mut row = [0u16; blocks::BLOCK];
     let mut cur = [0u16; blocks::BLOCK];
-    let mut table = [0u16; SIZE];
-    kernel257::inverses(&mut table);
     repair_blocks(
         l,
         lost,
@@ -220,7 +208,6 @@ fn repair_large(
         &mut coefs,
         &mut row,
         &mut cur,
-        &table,
     );
 }
 

@@ -10,7 +10,6 @@ ghost use Prim.Native.Nat.{_+_, _-_, _*_, _^_, _<_, _≤_};
 ghost use lib.ListN.{length};
 ghost use Rattle.algebra.specs.Points.{opposite};
 ghost use Rattle.symbol.specs.Elem.{gf256};
-ghost use Rattle.kernel.specs.Inner.{Inverses};
 ghost use Rattle.columns.specs.Inner.{Solved};
 ghost use Rattle.weigh.specs.Inner.{Weighed};
 ghost use Rattle.layout.specs.Layout.{Cabinet, trays, digits};
@@ -113,28 +112,15 @@ fn weighted_sums(
     points: &[u8],
     coefs: &mut [u8],
     wide: &mut [u8],
-    table: &[u8],
 )
-    requires { ⌜ Wide u w n v run turns (now ys) (now sums) (now points) (now coefs) (now wide) × Inverses gf256 (now table) ⌝ }
+    requires { ⌜ Wide u w n v run turns (now ys) (now sums) (now points) (now coefs) (now wide) ⌝ }
     ensures { λ _. ⌜ Solved gf256 (u * w) v run n (now (sums .entry)) (now (points .entry)) (now (ys .exit)) n ⌝ }
 {
     if v == 1 {
-        columns::solve(ys, u * w, v, u * w, 1, n, sums, points, coefs, wide, table);
+        columns::solve(ys, u * w, v, u * w, 1, n, sums, points, coefs, wide);
         return;
     }
-    columns::solve(
-        ys,
-        u * w,
-        v,
-        run,
-        turns * u,
-        n,
-        sums,
-        points,
-        coefs,
-        wide,
-        table,
-    );
+    columns::solve(ys, u * w, v, run, turns * u, n, sums, points, coefs, wide);
 }
 
 // Row k divided by the power of its rack's point that it comes with.
@@ -228,11 +214,10 @@ fn solve_rows(
     points: &mut [u8],
     coefs: &mut [u8],
     row: &mut [u8],
-    table: &[u8],
     ys: &mut [u8],
     wide: &mut [u8],
 )
-    requires { ⌜ Block l w first × (e ≤ l .racks) × (w ≡ digits l ^ e) × Listed l (now es) × Workspace l w (now sums) (now found) (now points) (now coefs) (now row) × Inverses gf256 (now table)
+    requires { ⌜ Block l w first × (e ≤ l .racks) × (w ≡ digits l ^ e) × Listed l (now es) × Workspace l w (now sums) (now found) (now points) (now coefs) (now row)
         × Small (l .size) × WholeRacks (l .size) n (now es) × (roomLimit ≤ length (now ys)) × (roomLimit ≤ length (now wide)) ⌝ }
     ensures { λ _. ⌜ FoundBlock gf256 l w first (now (es .entry)) (now (sums .entry)) (now (found .exit)) ⌝ }
 {
@@ -254,7 +239,6 @@ fn solve_rows(
         points,
         coefs,
         wide,
-        table,
     );
     lower_rows(ys, l, w, first, es, row);
     racks_symbols(found, u, w, n, ys, row);
@@ -273,9 +257,8 @@ fn solve_racks(
     points: &mut [u8],
     coefs: &mut [u8],
     row: &mut [u8],
-    table: &[u8],
 )
-    requires { ⌜ Block l w first × (e ≤ l .racks) × (w ≡ digits l ^ e) × Listed l (now es) × Workspace l w (now sums) (now found) (now points) (now coefs) (now row) × Inverses gf256 (now table)
+    requires { ⌜ Block l w first × (e ≤ l .racks) × (w ≡ digits l ^ e) × Listed l (now es) × Workspace l w (now sums) (now found) (now points) (now coefs) (now row)
         × Small (l .size) × WholeRacks (l .size) n (now es) ⌝ }
     ensures { λ _. ⌜ FoundBlock gf256 l w first (now (es .entry)) (now (sums .entry)) (now (found .exit)) ⌝ }
 {
@@ -293,7 +276,6 @@ fn solve_racks(
         points,
         coefs,
         row,
-        table,
         &mut ys,
         &mut wide,
     );
@@ -311,29 +293,15 @@ pub fn solve_block(
     points: &mut [u8],
     coefs: &mut [u8],
     row: &mut [u8],
-    table: &[u8],
 )
-    requires { ⌜ Block l w first × (e ≤ l .racks) × (w ≡ digits l ^ e) × Listed l (now es) × Workspace l w (now sums) (now found) (now points) (now coefs) (now row) × Inverses gf256 (now table) ⌝ }
+    requires { ⌜ Block l w first × (e ≤ l .racks) × (w ≡ digits l ^ e) × Listed l (now es) × Workspace l w (now sums) (now found) (now points) (now coefs) (now row) ⌝ }
     ensures { λ _. ⌜ FoundBlock gf256 l w first (now (es .entry)) (now (sums .entry)) (now (found .exit)) ⌝ }
 {
     let u = l.size;
     let n = es.len() / u as usize;
     if are_racks(l, es, n) {
-        solve_racks(
-            found,
-            l,
-            e,
-            w,
-            first,
-            es,
-            n,
-            sums,
-            points,
-            coefs,
-            row,
-            table,
-        );
+        solve_racks(found, l, e, w, first, es, n, sums, points, coefs, row);
         return;
     }
-    solving::solve_block(found, l, e, w, first, es, sums, points, coefs, row, table);
+    solving::solve_block(found, l, e, w, first, es, sums, points, coefs, row);
 }

@@ -2,13 +2,11 @@
 // whether these meet the checks that were not needed to solve. Never looks at the old symbols of the trays listed. What is promised here is what recovering
 // and storing rest on (specs/Inner.antt).
 use layout::Layout;
-use symbol::plain::SIZE;
 ghost use mathlib.Core.Path.{_≡_};
 ghost use mathlib.Core.Bool.{true, false};
 ghost use Prim.Native.Nat.{ℕ, _*_, _^_, _<_, _≤_};
 ghost use lib.ListN.{length};
 ghost use Rattle.symbol.specs.Elem.{gf256};
-ghost use Rattle.kernel.specs.Inner.{Inverses};
 ghost use Rattle.layout.specs.Layout.{digits, layers, Admissible};
 ghost use Rattle.blocks.specs.Inner.{Block};
 ghost use Rattle.syndrome.specs.Inner.{Listed, Room};
@@ -42,14 +40,13 @@ fn restore_block(
     coefs: &mut [u8],
     row: &mut [u8],
     cur: &mut [u8],
-    table: &[u8],
 )
     requires { ⌜ Block l w first × (e ≤ l .racks) × (w ≡ digits l ^ e) × Erasing l total (now es) (now c)
-        × Workspace l w (now sums) (now found) (now points) (now coefs) (now row) × (w ≤ length (now cur)) × Inverses gf256 (now table) ⌝ }
+        × Workspace l w (now sums) (now found) (now points) (now coefs) (now row) × (w ≤ length (now cur)) ⌝ }
     ensures { λ _. ⌜ BlockRestored gf256 l w first (now (es .entry)) (now (c .entry)) (now (c .exit)) ⌝ }
 {
     rack_checks::sum_kept(sums, l, w, first, es.len(), c, es, cur, row);
-    rack_solving::solve_block(found, l, e, w, first, es, sums, points, coefs, row, table);
+    rack_solving::solve_block(found, l, e, w, first, es, sums, points, coefs, row);
     put_block(c, total, w, first, es, found);
 }
 
@@ -66,10 +63,9 @@ fn restore_blocks(
     coefs: &mut [u8],
     row: &mut [u8],
     cur: &mut [u8],
-    table: &[u8],
 )
     requires { ⌜ (e ≤ l .racks) × Erasing l total (now es) (now c) × Workspace l (digits l ^ e) (now sums) (now found) (now points) (now coefs) (now row)
-        × (digits l ^ e ≤ length (now cur)) × Inverses gf256 (now table) ⌝ }
+        × (digits l ^ e ≤ length (now cur)) ⌝ }
     ensures { λ _. ⌜ RestoredTo gf256 l (now (es .entry)) (now (c .entry)) (layers l) (now (c .exit)) ⌝ }
 {
     let w = blocks::block_width(l, e);
@@ -90,7 +86,6 @@ fn restore_blocks(
             coefs,
             row,
             cur,
-            table,
         );
         q += 1;
     }
@@ -108,8 +103,6 @@ pub fn restore(l: Layout, total: u32, c: &mut [u8], es: &[u32])
     let mut coefs = [0u8; blocks::ROOM];
     let mut row = [0u8; blocks::BLOCK];
     let mut cur = [0u8; blocks::BLOCK];
-    let mut table = [0u8; SIZE];
-    kernel::inverses(&mut table);
     restore_blocks(
         c,
         l,
@@ -122,7 +115,6 @@ pub fn restore(l: Layout, total: u32, c: &mut [u8], es: &[u32])
         &mut coefs,
         &mut row,
         &mut cur,
-        &table,
     );
 }
 
@@ -165,15 +157,14 @@ pub fn block_fits(
     coefs: &mut [u8],
     row: &mut [u8],
     cur: &mut [u8],
-    table: &[u8],
 ) -> bool
     requires { ⌜ Block l w first × (e ≤ l .racks) × (w ≡ digits l ^ e) × Erasing l total (now es) (now c)
-        × Workspace l w (now sums) (now found) (now points) (now coefs) (now row) × (w ≤ length (now cur)) × Inverses gf256 (now table) ⌝ }
+        × Workspace l w (now sums) (now found) (now points) (now coefs) (now row) × (w ≤ length (now cur)) ⌝ }
     ensures { λ r. ⌜ Says r (BlockFits gf256 l w first (now (es .entry)) (now (c .entry))) ⌝ }
 {
     let r = layout::check_count(l) as usize;
     rack_checks::sum_kept(sums, l, w, first, r, c, es, cur, row);
-    rack_solving::solve_block(found, l, e, w, first, es, sums, points, coefs, row, table);
+    rack_solving::solve_block(found, l, e, w, first, es, sums, points, coefs, row);
     found_terms(sums, l, w, first, r, es, found, row, cur);
     kernel::all_zero(sums, r * w)
 }
@@ -191,10 +182,9 @@ fn blocks_fit(
     coefs: &mut [u8],
     row: &mut [u8],
     cur: &mut [u8],
-    table: &[u8],
 ) -> bool
     requires { ⌜ (e ≤ l .racks) × Erasing l total (now es) (now c) × Workspace l (digits l ^ e) (now sums) (now found) (now points) (now coefs) (now row)
-        × (digits l ^ e ≤ length (now cur)) × Inverses gf256 (now table) ⌝ }
+        × (digits l ^ e ≤ length (now cur)) ⌝ }
     ensures { λ r. ⌜ Says r ((j : ℕ) → j < layers l → LayerFits gf256 l (now (es .entry)) (now (c .entry)) j) ⌝ }
 {
     let w = blocks::block_width(l, e);
@@ -215,7 +205,6 @@ fn blocks_fit(
             coefs,
             row,
             cur,
-            table,
         ) {
             return false;
         }
@@ -236,8 +225,6 @@ fn room_fits(l: Layout, total: u32, c: &[u8], es: &[u32]) -> bool
     let mut coefs = [0u8; blocks::ROOM];
     let mut row = [0u8; blocks::BLOCK];
     let mut cur = [0u8; blocks::BLOCK];
-    let mut table = [0u8; SIZE];
-    kernel::inverses(&mut table);
     blocks_fit(
         c,
         l,
@@ -250,7 +237,6 @@ fn room_fits(l: Layout, total: u32, c: &[u8], es: &[u32]) -> bool
         &mut coefs,
         &mut row,
         &mut cur,
-        &table,
     )
 }
 

@@ -3,13 +3,11 @@
 // whether these meet the checks that were not needed to solve. Never looks at the old symbols of the trays listed. What is promised here is what recovering
 // and storing rest on (specs/Inner.antt).
 use layout::Layout;
-use symbol257::plain::SIZE;
 ghost use mathlib.Core.Path.{_≡_};
 ghost use mathlib.Core.Bool.{true, false};
 ghost use Prim.Native.Nat.{ℕ, _*_, _^_, _<_, _≤_};
 ghost use lib.ListN.{length};
 ghost use Rattle.symbol257.specs.Elem.{gf257};
-ghost use Rattle.kernel.specs.Inner.{Inverses};
 ghost use Rattle.layout.specs.Layout.{digits, layers, Admissible};
 ghost use Rattle.blocks.specs.Inner.{Block};
 ghost use Rattle.syndrome.specs.Inner.{Listed, Room};
@@ -43,14 +41,13 @@ fn restore_block(
     coefs: &mut [u16],
     row: &mut [u16],
     cur: &mut [u16],
-    table: &[u16],
 )
     requires { ⌜ Block l w first × (e ≤ l .racks) × (w ≡ digits l ^ e) × Erasing l total (now es) (now c)
-        × Workspace l w (now sums) (now found) (now points) (now coefs) (now row) × (w ≤ length (now cur)) × Inverses gf257 (now table) ⌝ }
+        × Workspace l w (now sums) (now found) (now points) (now coefs) (now row) × (w ≤ length (now cur)) ⌝ }
     ensures { λ _. ⌜ BlockRestored gf257 l w first (now (es .entry)) (now (c .entry)) (now (c .exit)) ⌝ }
 {
     syndrome257::sum_kept(sums, l, w, first, es.len(), c, es, cur, row);
-    solving257::solve_block(found, l, e, w, first, es, sums, points, coefs, row, table);
+    solving257::solve_block(found, l, e, w, first, es, sums, points, coefs, row);
     put_block(c, total, w, first, es, found);
 }
 
@@ -67,10 +64,9 @@ fn restore_blocks(
     coefs: &mut [u16],
     row: &mut [u16],
     cur: &mut [u16],
-    table: &[u16],
 )
     requires { ⌜ (e ≤ l .racks) × Erasing l total (now es) (now c) × Workspace l (digits l ^ e) (now sums) (now found) (now points) (now coefs) (now row)
-        × (digits l ^ e ≤ length (now cur)) × Inverses gf257 (now table) ⌝ }
+        × (digits l ^ e ≤ length (now cur)) ⌝ }
     ensures { λ _. ⌜ RestoredTo gf257 l (now (es .entry)) (now (c .entry)) (layers l) (now (c .exit)) ⌝ }
 {
     let w = blocks::block_width(l, e);
@@ -91,7 +87,6 @@ fn restore_blocks(
             coefs,
             row,
             cur,
-            table,
         );
         q += 1;
     }
@@ -109,8 +104,6 @@ pub fn restore(l: Layout, total: u32, c: &mut [u16], es: &[u32])
     let mut coefs = [0u16; blocks::ROOM];
     let mut row = [0u16; blocks::BLOCK];
     let mut cur = [0u16; blocks::BLOCK];
-    let mut table = [0u16; SIZE];
-    kernel257::inverses(&mut table);
     restore_blocks(
         c,
         l,
@@ -123,7 +116,6 @@ pub fn restore(l: Layout, total: u32, c: &mut [u16], es: &[u32])
         &mut coefs,
         &mut row,
         &mut cur,
-        &table,
     );
 }
 
@@ -166,15 +158,14 @@ pub fn block_fits(
     coefs: &mut [u16],
     row: &mut [u16],
     cur: &mut [u16],
-    table: &[u16],
 ) -> bool
     requires { ⌜ Block l w first × (e ≤ l .racks) × (w ≡ digits l ^ e) × Erasing l total (now es) (now c)
-        × Workspace l w (now sums) (now found) (now points) (now coefs) (now row) × (w ≤ length (now cur)) × Inverses gf257 (now table) ⌝ }
+        × Workspace l w (now sums) (now found) (now points) (now coefs) (now row) × (w ≤ length (now cur)) ⌝ }
     ensures { λ r. ⌜ Says r (BlockFits gf257 l w first (now (es .entry)) (now (c .entry))) ⌝ }
 {
     let r = layout::check_count(l) as usize;
     syndrome257::sum_kept(sums, l, w, first, r, c, es, cur, row);
-    solving257::solve_block(found, l, e, w, first, es, sums, points, coefs, row, table);
+    solving257::solve_block(found, l, e, w, first, es, sums, points, coefs, row);
     found_terms(sums, l, w, first, r, es, found, row, cur);
     kernel257::all_zero(sums, r * w)
 }
@@ -192,10 +183,9 @@ fn blocks_fit(
     coefs: &mut [u16],
     row: &mut [u16],
     cur: &mut [u16],
-    table: &[u16],
 ) -> bool
     requires { ⌜ (e ≤ l .racks) × Erasing l total (now es) (now c) × Workspace l (digits l ^ e) (now sums) (now found) (now points) (now coefs) (now row)
-        × (digits l ^ e ≤ length (now cur)) × Inverses gf257 (now table) ⌝ }
+        × (digits l ^ e ≤ length (now cur)) ⌝ }
     ensures { λ r. ⌜ Says r ((j : ℕ) → j < layers l → LayerFits gf257 l (now (es .entry)) (now (c .entry)) j) ⌝ }
 {
     let w = blocks::block_width(l, e);
@@ -216,7 +206,6 @@ fn blocks_fit(
             coefs,
             row,
             cur,
-            table,
         ) {
             return false;
         }
@@ -237,8 +226,6 @@ fn room_fits(l: Layout, total: u32, c: &[u16], es: &[u32]) -> bool
     let mut coefs = [0u16; blocks::ROOM];
     let mut row = [0u16; blocks::BLOCK];
     let mut cur = [0u16; blocks::BLOCK];
-    let mut table = [0u16; SIZE];
-    kernel257::inverses(&mut table);
     blocks_fit(
         c,
         l,
@@ -251,7 +238,6 @@ fn room_fits(l: Layout, total: u32, c: &[u16], es: &[u32]) -> bool
         &mut coefs,
         &mut row,
         &mut cur,
-        &table,
     )
 }
 

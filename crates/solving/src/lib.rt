@@ -4,7 +4,6 @@ ghost use mathlib.Core.Path.{_≡_};
 ghost use Prim.Native.Nat.{_^_, _≤_};
 ghost use lib.ListN.{length};
 ghost use Rattle.symbol.specs.Elem.{gf256};
-ghost use Rattle.kernel.specs.Inner.{Inverses};
 ghost use Rattle.layout.specs.Layout.{digits};
 ghost use Rattle.blocks.specs.Inner.{Block};
 ghost use Rattle.syndrome.specs.Inner.{Listed};
@@ -44,9 +43,8 @@ pub fn solve_block(
     points: &mut [u8],
     coefs: &mut [u8],
     row: &mut [u8],
-    table: &[u8],
 )
-    requires { ⌜ Block l w first × (e ≤ l .racks) × (w ≡ digits l ^ e) × Listed l (now es) × Workspace l w (now sums) (now found) (now points) (now coefs) (now row) × Inverses gf256 (now table) ⌝ }
+    requires { ⌜ Block l w first × (e ≤ l .racks) × (w ≡ digits l ^ e) × Listed l (now es) × Workspace l w (now sums) (now found) (now points) (now coefs) (now row) ⌝ }
     ensures { λ _. ⌜ FoundBlock gf256 l w first (now (es .entry)) (now (sums .entry)) (now (found .exit)) ⌝ }
 {
     let p = blocks::cycle_of(l, e, es);
@@ -54,17 +52,5 @@ pub fn solve_block(
     let v = p.columns;
     let turns = p.turns;
     listed_points(points, l, w, first, es, v, run, row);
-    columns::solve(
-        found,
-        w,
-        v,
-        run,
-        turns,
-        es.len(),
-        sums,
-        points,
-        coefs,
-        row,
-        table,
-    );
+    columns::solve(found, w, v, run, turns, es.len(), sums, points, coefs, row);
 }

@@ -5,7 +5,6 @@ ghost use mathlib.Core.Path.{_≡_};
 ghost use Prim.Native.Nat.{_^_, _≤_};
 ghost use lib.ListN.{length};
 ghost use Rattle.symbol257.specs.Elem.{gf257};
-ghost use Rattle.kernel.specs.Inner.{Inverses};
 ghost use Rattle.layout.specs.Layout.{digits};
 ghost use Rattle.blocks.specs.Inner.{Block};
 ghost use Rattle.syndrome.specs.Inner.{Listed};
@@ -45,9 +44,8 @@ pub fn solve_block(
     points: &mut [u16],
     coefs: &mut [u16],
     row: &mut [u16],
-    table: &[u16],
 )
-    requires { ⌜ Block l w first × (e ≤ l .racks) × (w ≡ digits l ^ e) × Listed l (now es) × Workspace l w (now sums) (now found) (now points) (now coefs) (now row) × Inverses gf257 (now table) ⌝ }
+    requires { ⌜ Block l w first × (e ≤ l .racks) × (w ≡ digits l ^ e) × Listed l (now es) × Workspace l w (now sums) (now found) (now points) (now coefs) (now row) ⌝ }
     ensures { λ _. ⌜ FoundBlock gf257 l w first (now (es .entry)) (now (sums .entry)) (now (found .exit)) ⌝ }
 {
     let p = blocks::cycle_of(l, e, es);
@@ -55,17 +53,5 @@ pub fn solve_block(
     let v = p.columns;
     let turns = p.turns;
     listed_points(points, l, w, first, es, v, run, row);
-    columns257::solve(
-        found,
-        w,
-        v,
-        run,
-        turns,
-        es.len(),
-        sums,
-        points,
-        coefs,
-        row,
-        table,
-    );
+    columns257::solve(found, w, v, run, turns, es.len(), sums, points, coefs, row);
 }

@@ -3,4 +3,3 @@ pub mod Sides
 pub mod Points
 pub mod Formula
 pub mod Rows
-pub mod Reciprocal

@@ -2,9 +2,8 @@
 // for the s host rack sums and the group sums of the racks that are neither host nor helper; crate columns solves the systems of all groups of the block at
 // a time. Promises these sums, weight after weight.
 use layout::Layout;
-use symbol::plain::ORDER;
+use symbol::Symbol;
 use symbol::plain::difference;
-use symbol::plain::power;
 use symbol::plain::root_power;
 ghost use mathlib.Core.Path.{_≡_};
 ghost use Prim.Native.Nat.{_+_, _-_, _*_, _<_, _≤_};
@@ -14,7 +13,6 @@ ghost use Rattle.algebra.specs.Points.{point};
 ghost use Rattle.algebra.specs.Group.{skip, unskip, free};
 ghost use Rattle.algebra.specs.Repair.{helperPlace};
 ghost use Rattle.symbol.specs.Elem.{gf256};
-ghost use Rattle.kernel.specs.Inner.{Inverses};
 ghost use Rattle.layout.specs.Layout.{digits, parityRacks, trayLimit, Cabinet};
 ghost use Rattle.codeword.specs.Codeword.{shapeOf};
 ghost use Rattle.blocks.specs.Inner.{Block};
@@ -236,16 +234,15 @@ fn solve_columns(
     points: &mut [u8],
     coefs: &mut [u8],
     row: &mut [u8],
-    table: &[u8],
 )
     requires { ⌜ Chosen l h (now helpers) × Groups l w first × Cycle gf256 l h w first (now helpers) v run
-        × Workspace l w (now sides) (now found) (now points) (now coefs) (now row) × Inverses gf256 (now table) ⌝ }
+        × Workspace l w (now sides) (now found) (now points) (now coefs) (now row) ⌝ }
     ensures { λ _. ⌜ FoundSums gf256 l h w first (now (helpers .entry)) (now (sides .entry)) (now (found .exit)) ⌝ }
 {
     let n = unknown_count(l) as usize;
     let s = layout::digit_count(l) as usize;
     unknown_points(points, l, h, w, first, helpers, v, run, row);
-    columns::solve_first(found, w, v, run, 1, n, s, sides, points, coefs, row, table);
+    columns::solve_first(found, w, v, run, 1, n, s, sides, points, coefs, row);
 }
 
 // The host's unknowns of every group. Where every other rack helps, there are no others, and their points are alike in all groups.
@@ -260,9 +257,8 @@ fn solve_sides(
     points: &mut [u8],
     coefs: &mut [u8],
     row: &mut [u8],
-    table: &[u8],
 )
-    requires { ⌜ Chosen l h (now helpers) × Groups l w first × Workspace l w (now sides) (now found) (now points) (now coefs) (now row) × Inverses gf256 (now table) ⌝ }
+    requires { ⌜ Chosen l h (now helpers) × Groups l w first × Workspace l w (now sides) (now found) (now points) (now coefs) (now row) ⌝ }
     ensures { λ _. ⌜ FoundSums gf256 l h w first (now (helpers .entry)) (now (sides .entry)) (now (found .exit)) ⌝ }
 {
     let b = l.racks;
@@ -281,7 +277,6 @@ fn solve_sides(
             points,
             coefs,
             row,
-            table,
         );
         return;
     }
@@ -298,18 +293,7 @@ fn solve_sides(
         points,
         coefs,
         row,
-        table,
     );
-}
-
-// The inverse of a symbol; of zero, zero. One, which every sum of weight 0 is divided by, is its own.
-fn inverse(x: u8) -> u8
-    ensures { λ r. ⌜ gf256 .coding .elem r ≡ gf256 .ops .inv (gf256 .coding .elem x) ⌝ }
-{
-    if x == 1 {
-        return 1;
-    }
-    power(x, ORDER as u32 - 1)
 }
 
 // Row q of the sums: row a of what was found, times v.
@@ -329,7 +313,7 @@ fn weigh_sums(sums: &mut [u8], l: Layout, h: u32, w: usize, e: u32, m: u32, foun
     let s = layout::digit_count(l);
     let mut a = 0u32;
     while a < s {
-        let v = difference(0, inverse(digit_point(l, h, a, m)));
+        let v = difference(0, Symbol(digit_point(l, h, a, m)).inverse().0);
         times_row(sums, w, (m * s + a) as usize, found, a as usize, v);
         a += 1;
     }
@@ -352,30 +336,17 @@ fn weight_sums(
     coefs: &mut [u8],
     row: &mut [u8],
     cur: &mut [u8],
-    table: &[u8],
 )
     requires { ⌜ Summing l h w first (now helpers) (now shares) e (now sums) (now sides) (now found) (now points) (now coefs) (now row) (now cur) × (m < e)
-        × SumsTo gf256 l h w first (now helpers) (now shares) e m (now sums) × Inverses gf256 (now table) ⌝ }
+        × SumsTo gf256 l h w first (now helpers) (now shares) e m (now sums) ⌝ }
     ensures { λ _. ⌜ SumsTo gf256 l h w first (now (helpers .entry)) (now (shares .entry)) e (m + 1) (now (sums .exit)) ⌝ }
 {
     block_sides(sides, l, h, w, first, helpers, shares, e, m, cur, row);
-    solve_sides(
-        found,
-        l,
-        h,
-        w,
-        first,
-        helpers,
-        sides,
-        points,
-        coefs,
-        row,
-        table,
-    );
+    solve_sides(found, l, h, w, first, helpers, sides, points, coefs, row);
     weigh_sums(sums, l, h, w, e, m, found);
 }
 
-// The host's rack sums of every weight. `table` has the inverses of all symbols; the other buffers after `e` are room.
+// The host's rack sums of every weight. The buffers after `e` are room.
 pub fn block_sums(
     sums: &mut [u8],
     l: Layout,
@@ -391,9 +362,8 @@ pub fn block_sums(
     coefs: &mut [u8],
     row: &mut [u8],
     cur: &mut [u8],
-    table: &[u8],
 )
-    requires { ⌜ Summing l h w first (now helpers) (now shares) e (now sums) (now sides) (now found) (now points) (now coefs) (now row) (now cur) × Inverses gf256 (now table) ⌝ }
+    requires { ⌜ Summing l h w first (now helpers) (now shares) e (now sums) (now sides) (now found) (now points) (now coefs) (now row) (now cur) ⌝ }
     ensures { λ _. ⌜ SumsTo gf256 l h w first (now (helpers .entry)) (now (shares .entry)) e e (now (sums .exit)) ⌝ }
 {
     let mut m = 0u32;
@@ -414,7 +384,6 @@ pub fn block_sums(
             coefs,
             row,
             cur,
-            table,
         );
         m += 1;
     }

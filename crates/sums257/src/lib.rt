@@ -3,9 +3,8 @@
 // for the s host rack sums and the group sums of the racks that are neither host nor helper; crate columns solves the systems of all groups of the block at
 // a time. Promises these sums, weight after weight.
 use layout::Layout;
-use symbol257::plain::ORDER;
+use symbol257::Symbol;
 use symbol257::plain::difference;
-use symbol257::plain::power;
 use symbol257::plain::root_power;
 ghost use mathlib.Core.Path.{_≡_};
 ghost use Prim.Native.Nat.{_+_, _-_, _*_, _<_, _≤_};
@@ -15,7 +14,6 @@ ghost use Rattle.algebra.specs.Points.{point};
 ghost use Rattle.algebra.specs.Group.{skip, unskip, free};
 ghost use Rattle.algebra.specs.Repair.{helperPlace};
 ghost use Rattle.symbol257.specs.Elem.{gf257};
-ghost use Rattle.kernel.specs.Inner.{Inverses};
 ghost use Rattle.layout.specs.Layout.{digits, parityRacks, trayLimit, Cabinet};
 ghost use Rattle.codeword.specs.Codeword.{shapeOf};
 ghost use Rattle.blocks.specs.Inner.{Block};
@@ -237,16 +235,15 @@ fn solve_columns(
     points: &mut [u16],
     coefs: &mut [u16],
     row: &mut [u16],
-    table: &[u16],
 )
     requires { ⌜ Chosen l h (now helpers) × Groups l w first × Cycle gf257 l h w first (now helpers) v run
-        × Workspace l w (now sides) (now found) (now points) (now coefs) (now row) × Inverses gf257 (now table) ⌝ }
+        × Workspace l w (now sides) (now found) (now points) (now coefs) (now row) ⌝ }
     ensures { λ _. ⌜ FoundSums gf257 l h w first (now (helpers .entry)) (now (sides .entry)) (now (found .exit)) ⌝ }
 {
     let n = unknown_count(l) as usize;
     let s = layout::digit_count(l) as usize;
     unknown_points(points, l, h, w, first, helpers, v, run, row);
-    columns257::solve_first(found, w, v, run, 1, n, s, sides, points, coefs, row, table);
+    columns257::solve_first(found, w, v, run, 1, n, s, sides, points, coefs, row);
 }
 
 // The host's unknowns of every group. Where every other rack helps, there are no others, and their points are alike in all groups.
@@ -261,9 +258,8 @@ fn solve_sides(
     points: &mut [u16],
     coefs: &mut [u16],
     row: &mut [u16],
-    table: &[u16],
 )
-    requires { ⌜ Chosen l h (now helpers) × Groups l w first × Workspace l w (now sides) (now found) (now points) (now coefs) (now row) × Inverses gf257 (now table) ⌝ }
+    requires { ⌜ Chosen l h (now helpers) × Groups l w first × Workspace l w (now sides) (now found) (now points) (now coefs) (now row) ⌝ }
     ensures { λ _. ⌜ FoundSums gf257 l h w first (now (helpers .entry)) (now (sides .entry)) (now (found .exit)) ⌝ }
 {
     let b = l.racks;
@@ -282,7 +278,6 @@ fn solve_sides(
             points,
             coefs,
             row,
-            table,
         );
         return;
     }
@@ -299,18 +294,7 @@ fn solve_sides(
         points,
         coefs,
         row,
-        table,
     );
-}
-
-// The inverse of a symbol; of zero, zero. One, which every sum of weight 0 is divided by, is its own.
-fn inverse(x: u16) -> u16
-    ensures { λ r. ⌜ gf257 .coding .elem r ≡ gf257 .ops .inv (gf257 .coding .elem x) ⌝ }
-{
-    if x == 1 {
-        return 1;
-    }
-    power(x, ORDER as u32 - 1)
 }
 
 // Row q of the sums: row a of what was found, times v.
@@ -330,7 +314,7 @@ fn weigh_sums(sums: &mut [u16], l: Layout, h: u32, w: usize, e: u32, m: u32, fou
     let s = layout::digit_count(l);
     let mut a = 0u32;
     while a < s {
-        let v = difference(0, inverse(digit_point(l, h, a, m)));
+        let v = difference(0, Symbol(digit_point(l, h, a, m)).inverse().0);
         times_row(sums, w, (m * s + a) as usize, found, a as usize, v);
         a += 1;
     }
@@ -353,30 +337,17 @@ fn weight_sums(
     coefs: &mut [u16],
     row: &mut [u16],
     cur: &mut [u16],
-    table: &[u16],
 )
     requires { ⌜ Summing l h w first (now helpers) (now shares) e (now sums) (now sides) (now found) (now points) (now coefs) (now row) (now cur) × (m < e)
-        × SumsTo gf257 l h w first (now helpers) (now shares) e m (now sums) × Inverses gf257 (now table) ⌝ }
+        × SumsTo gf257 l h w first (now helpers) (now shares) e m (now sums) ⌝ }
     ensures { λ _. ⌜ SumsTo gf257 l h w first (now (helpers .entry)) (now (shares .entry)) e (m + 1) (now (sums .exit)) ⌝ }
 {
     block_sides(sides, l, h, w, first, helpers, shares, e, m, cur, row);
-    solve_sides(
-        found,
-        l,
-        h,
-        w,
-        first,
-        helpers,
-        sides,
-        points,
-        coefs,
-        row,
-        table,
-    );
+    solve_sides(found, l, h, w, first, helpers, sides, points, coefs, row);
     weigh_sums(sums, l, h, w, e, m, found);
 }
 
-// The host's rack sums of every weight. `table` has the inverses of all symbols; the other buffers after `e` are room.
+// The host's rack sums of every weight. The buffers after `e` are room.
 pub fn block_sums(
     sums: &mut [u16],
     l: Layout,
@@ -392,9 +363,8 @@ pub fn block_sums(
     coefs: &mut [u16],
     row: &mut [u16],
     cur: &mut [u16],
-    table: &[u16],
 )
-    requires { ⌜ Summing l h w first (now helpers) (now shares) e (now sums) (now sides) (now found) (now points) (now coefs) (now row) (now cur) × Inverses gf257 (now table) ⌝ }
+    requires { ⌜ Summing l h w first (now helpers) (now shares) e (now sums) (now sides) (now found) (now points) (now coefs) (now row) (now cur) ⌝ }
     ensures { λ _. ⌜ SumsTo gf257 l h w first (now (helpers .entry)) (now (shares .entry)) e e (now (sums .exit)) ⌝ }
 {
     let mut m = 0u32;
@@ -415,7 +385,6 @@ pub fn block_sums(
             coefs,
             row,
             cur,
-            table,
         );
         m += 1;
     }

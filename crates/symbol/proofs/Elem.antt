@@ -18,7 +18,7 @@ use Rattle.symbol.specs.Elem.{Elem, elem, squares, ops, z, coding, gf256
 use Rattle.symbol.proofs.Xor.{⊕-comm, ⊕-assoc, zero-⊕, ⊕-self, ⊕-lt, ⊕-mod}
 use Rattle.symbol.proofs.Laws.{⊗-comm, ⊗-assoc, ⊗-⊕, ⊗-lt, one-⊗}
 use Rattle.symbol.proofs.Power.{power-zero, power-suc, power-lt, power-square, power-zpow, zpow-lt}
-use Rattle.symbol.proofs.Tables.{zpow-log, zpow-turns, zpow-inj, zpow-order, log, ⊗-cancel, by-log}
+use Rattle.symbol.proofs.Tables.{zpow-log, zpow-turns, zpow-inj, zpow-order, log}
 
 pub elem-path : (x y : Elem) → x .val ≡ y .val → x ≡ y
 elem-path x y e = λ i. record { val = e i; small = isProp→PathP (λ i. T (ltb (e i) 256)) (λ i. T-prop (ltb (e i) 256)) (x .small) (y .small) i }
@@ -119,12 +119,6 @@ pub val-inv : (x : Elem) → (ops .inv x) .val ≡ squares 7 (x .val)
 unfolding ops
 val-inv x = val-elem (squares 7 (x .val)) (squares-lt 7 (x .val))
 
--- a number that gives 1 with x is x's inverse
-pub elem-inverse : (x y : ℕ) → 0 < x → x < 256 → y < 256 → x ⊗ y ≡ 1 → elem y ≡ ops .inv (elem x)
-elem-inverse x y p h l e =
-    elem-path _ _ (val-elem y l ∙ ⊗-cancel p h l (squares-lt 7 x) (e ∙ sym (⊗-comm x (squares 7 x) ∙ squares-inverse x p h))
-    ∙ sym (val-inv (elem x) ∙ ap (squares 7) (val-elem x h)))
-
 -- ---- the laws
 some : (a : Elem) → ¬ (a ≡ ops .zero) → 0 < a .val
 some a n = ⊎-elim (λ e. absurd (n (elem-path a (ops .zero) (e ∙ sym val-zero)))) (λ p. p) (eq-zero-or-pos (a .val))
@@ -175,13 +169,10 @@ root-order = record {
 pub gf256-laws : FieldLaws gf256
 gf256-laws = record { laws = laws; root = root-order; coded = coded }
 
--- ---- what the code's inverse gives
+-- the inverse of zero
 pub inverse-zero : (n : ℕ) → n ≡ 0 → elem n ≡ ops .inv (elem n)
 unfolding ops elem squares
 inverse-zero n e = elem-path _ _ (ap (λ (y : ℕ). y % 256) e ∙ sym (ap (λ (y : ℕ). squares 7 (y % 256) % 256) e ∙ nil))
   where
     nil : squares 7 0 % 256 ≡ 0
     nil = unfold _⊗_ shiftAdd mulz _⊕_ in refl
-
-pub inverse-log : (x i r : ℕ) → x < 256 → zpow i ≡ x → i < 255 → r ≡ zpow (255 - i) → ¬ (x ≡ 0) → elem r ≡ ops .inv (elem x)
-inverse-log x i r h e l q d = elem-inverse x r (omega arith) h (rw q (zpow-lt (255 - i))) (by-log i e l q)

@@ -3,15 +3,15 @@
 use mathlib.Core.Path.{_≡_, refl, sym, ap, ap₂, _∙_}
 use mathlib.Core.Bool.{Bool, true}
 use mathlib.Core.List.{List, [], _∷_}
-use Prim.Native.Nat.{ℕ, zero, suc, _*_, _-_, _/_, _%_, _<_}
-use native.Mathlib.Nat.{zero-add, zero-mul, suc-mul, div-add-mod', add-sub-of-le, le-of-lt}
+use Prim.Native.Nat.{ℕ, zero, suc, _*_, _/_, _%_, _<_}
+use native.Mathlib.Nat.{zero-add, zero-mul, suc-mul, div-add-mod'}
 use native.Mathlib.Omega.{arith}
 use lib.Dec.{T, eqb, ltb, eqb→eq, ltb→lt, lit<}
 use lib.ListN.{length, getD}
 use Rattle.symbol.specs.Arithmetic.{_⊕_, root, mulz, shiftAdd, _⊗_, zpow}
 use Rattle.lists.proofs.Computed.{both, both-left, both-right, every, chain, at, run}
 use Rattle.symbol.proofs.Power.{zpow-zero, zpow-suc, zpow-lt, zpow-add}
-use Rattle.symbol.proofs.Laws.{one-⊗, ⊗-comm, ⊗-assoc}
+use Rattle.symbol.proofs.Laws.{one-⊗}
 
 unfoldable pub powers : List ℕ
 powers =
@@ -136,29 +136,3 @@ pub zpow-mod : (i : ℕ) → zpow (i % 255) ≡ zpow i
 zpow-mod i =
     sym (one-⊗ (zpow-lt (i % 255))) ∙ ap (λ (x : ℕ). x ⊗ zpow (i % 255)) (sym (zpow-turns (i / 255)))
     ∙ sym (zpow-add (i / 255 * 255) (i % 255)) ∙ ap zpow (div-add-mod' i 255)
-
--- ---- what the tables say of the product
-
--- the inverse of a symbol that is not zero
-pub inv : ℕ → ℕ
-inv x = zpow (255 - log x)
-
-pub ⊗-inv : {x : ℕ} → 0 < x → x < 256 → x ⊗ inv x ≡ 1
-unfolding inv
-⊗-inv {x} p h =
-    ap (λ (y : ℕ). y ⊗ zpow (255 - log x)) (sym (zpow-log p h)) ∙ sym (zpow-add (log x) (255 - log x))
-    ∙ ap zpow (add-sub-of-le (le-of-lt (log-lt p h))) ∙ zpow-order
-
--- a factor that is not zero is cancelled
-pub ⊗-cancel : {a b c : ℕ} → 0 < a → a < 256 → b < 256 → c < 256 → a ⊗ b ≡ a ⊗ c → b ≡ c
-⊗-cancel {a} {b} {c} p h hb hc e = sym (back hb) ∙ ap (λ (x : ℕ). inv a ⊗ x) e ∙ back hc
-  where
-    back : {x : ℕ} → x < 256 → inv a ⊗ (a ⊗ x) ≡ x
-    back {x} l =
-        sym (⊗-assoc (inv a) a x) ∙ ap (λ (y : ℕ). y ⊗ x) (⊗-comm (inv a) a ∙ ⊗-inv p h) ∙ one-⊗ l
-
--- ---- what the code does with the tables
-
-pub by-log : (i : ℕ) {a p : ℕ} → zpow i ≡ a → i < 255 → p ≡ zpow (255 - i) → a ⊗ p ≡ 1
-by-log i {a} {p} ea h ep =
-    ap₂ _⊗_ (sym ea) ep ∙ sym (zpow-add i (255 - i)) ∙ ap zpow (add-sub-of-le (le-of-lt h)) ∙ zpow-order

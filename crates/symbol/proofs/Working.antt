@@ -3,7 +3,6 @@
 use mathlib.Core.Path.{_≡_, refl, sym, ap, ap₂, _∙_}
 use Prim.Native.Nat.{ℕ, _+_, _<_}
 use lib.Dec.{lit≤}
-use lib.Bits.{bitXor}
 use Rattle.algebra.specs.Field.{Ops}
 use Rattle.algebra.specs.Sum.{pow}
 use Rattle.algebra.specs.Plain.{reduced, plus, minus, times, raised, rootPower, Working}
@@ -19,13 +18,13 @@ pub reduced-is : (a : ℕ) → a < 256 → a ≡ reduced gf256 a
 unfolding reduced
 reduced-is a h = sym (val-elem a h)
 
-pub plus-is : (a b : ℕ) → a < 256 → b < 256 → bitXor a b ≡ plus gf256 a b
-unfolding plus _⊕_
-plus-is a b h l = sym (val-add (elem a) (elem b) ∙ ap₂ _⊕_ (val-elem a h) (val-elem b l))
+pub plus-is : (a b r : ℕ) → a < 256 → b < 256 → r ≡ a ⊕ b → r ≡ plus gf256 a b
+unfolding plus
+plus-is a b r h l e = e ∙ sym (val-add (elem a) (elem b) ∙ ap₂ _⊕_ (val-elem a h) (val-elem b l))
 
-pub minus-is : (a b : ℕ) → a < 256 → b < 256 → bitXor a b ≡ minus gf256 a b
+pub minus-is : (a b r : ℕ) → a < 256 → b < 256 → r ≡ a ⊕ b → r ≡ minus gf256 a b
 unfolding minus plus
-minus-is a b h l = plus-is a b h l ∙ ap (λ e. (ops .add (elem a) e) .val) (sym (neg-is (elem b)))
+minus-is a b r h l e = plus-is a b r h l e ∙ ap (λ e. (ops .add (elem a) e) .val) (sym (neg-is (elem b)))
 
 pub times-is : (a b r : ℕ) → r ≡ a ⊗ b → r ≡ times gf256 a b
 unfolding times

@@ -1,7 +1,6 @@
 // The logarithms of the 256 symbols, as a constant; the entry for zero is never used.
-ghost use mathlib.Core.Path.{_≡_};
-ghost use Prim.Native.Nat.{_<_};
-ghost use Rattle.symbol.specs.Arithmetic.{zpow};
+ghost use Rattle.algebra.specs.Plain.{LogsIn};
+ghost use Rattle.symbol.specs.Elem.{gf256};
 
 const LOGS: [u8; 256] = [
     0,
@@ -262,9 +261,9 @@ const LOGS: [u8; 256] = [
     175,
 ];
 
-pub fn log_at(x: u8) -> u8
-    requires { ⌜ 0 < x ⌝ }
-    ensures { λ r. ⌜ (r < 255) × (zpow r ≡ x) ⌝ }
+// All of them, for whoever reads many.
+pub fn all_logs() -> [u8; 256]
+    ensures { λ r. ⌜ LogsIn gf256 r ⌝ }
 {
-    LOGS[x as usize]
+    LOGS
 }

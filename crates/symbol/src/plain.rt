@@ -3,7 +3,6 @@
 use crate::Symbol;
 ghost use mathlib.Core.Path.{_≡_};
 ghost use Prim.Native.Nat.{ℕ, _+_, _<_, _≤_};
-ghost use lib.ListN.{getD};
 ghost use Rattle.algebra.specs.Field.{Ops};
 ghost use Rattle.algebra.specs.Plain.{reduced, plus, minus, times, raised, rootPower};
 ghost use Rattle.symbol.specs.Elem.{gf256};
@@ -15,7 +14,7 @@ pub const SIZE: usize = 256;
 pub const MINUS_ONE: u8 = 1;
 
 // The root.
-pub const ROOT: u8 = 2;
+pub const ROOT: u8 = Symbol::ROOT.0;
 
 // The number of its powers.
 pub const ORDER: usize = Symbol::ORDER;
@@ -30,19 +29,19 @@ pub fn index(a: u8) -> usize
 pub fn sum(a: u8, b: u8) -> u8
     ensures { λ r. ⌜ r ≡ plus gf256 a b ⌝ }
 {
-    a ^ b
+    Symbol(a).add(Symbol(b)).0
 }
 
 pub fn difference(a: u8, b: u8) -> u8
     ensures { λ r. ⌜ r ≡ minus gf256 a b ⌝ }
 {
-    a ^ b
+    Symbol(a).add(Symbol(b)).0
 }
 
 pub fn product(a: u8, b: u8) -> u8
     ensures { λ r. ⌜ r ≡ times gf256 a b ⌝ }
 {
-    crate::shift_add::product(a, b)
+    Symbol(a).mul(Symbol(b)).0
 }
 
 // A product that need not be reduced, and a sum with such a one (lazy reduction). A byte always is.
@@ -91,11 +90,4 @@ pub fn root_power(e: usize) -> u8
     ensures { λ r. ⌜ r ≡ rootPower gf256 e ⌝ }
 {
     Symbol::root_power(e).0
-}
-
-// All powers of the root, for whoever reads many.
-pub fn all_powers() -> [u8; ORDER]
-    ensures { λ r. ⌜ ((i : ℕ) → i < gf256 .order → getD r i 0 ≡ rootPower gf256 i) ⌝ }
-{
-    crate::powers::all_powers()
 }

@@ -1,8 +1,9 @@
 // The 255 powers of the root, as a constant.
 ghost use mathlib.Core.Path.{_≡_};
-ghost use Prim.Native.Nat.{ℕ, _<_};
-ghost use lib.ListN.{getD};
+ghost use Prim.Native.Nat.{_<_};
+ghost use Rattle.algebra.specs.Plain.{PowersIn};
 ghost use Rattle.symbol.specs.Arithmetic.{zpow};
+ghost use Rattle.symbol.specs.Elem.{gf256};
 
 const POWERS: [u8; 255] = [
     1,
@@ -271,7 +272,7 @@ pub fn power_at(i: usize) -> u8
 
 // All of them, for whoever reads many.
 pub fn all_powers() -> [u8; 255]
-    ensures { λ r. ⌜ ((i : ℕ) → i < 255 → getD r i 0 ≡ zpow i) ⌝ }
+    ensures { λ r. ⌜ PowersIn gf256 r ⌝ }
 {
     POWERS
 }

@@ -4,7 +4,6 @@ use crate::Symbol;
 use crate::powers::power_at;
 ghost use mathlib.Core.Path.{_≡_};
 ghost use Prim.Native.Nat.{ℕ, _+_, _<_, _≤_};
-ghost use lib.ListN.{getD};
 ghost use Rattle.algebra.specs.Field.{Ops};
 ghost use Rattle.algebra.specs.Plain.{reduced, plus, minus, times, raised, rootPower};
 ghost use Rattle.symbol257.specs.Elem.{gf257};
@@ -16,7 +15,7 @@ pub const SIZE: usize = 257;
 pub const MINUS_ONE: u16 = 256;
 
 // The root.
-pub const ROOT: u16 = 3;
+pub const ROOT: u16 = Symbol::ROOT.0;
 
 // The number of its powers.
 pub const ORDER: usize = Symbol::ORDER;
@@ -108,11 +107,4 @@ pub fn root_power(e: usize) -> u16
     ensures { λ r. ⌜ r ≡ rootPower gf257 e ⌝ }
 {
     power_at(e % Symbol::ORDER)
-}
-
-// All powers of the root, for whoever reads many.
-pub fn all_powers() -> [u16; ORDER]
-    ensures { λ r. ⌜ ((i : ℕ) → i < gf257 .order → getD r i 0 ≡ rootPower gf257 i) ⌝ }
-{
-    crate::powers::all_powers()
 }

@@ -2,7 +2,6 @@
 // that block, and so on by powers of the
 // digits' base down to one layer.
 use layout::Layout;
-use symbol::plain::SIZE;
 ghost use Prim.Native.Nat.{ℕ, _+_, _*_, _^_, _<_, _≤_};
 ghost use Rattle.symbol.specs.Elem.{gf256};
 ghost use Rattle.layout.specs.Layout.{checks, digits, layers};
@@ -21,8 +20,6 @@ fn fits(l: Layout, total: u32, e: u32, w: usize, first: usize, c: &[u8], es: &[u
     let mut coefs = [0u8; blocks::ROOM];
     let mut row = [0u8; blocks::BLOCK];
     let mut cur = [0u8; blocks::BLOCK];
-    let mut table = [0u8; SIZE];
-    kernel::inverses(&mut table);
     restore::block_fits(
         c,
         l,
@@ -37,7 +34,6 @@ fn fits(l: Layout, total: u32, e: u32, w: usize, first: usize, c: &[u8], es: &[u
         &mut coefs,
         &mut row,
         &mut cur,
-        &table,
     )
 }
 

@@ -3,7 +3,6 @@
 // that block, and so on by powers of the
 // digits' base down to one layer.
 use layout::Layout;
-use symbol257::plain::SIZE;
 ghost use Prim.Native.Nat.{ℕ, _+_, _*_, _^_, _<_, _≤_};
 ghost use Rattle.symbol257.specs.Elem.{gf257};
 ghost use Rattle.layout.specs.Layout.{checks, digits, layers};
@@ -22,8 +21,6 @@ fn fits(l: Layout, total: u32, e: u32, w: usize, first: usize, c: &[u16], es: &[
     let mut coefs = [0u16; blocks::ROOM];
     let mut row = [0u16; blocks::BLOCK];
     let mut cur = [0u16; blocks::BLOCK];
-    let mut table = [0u16; SIZE];
-    kernel257::inverses(&mut table);
     restore257::block_fits(
         c,
         l,
@@ -38,7 +35,6 @@ fn fits(l: Layout, total: u32, e: u32, w: usize, first: usize, c: &[u16], es: &[
         &mut coefs,
         &mut row,
         &mut cur,
-        &table,
     )
 }
 

@@ -11,23 +11,22 @@ solve-many-spec =
     (λ c. search needs)
     (λ c. search needs)
     (λ c κs. (
-      let c1 = c .before .before .before .before .before .before .before .before .before in
+      let c1 = c .before .before .before .before .before .before .before .before in
           (let a = c1 in columns-room (a .args .w) (a .args .v) (a .args .run) (a .args .turns) (a .args .m) (a .args .found .now) (a .args .sums .now)
-          (a .args .coefs .now) (a .args .points .now) (a .args .row .now) (a .pre .0) (a .pre .1) (a .pre .4)),
-      let c1 = c .before .before .before .before .before .before .before .before .before in
+          (a .args .coefs .now) (a .args .points .now) (a .args .row .now) (a .pre .0) (a .pre .1) (a .pre .3)),
+      let c1 = c .before .before .before .before .before .before .before .before in
           (let a = c1 in columns-room (a .args .w) (a .args .v) (a .args .run) (a .args .turns) (a .args .m) (a .args .found .now) (a .args .sums .now)
-          (a .args .coefs .now) (a .args .points .now) (a .args .row .now) (a .pre .0) (a .pre .1) (a .pre .4)),
-      let c1 = c .before .before .before .before .before .before .before .before .before in
+          (a .args .coefs .now) (a .args .points .now) (a .args .row .now) (a .pre .0) (a .pre .1) (a .pre .3)),
+      let c1 = c .before .before .before .before .before .before .before .before in
           (let a = c1 in carry-in (a .args .w) (a .args .v) (a .args .run) (a .args .turns) (a .args .m) (a .args .found .now) (a .args .sums .now) (a .args .coefs .now)
           (a .args .row .now) (a .args .row .now) (a .pre .0) refl),
       omega arith,
-      search needs,
     ))
     (λ c. search needs)
     (λ c. search needs)
     (λ c κs. (
       (let a =
-          c .before .before .before .before .before .before .before .before .before .before .before .before .before .before .before .before .before .before .before in
+          c .before .before .before .before .before .before .before .before .before .before .before .before .before .before .before .before .before .before in
           let k = c .before .before .before .before .before .before .before .before .before .factor in systems-next (a .args .w) (a .args .v) (a .args .run)
           (a .args .turns) (a .args .m) (a .args .found .now) (a .args .found .now) (a .args .sums .now) (a .args .coefs .now) (a .args .coefs .now) (a .args .row .now)
           (k .last .1 .1 .0) (a .pre .0) refl refl (search needs)),

@@ -13,7 +13,7 @@ solve-first-spec =
     (λ c κs. (search one-found, search one-sums))
     (λ c. search needs)
     (λ c. search (solved-one working))
-    (λ c κs. (search needs, search needs, search needs, search needs, search needs, omega arith))
+    (λ c κs. (search needs, search needs, search needs, search needs, omega arith))
     (λ c. search needs)
     (λ c. search needs)
     (λ c. search needs)

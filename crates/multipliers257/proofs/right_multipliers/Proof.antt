@@ -8,16 +8,11 @@ pub right-multipliers-spec : {M : Type 1} → statement M
 right-multipliers-spec =
     tie.close (tie.spec
     (λ c. search needs)
-    (λ c κs. search needs)
-    (λ c. search needs)
-    (λ c. search needs)
     (λ c. search needs)
     (λ c. search needs)
     (λ c. search needs)
     (λ c. search needs)
     (λ c κs.
-    let e = c .before .before .before .before .before .before .before .before in
-    let s = e .before .before .before .before in
-    (s .pre .0, rooms _ (s .pre .1), e .inverses .ensures))
+    let s = c .before .before .before .before .before .before .before .before in (s .pre .0, rooms _ (s .pre .1)))
     (λ c. search needs)
     (λ c. search needs))

@@ -19,26 +19,24 @@ block-sums-requires : tie.Need-block-sums-requires
 block-sums-requires c κs =
     let s =
     c .before .before .before .before .before .before .before .before .before .before .before .before .before .before .before .before .before .before .before .before
-    .before .before in
-    let a = s .args in (
-      summing-of (gf256 .order) (a .l) (a .lost .now) (a .helpers .now) (a .shares .now) (a .host .now) (a .w) (a .first) (a .spare .now) (a .sums .now)
-          (a .sides .now) (a .found .now) (a .points .now) (a .coefs .now) (a .row .now) (a .cur .now) (s .pre .0) (s .pre .1) (s .pre .2) (s .pre .3),
-      s .pre .4,
-    )
+    .before in
+    let a = s .args in
+    summing-of (gf256 .order) (a .l) (a .lost .now) (a .helpers .now) (a .shares .now) (a .host .now) (a .w) (a .first) (a .spare .now) (a .sums .now)
+    (a .sides .now) (a .found .now) (a .points .now) (a .coefs .now) (a .row .now) (a .cur .now) (s .pre .0) (s .pre .1) (s .pre .2) (s .pre .3)
 
 repair-block-requires : tie.Need-repair-block-requires
 repair-block-requires c κs =
     let s =
     c .before .before .before .before .before .before .before .before .before .before .before .before .before .before .before .before .before .before .before .before
     .before .before .before .before .before .before .before .before .before .before .before .before .before .before .before .before .before .before .before .before
-    .before .before .before .before .before in
+    .before .before .before .before in
     let a = s .args in
     let k =
     c .before .before .before .before .before .before .before .before .before .before .before .before .before .before .before .before .before .before .before .before
     .before .before .block-sums .kept in (
       repairing-of (gf256 .order) (a .l) (a .lost .now) (a .helpers .now) (a .shares .now) (a .host .now) (a .w) (a .first) (a .spare .now) (a .sums .now)
-          (a .sides .now) (a .found .now) (a .points .now) (a .coefs .now) (a .row .now) (a .cur .now) (s .pre .0) (s .pre .1) (s .pre .2) (s .pre .3) gf256 _ _
-          (k .0) (s .pre .4),
+          (a .sides .now) (a .found .now) (a .points .now) (a .coefs .now) (a .row .now) (a .cur .now) (s .pre .0) (s .pre .1) (s .pre .2) (s .pre .3) gf256 _
+          (k .0),
       space-of (gf256 .order) (a .l) (a .lost .now) (a .helpers .now) (a .shares .now) (a .host .now) (a .w) (a .first) (a .spare .now) (a .sums .now)
           (a .sides .now) (a .found .now) (a .points .now) (a .coefs .now) (a .row .now) (a .cur .now) (s .pre .0) (s .pre .1) (s .pre .2) (s .pre .3) _ _ _ _ _ _
           (k .1 .1 .1 .1 .1 .1 .1 .1 .0) (k .1 .1 .1 .1 .1 .1 .1 .1 .1 .0) (k .1 .1 .1 .1 .1 .1 .1 .1 .1 .1 .0) (k .1 .1 .1 .1 .1 .1 .1 .1 .1 .1 .1 .0)
@@ -75,7 +73,7 @@ returns c =
     let s =
     c .before .before .before .before .before .before .before .before .before .before .before .before .before .before .before .before .before .before .before .before
     .before .before .before .before .before .before .before .before .before .before .before .before .before .before .before .before .before .before .before .before
-    .before .before .before .before .before .before .before .before .before .before .before .before .before .before .before .before .before .before .before .before
+    .before .before .before .before .before .before .before .before .before .before .before .before .before .before .before .before .before .before .before
     in
     let a = s .args in
     repaired-piece working (a .l) (a .lost .now) (a .helpers .now) (a .shares .now) (a .host .now) (a .w) (a .first) _ (s .pre .0 .adm) (s .pre .0 .losses)

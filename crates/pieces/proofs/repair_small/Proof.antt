@@ -3,12 +3,6 @@ use borrow.Author.Needs.{needs}
 use Rattle.pieces.proofs.repair_small.Statement.{statement}
 use Rattle.pieces.proofs.repair_small.Tie as tie
 
-slice-aggregate-inverses : tie.Need-slice-aggregate-inverses
-slice-aggregate-inverses c = search needs
-
-inverses-requires : tie.Need-inverses-requires
-inverses-requires c κs = search needs
-
 slice-aggregate-repair-blocks : tie.Need-slice-aggregate-repair-blocks
 slice-aggregate-repair-blocks c = search needs
 
@@ -30,13 +24,10 @@ slice-aggregate-repair-blocks-6 c = search needs
 slice-aggregate-repair-blocks-7 : tie.Need-slice-aggregate-repair-blocks-7
 slice-aggregate-repair-blocks-7 c = search needs
 
-slice-aggregate-repair-blocks-8 : tie.Need-slice-aggregate-repair-blocks-8
-slice-aggregate-repair-blocks-8 c = search needs
-
 repair-blocks-requires : tie.Need-repair-blocks-requires
 repair-blocks-requires c κs =
-    let s = c .before .before .before .before .before .before .before .before .before .before .before .before .before .before .before .before .before in
-    (s .pre .0, few-spacious _ _ _ (s .pre .1), small-rooms, c .before .before .before .before .before .before .before .before .before .before .inverses .ensures)
+    let s = c .before .before .before .before .before .before .before .before .before .before .before .before .before in
+    (s .pre .0, few-spacious _ _ _ (s .pre .1), small-rooms)
 
 same-length : tie.Need-same-length
 same-length c = search needs
@@ -48,8 +39,6 @@ pub repair-small-spec : {M : Type 1} → statement M
 repair-small-spec =
     tie.close
     (tie.spec
-    slice-aggregate-inverses
-    inverses-requires
     slice-aggregate-repair-blocks
     slice-aggregate-repair-blocks-2
     slice-aggregate-repair-blocks-3
@@ -57,7 +46,6 @@ repair-small-spec =
     slice-aggregate-repair-blocks-5
     slice-aggregate-repair-blocks-6
     slice-aggregate-repair-blocks-7
-    slice-aggregate-repair-blocks-8
     repair-blocks-requires
     same-length
     returns)

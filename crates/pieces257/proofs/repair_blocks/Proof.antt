@@ -12,18 +12,18 @@ use Rattle.pieces257.proofs.repair_blocks.Statement.{statement}
 use Rattle.pieces257.proofs.repair_blocks.Tie as tie
 
 abbrev Inv-loop : tie.InvT-loop
-Inv-loop l lost helpers shares host first count spare₀ sums₀ sides₀ found₀ points₀ coefs₀ row₀ cur₀ table rows k₀ spare sums sides found points coefs row cur k =
+Inv-loop l lost helpers shares host first count spare₀ sums₀ sides₀ found₀ points₀ coefs₀ row₀ cur₀ rows k₀ spare sums sides found points coefs row cur k =
     (k ≤ count) × (length sums ≡ length sums₀) × (length sides ≡ length sides₀) × (length found ≡ length found₀) × (length points ≡ length points₀)
     × (length coefs ≡ length coefs₀) × (length row ≡ length row₀) × (length cur ≡ length cur₀) × Piece gf257 l lost helpers shares host first k spare₀ spare
 
 abbrev μ-loop : tie.MeasureT-loop
-μ-loop l lost helpers shares host first count spare₀ sums₀ sides₀ found₀ points₀ coefs₀ row₀ cur₀ table rows k₀ spare sums sides found points coefs row cur k = count - k
+μ-loop l lost helpers shares host first count spare₀ sums₀ sides₀ found₀ points₀ coefs₀ row₀ cur₀ rows k₀ spare sums sides found points coefs row cur k = count - k
 
 cast-row-count : tie.Need-cast-row-count Inv-loop μ-loop
 cast-row-count c = search needs
 
 row-count-requires : tie.Need-row-count-requires Inv-loop μ-loop
-row-count-requires c κs = let p = c .before .before .before .before .before .before .before .before .before .before .before .before .before .pre .0 in (p .adm .admissible .cabinet, p .losses .few)
+row-count-requires c κs = let p = c .before .before .before .before .before .before .before .before .before .before .before .before .pre .0 in (p .adm .admissible .cabinet, p .losses .few)
 
 loop-holds : tie.Need-loop-holds Inv-loop μ-loop
 loop-holds c = (omega arith, refl, refl, refl, refl, refl, refl, refl, piece-none _ _ _ _ _ _ _ _)
@@ -36,13 +36,13 @@ sub-block-at c = search needs
 
 block-at-requires : tie.Need-block-at-requires Inv-loop μ-loop
 block-at-requires c κs = let p =
-    c .before .before .before .before .before .before .before .before .before .before .before .before .before .before .before .before .pre .0 in (
+    c .before .before .before .before .before .before .before .before .before .before .before .before .before .before .before .pre .0 in (
       p .adm .admissible .cabinet,
       omega arith,
       omega (
         arith,
         p .within,
-        groups-under (c .before .before .before .before .before .before .before .before .before .before .before .before .before .before .before .before .args .l),
+        groups-under (c .before .before .before .before .before .before .before .before .before .before .before .before .before .before .before .args .l),
       ),
       c .before .before .row-count .ensures .few,
     )
@@ -54,7 +54,7 @@ repair-block-requires : tie.Need-repair-block-requires Inv-loop μ-loop
 repair-block-requires c κs =
     let s =
     c .before .before .before .before .before .before .before .before .before .before .before .before .before .before .before .before .before .before .before .before
-    .before .before .before .before .before in
+    .before .before .before .before in
     let a = s .args in
     let o = c .before .before .before .before .before .before .before .before .before .before .loop in
     let w = c .before .before .before .before .before .before .before .before .block-at in (
@@ -66,7 +66,6 @@ repair-block-requires c κs =
           (omega (arith, w .ensures .1 .within)) (s .pre .1) (o .inv .1),
       rooms-next (a .sums .now) (a .sides .now) (a .found .now) (a .points .now) (a .coefs .now) (a .row .now) (a .cur .now) _ _ _ _ _ _ _ (s .pre .2) (o .inv .1)
           (o .inv .2) (o .inv .3) (o .inv .4) (o .inv .5) (o .inv .6) (o .inv .7),
-      s .pre .3,
     )
 
 add-k : tie.Need-add-k Inv-loop μ-loop
@@ -80,7 +79,7 @@ loop-again c =
     let a =
     c .before .before .before .before .before .before .before .before .before .before .before .before .before .before .before .before .before .before .before .before
     .before .before .before .before .before .before .before .before .before .before .before .before .before .before .before .before .before .before .before .before
-    .before .before .args in
+    .before .args in
     let o =
     c .before .before .before .before .before .before .before .before .before .before .before .before .before .before .before .before .before .before .before .before
     .before .before .before .before .before .before .before .loop in
@@ -127,7 +126,7 @@ same-length-8 c = search needs
 
 returns : tie.Need-returns Inv-loop μ-loop
 returns c =
-    let a = c .before .before .before .before .before .before .before .before .before .before .before .before .before .before .before .before .args in
+    let a = c .before .before .before .before .before .before .before .before .before .before .before .before .before .before .before .args in
     subst (λ n. Piece gf257 (a .l) (a .lost .now) (a .helpers .now) (a .shares .now) (a .host .now) (a .first) n (a .spare .now) (c .before .loop .spare)) (omega arith) (c .before .loop .inv .8)
 
 pub repair-blocks-spec : {M : Type 1} → statement M

@@ -12,7 +12,7 @@ solve-block-spec =
     (λ c κs.
     let d = c .before .before .before .before in
     let r = d .before .are-racks .ensures (d .if1 .taken) in
-    (search needs, search needs, search needs, search needs, search needs, search needs, r .0, r .1))
+    (search needs, search needs, search needs, search needs, search needs, r .0, r .1))
     (λ c. search needs)
     (λ c. search needs)
     (λ c. search needs)

@@ -8,7 +8,7 @@ solve-racks-spec =
     tie.close (tie.spec
     (λ c. search needs)
     (λ c. search needs)
-    (λ c κs. (search needs, search needs, search needs, search needs, search needs, search needs, search needs, search needs, whole-room, whole-room))
+    (λ c κs. (search needs, search needs, search needs, search needs, search needs, search needs, search needs, whole-room, whole-room))
     (λ c. search needs)
     (λ c. search needs)
     (λ c. search needs)

@@ -17,39 +17,37 @@ solve-rows-spec =
     (λ c κs.
     let p = c .before .before .before .before .before .before .before .before in
     let y = p .before .before .before in
-    let s = y .before .before .before .before .before .before .before .before .before .before in
+    let s = y .before .before .before .before .before .before .before .before .before in
     let a = s .args in
-    let r = y .cycle-of .result in (
-      rooms-of (a .l) (a .w) (a .first) (a .es .now) (a .n) (a .sums .now) (a .found .now) (a .points .now) (a .coefs .now) (a .row .now)
-          (s .pre .0) (s .pre .3) (s .pre .7) (s .pre .4) .wide-of (a .e) (r .run) (r .columns) (r .turns) (a .ys .now) (p .rack-points .last .0) (a .wide .now)
-          (s .pre .2) (y .cycle-of .ensures) (s .pre .8) (s .pre .9) (search needs),
-      s .pre .5,
-    ))
+    let r = y .cycle-of .result in
+    rooms-of (a .l) (a .w) (a .first) (a .es .now) (a .n) (a .sums .now) (a .found .now) (a .points .now) (a .coefs .now) (a .row .now)
+    (s .pre .0) (s .pre .3) (s .pre .6) (s .pre .4) .wide-of (a .e) (r .run) (r .columns) (r .turns) (a .ys .now) (p .rack-points .last .0) (a .wide .now)
+    (s .pre .2) (y .cycle-of .ensures) (s .pre .7) (s .pre .8) (search needs))
     (λ c κs.
     let z = c .before .before .before .before .before .before .before .before in
     let p = z .before .before .before .before .before .before .before .before .before in
-    let s = p .before .before .before .before .before .before .before .before .before .before .before .before .before in
+    let s = p .before .before .before .before .before .before .before .before .before .before .before .before in
     let a = s .args in
     let m = rooms-of (a .l) (a .w) (a .first) (a .es .now) (a .n) (a .sums .now) (a .found .now) (a .points .now) (a .coefs .now) (a .row .now)
-    (s .pre .0) (s .pre .3) (s .pre .7) (s .pre .4) in (
+    (s .pre .0) (s .pre .3) (s .pre .6) (s .pre .4) in (
       s .pre .0,
-      s .pre .6,
+      s .pre .5,
       s .pre .3,
-      m .rows-in (a .ys .now) (z .weighted-sums .last .0) (s .pre .8) (search needs),
+      m .rows-in (a .ys .now) (z .weighted-sums .last .0) (s .pre .7) (search needs),
       row-left (a .w) (a .row .now) (p .rack-points .last .1 .1 .1 .1 .1 .1 .1 .1 .0) (s .pre .4 .row-long) (p .rack-points .kept .1 .1 .1 .1 .1 .1 .1 .1 .0),
     ))
     (λ c κs.
     let z = c .before .before .before .before .before .before .before in
     let y = z .before .before .before .before .before .before .before .before .before in
     let p = y .before .before .before .before .before .before .before .before .before in
-    let s = p .before .before .before .before .before .before .before .before .before .before .before .before .before in
+    let s = p .before .before .before .before .before .before .before .before .before .before .before .before in
     let a = s .args in
     let m = rooms-of (a .l) (a .w) (a .first) (a .es .now) (a .n) (a .sums .now) (a .found .now) (a .points .now) (a .coefs .now) (a .row .now)
-    (s .pre .0) (s .pre .3) (s .pre .7) (s .pre .4) in (
-      s .pre .6,
+    (s .pre .0) (s .pre .3) (s .pre .6) (s .pre .4) in (
+      s .pre .5,
       m .some-layers,
       m .symbols-in (a .found .now) refl,
-      m .sums-in (a .ys .now) (z .lower-rows .last .0) (s .pre .8) (z .lower-rows .kept .0 ∙ y .weighted-sums .kept .0),
+      m .sums-in (a .ys .now) (z .lower-rows .last .0) (s .pre .7) (z .lower-rows .kept .0 ∙ y .weighted-sums .kept .0),
       row-left (a .w) (a .row .now) (z .lower-rows .last .1 .1 .1 .1 .1 .0) (s .pre .4 .row-long)
           (z .lower-rows .kept .1 .1 .1 .1 .1 .0 ∙ p .rack-points .kept .1 .1 .1 .1 .1 .1 .1 .1 .0),
     ))
@@ -65,11 +63,11 @@ solve-rows-spec =
     let z = x .before .before .before .before .before .before .before .before .before in
     let p = z .before .before .before .before .before .before .before .before .before in
     let y = p .before .before .before in
-    let s = y .before .before .before .before .before .before .before .before .before .before in
+    let s = y .before .before .before .before .before .before .before .before .before in
     let a = s .args in
     let r = y .cycle-of .result in
-    found-racks (a .l) (a .w) (a .first) (a .es .now) (a .n) (a .sums .now) (z .weighted-sums .last .0) (x .lower-rows .last .0) (q .racks-symbols .last .0) (s .pre .0 .adm) (s .pre .3) (s .pre .7)
-    (s .pre .6)
-    (weighted-solved working (a .l) (a .w) (a .first) (a .es .now) (a .n) (a .e) (r .run) (r .columns) (r .turns) (s .pre .0) (s .pre .2) (y .cycle-of .ensures) (s .pre .7)
+    found-racks (a .l) (a .w) (a .first) (a .es .now) (a .n) (a .sums .now) (z .weighted-sums .last .0) (x .lower-rows .last .0) (q .racks-symbols .last .0) (s .pre .0 .adm) (s .pre .3) (s .pre .6)
+    (s .pre .5)
+    (weighted-solved working (a .l) (a .w) (a .first) (a .es .now) (a .n) (a .e) (r .run) (r .columns) (r .turns) (s .pre .0) (s .pre .2) (y .cycle-of .ensures) (s .pre .6)
     (p .rack-points .last .0) (p .rack-points .ensures) (a .sums .now) (z .weighted-sums .last .0) (z .weighted-sums .ensures))
     (x .lower-rows .ensures) (q .racks-symbols .ensures .0) (q .racks-symbols .ensures .1)))

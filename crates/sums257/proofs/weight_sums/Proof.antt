@@ -12,7 +12,7 @@ solve-sides-requires : tie.Need-solve-sides-requires
 solve-sides-requires c κs =
     let s =
     c .before .before .before .before .before .before .before .before .before .before .before .before .before .before .before .before .before .before .before .before
-    .before .before .before .before .before in
+    .before .before .before .before in
     let a = s .args in (
       s .pre .0 .received .chosen,
       s .pre .0 .block,
@@ -20,14 +20,13 @@ solve-sides-requires c κs =
           (a .found .now) (a .points .now) (a .coefs .now) (a .row .now) (a .cur .now) (s .pre .0) _ _
           (c .before .before .before .before .before .before .before .before .before .before .before .block-sides .kept .0)
           (c .before .before .before .before .before .before .before .before .before .before .before .block-sides .kept .1 .1 .1 .1 .1 .1 .1 .1 .1 .1 .0),
-      s .pre .3,
     )
 
 weigh-sums-requires : tie.Need-weigh-sums-requires
 weigh-sums-requires c κs =
     let s =
     c .before .before .before .before .before .before .before .before .before .before .before .before .before .before .before .before .before .before .before .before
-    .before .before .before .before .before .before .before .before .before .before .before .before .before .before .before .before in
+    .before .before .before .before .before .before .before .before .before .before .before .before .before .before .before in
     let a = s .args in
     weighing-of (a .l) (a .h) (a .w) (a .first) (a .helpers .now) (a .shares .now) (a .e) (a .sums .now) (a .sides .now) (a .found .now) (a .points .now)
     (a .coefs .now) (a .row .now) (a .cur .now) (s .pre .0) (a .m) _ (s .pre .1)
@@ -58,7 +57,7 @@ returns : tie.Need-returns
 returns c =
     let s =
     c .before .before .before .before .before .before .before .before .before .before .before .before .before .before .before .before .before .before .before .before
-    .before .before .before .before .before .before .before .before .before .before .before .before .before .before .before .before .before .before .before in
+    .before .before .before .before .before .before .before .before .before .before .before .before .before .before .before .before .before .before in
     let a = s .args in
     weights-more working (a .l) (a .h) (a .w) (a .first) (a .helpers .now) (a .shares .now) (a .e) (a .m) _ _ (a .sums .now) _ (s .pre .0 .received .chosen)
     (c .before .before .before .before .before .before .before .before .before .before .before .before .before .before .before .before .before .before .before
