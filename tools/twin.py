@@ -39,6 +39,7 @@ TWINS = {
     'locating': [],
     'correcting': [],
     'share': [],
+    'batch_share': [],
     'seen': [],
     'repair': [],
     'reading': [],
