@@ -42,6 +42,7 @@ TWINS = {
     'batch_share': [],
     'seen': [],
     'repair': [],
+    'batch_repair': [],
     'reading': [],
     'recover': [],
     'recover_correcting': [],

@@ -30,11 +30,11 @@ use Rattle.batch_share.specs.Inner.{Gathering, Feeding, Fed, Shared}
 use Rattle.batch_share.proofs.Refusals.{accepted}
 
 -- symbol n of codeword q
-place-is : (n m q a b : ℕ) → n ≡ a + b → n * m + q ≡ a * m + (b * m + q)
+pub place-is : (n m q a b : ℕ) → n ≡ a + b → n * m + q ≡ a * m + (b * m + q)
 place-is n m q a b e = ap (λ y. y * m + q) e ∙ ap (λ y. y + q) (add-mul a b m) ∙ omega arith
 
 -- number i of run k
-run-place : (k run i m q : ℕ) → (k * run + i) * m + q ≡ k * (run * m) + (i * m + q)
+pub run-place : (k run i m q : ℕ) → (k * run + i) * m + q ≡ k * (run * m) + (i * m + q)
 run-place k run i m q = place-is (k * run + i) m q (k * run) i refl ∙ ap (λ y. y + (i * m + q)) (mul-assoc k run m)
 
 -- the same of a tray

@@ -25,7 +25,10 @@ refusal-spec =
     (λ c. search needs)
     (λ c κs. cabinet (c .before))
     (λ c. search needs)
-    (λ c. record { fits = let b = bounds _ (cabinet (c .before .before)) in let k = cabinet (c .before .before) in mul-below trayLimit layerLimit (omega arith) (omega (arith, c .before .layer-count .ensures, k .layers-high)) tt })
+    (λ c. record {
+      fits = let b = bounds _ (cabinet (c .before .before)) in let k = cabinet (c .before .before) in
+          mul-below trayLimit layerLimit (omega arith) (omega (arith, c .before .layer-count .ensures, k .layers-high)) tt;
+    })
     (λ c κs. let b = bounds _ (cabinet (c .before .before)) in mul-pos (b .size-low) (omega (arith, c .before .layer-count .ensures, b .layers-low)))
     (λ c. search (return-2 gf256))
     (λ c κs. omega (arith, groups-pos _ (cabinet (c .before .before .before .before)), c .before .before .group-count .ensures))

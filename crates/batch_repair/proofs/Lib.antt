@@ -1,0 +1,5 @@
+pub mod Symbols
+pub mod Refusals
+pub mod Rows
+pub mod Pieces
+pub mod Cutting
