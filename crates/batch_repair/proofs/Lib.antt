@@ -3,3 +3,4 @@ pub mod Refusals
 pub mod Rows
 pub mod Pieces
 pub mod Cutting
+pub mod Single
