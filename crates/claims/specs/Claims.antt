@@ -65,6 +65,7 @@ use Rattle.bench_book.specs.Table.{AllHold, benchBook}
 use Rattle.claims.specs.Words.{Refuses, Grounded, LayerAlike, OthersAlike}
 use Rattle.claims.specs.Looks.{Looks}
 use Rattle.claims.specs.TraysToRecords.{TraysToRecords}
+use Rattle.claims.specs.Batches.{BatchRepairs}
 use Rattle.claims.specs.Boundary.{Handed, Handed256}
 
 -- DEMAND 1. "Whatever layout, list, image or buffer arrives, every call ends with an answer": the checker proves it of each function, and no public call has a
@@ -359,6 +360,8 @@ pub record Claims {A : Type 0} (f : Field A) (ed : Edition) (l : Layout) : Type 
   pub looks : Looks f l
   pub handed : Handed f l
   pub trays-to-records : TraysToRecords f ed l
+  -- many codewords a call
+  pub batch-repairs : BatchRepairs f l
 
 -- THE FIELD OF 256
 pub record Claims256 (l : Layout) : Type 0 where

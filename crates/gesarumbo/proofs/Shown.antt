@@ -26,6 +26,7 @@ use Rattle.algebra.specs.Shape.{Field}
 use Rattle.gesarumbo.specs.declared.numbers.ImageNumbers.{ImageNumbers}
 use Rattle.gesarumbo.specs.declared.numbers.PartNumbers.{PartNumbers}
 use Rattle.repair.specs.declared.RepairNumbers.{RepairNumbers}
+use Rattle.batch_repair.specs.RepairBatch.{RepairBatchAnswer}
 use Rattle.correcting.specs.declared.Corrected.{Corrected}
 use Rattle.correcting.specs.Correcting.{report as corrected, CorrectingAnswer}
 use Rattle.cards.specs.Cards.{CardAnswer}
@@ -98,6 +99,12 @@ module _ {A : Type 0} (f : Field A) (l : Layout) (helpers shares host : List ℕ
       Shown (RepairAnswer f l (lost ∷ []) helpers shares host first budget old new) report r
   repair-shown lost t e right shown =
       repair-many-shown (lost ∷ []) (subst (λ x. RepairAnswer f l (x ∷ []) helpers shares host first budget old new a) e right) shown
+
+  -- the same of many codewords
+  pub repair-batch-shown : (many lost : ℕ) (t : Tray) → t .0 ≡ lost → RepairBatchAnswer f l many (t .0) helpers shares host first budget old new a → r ≡ report a →
+      Shown (RepairBatchAnswer f l many lost helpers shares host first budget old new) report r
+  repair-batch-shown many lost t e right shown =
+      record { answer = a; right = subst (λ x. RepairBatchAnswer f l many x helpers shares host first budget old new a) e right; shown = shown }
 
 -- the calls for one lost tray, by its number
 module _ {A : Type 0} (f : Field A) (l : Layout) (helpers shares host old new : List ℕ) (lost : ℕ) (t : Tray) (e : t .0 ≡ lost) where

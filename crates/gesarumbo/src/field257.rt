@@ -29,6 +29,8 @@ ghost use Rattle.share.specs.Many.{sharesRefusal, sharesBuffer, fedRefusal, fed
 ghost use Rattle.scrub.specs.Scrub.{scrubbed, begun};
 ghost use Rattle.codeword.specs.Test.{TestAnswer};
 ghost use Rattle.repair.specs.Repair.{report, RepairAnswer};
+ghost use Rattle.batch_share.specs.ShareBatch.{ShareBatchAnswer};
+ghost use Rattle.batch_repair.specs.RepairBatch.{RepairBatchAnswer};
 ghost use Rattle.correcting.specs.Correcting.{report as corrected, CorrectingAnswer};
 ghost use Rattle.cards.specs.Cards.{PrintAnswer, CardAnswer, TestAnswer as CardTest};
 ghost use Rattle.recover_correcting.specs.RecoverCorrecting.{report as recovered, CorrectionAnswer};
@@ -156,6 +158,48 @@ pub extern "C" fn gesarumbo257_repair_many(
         l,
         shares,
         host,
+        first,
+        budget,
+    ))
+}
+
+#[no_mangle]
+pub extern "C" fn gesarumbo257_share_batch(
+    l: Layout,
+    many: usize,
+    host: u32,
+    helper: u32,
+    rack: &[u16],
+    share: &mut [u16],
+) -> u32
+    ensures { λ r. ⌜ ShareBatchAnswer gf257 l many host helper (now (rack .entry)) (now (share .entry)) (now (share .exit)) r ⌝ }
+{
+    batch_share257::share_batch(l, many, Rack::of(host), Rack::of(helper), rack, share) as u32
+}
+
+#[no_mangle]
+pub extern "C" fn gesarumbo257_repair_batch(
+    l: Layout,
+    many: usize,
+    lost: u32,
+    helpers: &[u32],
+    shares: &[u16],
+    host: &[u16],
+    spare: &mut [u16],
+    first: u64,
+    budget: u64,
+) -> RepairNumbers
+    ensures { λ r. ⌜ Shown (RepairBatchAnswer gf257 l many lost (now (helpers .entry)) (now (shares .entry)) (now (host .entry)) first budget (now (spare .entry))
+        (now (spare .exit))) report r ⌝ }
+{
+    numbers::repair_numbers(batch_repair257::repair_batch(
+        l,
+        many,
+        Tray::of(lost),
+        helpers,
+        shares,
+        host,
+        spare,
         first,
         budget,
     ))

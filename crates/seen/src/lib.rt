@@ -53,7 +53,7 @@ fn groups_symbols(host: &[u8], at: usize, s: usize, unit: usize, first: usize, c
 }
 
 // Whether a tray is listed, or its numbers of these groups are symbols.
-fn tray_symbols(
+pub fn tray_symbols(
     lost: &[u32],
     tray: u32,
     host: &[u8],

@@ -61,7 +61,7 @@ fn groups_symbols(
 }
 
 // Whether a tray is listed, or its numbers of these groups are symbols.
-fn tray_symbols(
+pub fn tray_symbols(
     lost: &[u32],
     tray: u32,
     host: &[u16],

@@ -29,13 +29,13 @@ const SHORT: usize = 4;
 const AT_ONCE: u32 = 4;
 
 // The numbers of a layout that a call needs again and again, worked out once.
-struct Counts {
-    digits: u32,
-    layers: u32,
-    groups: u32,
+pub struct Counts {
+    pub digits: u32,
+    pub layers: u32,
+    pub groups: u32,
 }
 
-fn counts_of(l: Layout) -> Counts
+pub fn counts_of(l: Layout) -> Counts
     requires { ⌜ Cabinet l ⌝ }
     ensures { λ n. ⌜ CountsOf l (n .digits) (n .layers) (n .groups) ⌝ }
 {
@@ -50,15 +50,15 @@ fn counts_of(l: Layout) -> Counts
 
 // How a tray's layers lie for a host rack: for each of so many runs of consecutive groups one run of layers for each digit of that rack, one after another; and how
 // many layers there are.
-struct HostRuns {
-    digits: usize,
-    length: usize,
-    count: usize,
-    layers: usize,
+pub struct HostRuns {
+    pub digits: usize,
+    pub length: usize,
+    pub count: usize,
+    pub layers: usize,
 }
 
 // The layers of s^h consecutive groups with the same digit are consecutive.
-fn runs_of(l: Layout, n: Counts, h: u32) -> HostRuns
+pub fn runs_of(l: Layout, n: Counts, h: u32) -> HostRuns
     requires { ⌜ Cabinet l × (h < l .racks) × CountsOf l (n .digits) (n .layers) (n .groups) ⌝ }
     ensures { λ r. ⌜ RunsOf l h (r .digits) (r .length) (r .count) (r .layers) ⌝ }
 {
@@ -270,7 +270,7 @@ fn add_even(
 }
 
 // The same for any number of digits; layouts have at most four.
-fn add_long(
+pub fn add_long(
     s: usize,
     run: usize,
     count: usize,
@@ -587,7 +587,7 @@ pub fn share_add(l: Layout, host: Rack, tray: Tray, symbols: &[u16], share: &mut
 }
 
 // So many trays are fed at once where so many are left.
-fn at_once(left: u32) -> u32
+pub fn at_once(left: u32) -> u32
     requires { ⌜ 0 < left ⌝ }
     ensures { λ m. ⌜ (0 < m) × (m ≤ left) × (m ≤ 4) ⌝ }
 {

@@ -1,0 +1,6 @@
+pub mod Symbols
+pub mod Refusals
+pub mod Rows
+pub mod Pieces
+pub mod Cutting
+pub mod Single

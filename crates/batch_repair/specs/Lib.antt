@@ -1,0 +1,3 @@
+pub mod RepairBatch
+pub mod BatchCalls
+pub mod Inner

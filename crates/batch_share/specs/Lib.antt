@@ -1,0 +1,2 @@
+pub mod ShareBatch
+pub mod Inner

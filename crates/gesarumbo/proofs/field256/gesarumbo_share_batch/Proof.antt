@@ -1,0 +1,17 @@
+use mathlib.Core.Path.{sym}
+use borrow.Author.Needs.{needs}
+use Rattle.gesarumbo.proofs.field256.gesarumbo_share_batch.Statement.{statement}
+use Rattle.gesarumbo.proofs.field256.gesarumbo_share_batch.Tie as tie
+
+pub gesarumbo-share-batch-spec : {M : Type 1} → statement M
+gesarumbo-share-batch-spec =
+    tie.close (tie.spec
+    (λ c κs. search needs)
+    (λ c κs. search needs)
+    (λ c κs. search needs)
+    (λ c. search needs)
+    (λ c. search needs)
+    (λ c.
+    let h = c .before .before .before .before .before .of .ensures in
+    let i = c .before .before .before .before .of2 .ensures in
+    rw (sym h, sym i) (c .before .before .share-batch .ensures)))
