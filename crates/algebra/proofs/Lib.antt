@@ -24,3 +24,4 @@ pub mod Locate
 pub mod Inverse
 pub mod Places
 pub mod Racks
+pub mod Below
