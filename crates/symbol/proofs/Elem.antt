@@ -11,7 +11,7 @@ use Rattle.algebra.specs.Sum.{pow}
 use Rattle.algebra.specs.Shape.{Root, FieldLaws}
 use Rattle.algebra.specs.Below.{below}
 use Rattle.algebra.proofs.Pow.{pow-zero, pow-suc}
-use Rattle.algebra.proofs.Below.{elem-path, small, same?, some, val-mod as b-val-mod, val-elem as b-val-elem, elem-val as b-elem-val, coded as b-coded}
+use Rattle.algebra.proofs.Below.{elem-path, small, same?, some, val-mod as b-val-mod, val-elem as b-val-elem, coded as b-coded}
 use Rattle.symbol.specs.Arithmetic.{_⊕_, _⊗_, mulz, shiftAdd, power, zpow, root, order}
 use Rattle.symbol.specs.Elem.{Elem, elem, squares, ops, z, coding, gf256}
 use Rattle.symbol.proofs.Xor.{⊕-comm, ⊕-assoc, zero-⊕, ⊕-self, ⊕-lt, ⊕-mod}
@@ -24,9 +24,6 @@ val-mod = b-val-mod (lit< tt)
 
 pub val-elem : (n : ℕ) → n < 256 → (elem n) .val ≡ n
 val-elem = b-val-elem (lit< tt)
-
-pub elem-val : (x : Elem) → elem (x .val) ≡ x
-elem-val = b-elem-val (lit< tt)
 
 -- ---- the operations, by values
 pub val-add : (x y : Elem) → (ops .add x y) .val ≡ x .val ⊕ y .val
