@@ -26,10 +26,23 @@ def named():
 
 
 def used(path, name):
-    """Whether a file uses a name of its own beside where it is stated and proved."""
-    head = re.compile(r'^ {%d}(?:(?:unfoldable )?pub )?%s(?=[\s:])' % (file(path).depths[name], re.escape(name)))
-    lines = [head.sub('', said(line), 1) for line in read(path).split('\n') if not line.startswith('use ')]
-    return any(re.search(r'(?<![^\s(){}\[\];,])%s(?![^\s(){}\[\];,.])' % re.escape(name), line) for line in lines)
+    """Whether a file uses a name of its own outside its own statement and proof: a lemma that only cites itself is used by nothing."""
+    depth = file(path).depths[name]
+    head = re.compile(r'^ {%d}(?:(?:unfoldable )?pub )?%s(?=[\s:])' % (depth, re.escape(name)))
+    use = re.compile(r'(?<![^\s(){}\[\];,])%s(?![^\s(){}\[\];,.])' % re.escape(name))
+    own = False
+    for line in read(path).split('\n'):
+        text = said(line)
+        if not text.strip() or line.startswith('use '):
+            continue
+        indent = len(line) - len(line.lstrip())
+        if head.match(text):
+            own = True
+        elif indent <= depth and not line.lstrip().startswith('unfolding '):
+            own = False
+        if not own and use.search(text):
+            return True
+    return False
 
 
 def main():

@@ -25,3 +25,4 @@ pub mod Locate
 pub mod Inverse
 pub mod Places
 pub mod Racks
+pub mod Below

@@ -13,3 +13,4 @@ pub mod Repair
 pub mod Plain
 pub mod Consistent
 pub mod Locate
+pub mod Below

@@ -8,6 +8,7 @@ use borrow.Author.Tests.{eqb-true, ltb-true}
 use lib.Dec.{eqb, ltb}
 use lib.IntN.{ℤ}
 use lib.ListN.{length, getD}
+use Rattle.algebra.specs.Below.{below}
 use Rattle.lists.specs.Lists.{all, allBelow, table}
 use Rattle.lists.proofs.Bools.{both, all-holds}
 use Rattle.algebra.specs.Field.{Ops}
@@ -20,7 +21,8 @@ use Rattle.algebra.specs.Layers.{digit, groupOf}
 use Rattle.algebra.specs.Cabinet.{layerPoint, groupSum}
 use Rattle.symbol.specs.Arithmetic.{_⊕_, _⊗_, shiftAdd, mulz}
 use Rattle.symbol.specs.Elem.{Elem, elem, ops, gf256, coding}
-use Rattle.symbol.proofs.Elem.{elem-path, val-zero}
+use Rattle.algebra.proofs.Below.{elem-path}
+use Rattle.symbol.proofs.Elem.{val-zero}
 use Rattle.symbol.proofs.Working.{working}
 use Rattle.layout.specs.declared.Layout.{Layout}
 use Rattle.layout.specs.Layout.{trays, checks, layers, admissible, lostCountFits, sizeAllowed, measured}
@@ -71,7 +73,7 @@ module _ (l : Layout) (given c : List ℕ) where
       subst (Stores gf256 l given) (sym (w .1 .only c word front)) (w .1)
 
 stored : (isStored (cabinet 2 1 1 1) (0xA7 ∷ []) (0xA7 ∷ 0xA7 ∷ []) ≡ true) × (isStored (cabinet 3 1 1 2) tray0 (tray0 ++ tray1 ++ tray2) ≡ true)
-unfolding isStored admissible sizeAllowed all checkAt check pointAt layerPoint trayPoint point digit symbolAt sum pow ops elem _⊕_ _⊗_ shiftAdd mulz
+unfolding isStored admissible sizeAllowed all checkAt check pointAt layerPoint trayPoint point digit symbolAt sum pow ops below _⊕_ _⊗_ shiftAdd mulz
 stored = (refl, refl)
 
 -- THE BENCH BOOK

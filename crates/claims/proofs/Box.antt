@@ -11,6 +11,7 @@ use borrow.Author.Tests.{eq-eqb, ne-eqb, eqb-true, ltb-true}
 use lib.Bits.{bitXor}
 use lib.Dec.{eqb, ltb}
 use lib.ListN.{length, getD}
+use Rattle.algebra.specs.Below.{below}
 use Rattle.lists.specs.Lists.{all, absent, allBelow}
 use Rattle.lists.proofs.Bools.{all-holds, all-false, not-both, both, either, passed}
 use Rattle.lists.proofs.Numbered.{below-false, below-all}
@@ -69,7 +70,7 @@ unfolding points
 points-are = refl
 
 field : BoxField
-unfolding elem
+unfolding below
 field = record {
   field = field-laws;
   adds = adds;

@@ -9,6 +9,7 @@ use native.Mathlib.Omega.{arith}
 use borrow.Author.Tests.{eq-eqb, eqb-true}
 use lib.Bits.{bitXor}
 use lib.Dec.{eqb}
+use Rattle.algebra.specs.Below.{below}
 use Rattle.lists.specs.Lists.{all}
 use Rattle.lists.proofs.Bools.{all-holds, either}
 use Rattle.algebra.specs.Sum.{pow}
@@ -50,11 +51,11 @@ eighth-256 = val-pow 8 ∙ eight
     eight = unfold power _⊗_ shiftAdd mulz _⊕_ in refl
 
 pub adds-257 : (a b : ℕ) → gf257 .coding .val (gf257 .ops .add (gf257 .coding .elem a) (gf257 .coding .elem b)) ≡ (a + b) % 257
-unfolding ops elem
+unfolding ops below
 adds-257 a b = mod-add-mod a 257 (b % 257) ∙ add-mod-mod a b 257
 
 pub multiplies-257 : (a b : ℕ) → gf257 .coding .val (gf257 .ops .mul (gf257 .coding .elem a) (gf257 .coding .elem b)) ≡ (a * b) % 257
-unfolding ops elem
+unfolding ops below
 multiplies-257 a b = mul-mod a b 257
 
 -- one of five numbers

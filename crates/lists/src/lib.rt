@@ -2,7 +2,6 @@
 // make, the smaller of two numbers, and clearing a buffer. Each test answers exactly what its definition says, for a list of any length and content.
 ghost use mathlib.Core.Path.{_≡_};
 ghost use Prim.Native.Nat.{min};
-ghost use lib.ListN.{length, replicate};
 ghost use Rattle.lists.specs.Lists.{allBelow, strictlyRising, absent};
 
 // Whether every number is below n.
@@ -52,15 +51,4 @@ pub fn smaller(a: u64, b: u64) -> u64
     ensures { λ r. ⌜ r ≡ min a b ⌝ }
 {
     if a < b { a } else { b }
-}
-
-// Sets every number to zero.
-pub fn clear(out: &mut [u8])
-    ensures { λ _. ⌜ now (out .exit) ≡ replicate (length (now (out .entry))) 0 ⌝ }
-{
-    let mut i = 0usize;
-    while i < out.len() {
-        out[i] = 0;
-        i += 1;
-    }
 }

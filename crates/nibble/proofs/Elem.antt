@@ -15,24 +15,19 @@ use Rattle.algebra.proofs.Pow.{pow-zero, pow-suc}
 use Rattle.symbol.specs.Arithmetic.{_⊕_}
 use Rattle.symbol.proofs.Xor.{⊕-comm, ⊕-assoc, zero-⊕, ⊕-self, ⊕-mod}
 use Rattle.nibble.specs.Arithmetic.{_⊗_, shiftAdd, power}
+use Rattle.algebra.specs.Below.{Below, below}
+use Rattle.algebra.proofs.Below.{elem-path, small, same?, some, val-mod as b-val-mod, val-elem as b-val-elem, elem-val as b-elem-val, coded as b-coded}
 use Rattle.nibble.specs.Elem.{Elem, elem, ops, coding}
 use Rattle.nibble.proofs.Laws.{⊗-lt, ⊗-comm, ⊗-assoc, ⊗-⊕, one-⊗, inverse-⊗, ⊕-lt, power-lt}
 
-pub elem-path : (a b : Elem) → a .val ≡ b .val → a ≡ b
-elem-path a b e = λ i. record { val = e i; small = isProp→PathP (λ i. T (ltb (e i) 16)) (λ i. T-prop (ltb (e i) 16)) (a .small) (b .small) i }
-
-pub small : (a : Elem) → a .val < 16
-small a = ltb→lt (a .val) 16 (a .small)
-
 pub val-mod : (n : ℕ) → (elem n) .val ≡ n % 16
-unfolding elem
-val-mod n = refl
+val-mod = b-val-mod (lit< tt)
 
 pub val-elem : (n : ℕ) → n < 16 → (elem n) .val ≡ n
-val-elem n h = val-mod n ∙ mod-eq-of-lt h
+val-elem = b-val-elem (lit< tt)
 
 pub elem-val : (a : Elem) → elem (a .val) ≡ a
-elem-val a = elem-path (elem (a .val)) a (val-elem (a .val) (small a))
+elem-val = b-elem-val (lit< tt)
 
 -- ---- the operations, by values
 pub val-add : (a b : Elem) → (ops .add a b) .val ≡ a .val ⊕ b .val
@@ -48,11 +43,11 @@ unfolding ops
 val-inv a = val-elem (power (a .val) 14) (power-lt (a .val) 14)
 
 pub val-zero : ops .zero .val ≡ 0
-unfolding ops elem
+unfolding ops below
 val-zero = refl
 
 pub val-one : ops .one .val ≡ 1
-unfolding ops elem
+unfolding ops below
 val-one = refl
 
 pub neg-is : (a : Elem) → ops .neg a ≡ a
@@ -93,16 +88,6 @@ pub elem-same : {m n : ℕ} → m < 16 → n < 16 → elem m ≡ elem n → m �
 elem-same {m} {n} h l e = sym (val-elem m h) ∙ ap (λ x. x .val) e ∙ val-elem n l
 
 -- ---- the laws
-some : (a : Elem) → ¬ (a ≡ ops .zero) → 0 < a .val
-some a n = ⊎-elim (λ e. absurd (n (elem-path a (ops .zero) (e ∙ sym val-zero)))) (λ p. p) (eq-zero-or-pos (a .val))
-
-same? : (a b : Elem) → Dec (a ≡ b)
-same? a b = go (ℕ-discrete (a .val) (b .val))
-  where
-    go : Dec (a .val ≡ b .val) → Dec (a ≡ b)
-    go (yes e) = yes (elem-path a b e)
-    go (no d) = no (λ e. d (ap (λ x. x .val) e))
-
 zero-one : ¬ (_≡_ {A = ℕ} 1 0)
 zero-one e = omega arith
 
@@ -120,10 +105,10 @@ laws = record {
   mul-add = λ a b c. elem-path _ _ (
       val-mul a (ops .add b c) ∙ ap (λ (x : ℕ). a .val ⊗ x) (val-add b c) ∙ ⊗-⊕ (small a) (small b) (small c)
       ∙ sym (val-add (ops .mul a b) (ops .mul a c) ∙ ap₂ _⊕_ (val-mul a b) (val-mul a c)));
-  inv-mul = λ a n. elem-path _ _ (val-mul (ops .inv a) a ∙ ap (λ (x : ℕ). x ⊗ a .val) (val-inv a) ∙ inverse-⊗ (a .val) (some a n) (small a) ∙ sym val-one);
+  inv-mul = λ a n. elem-path _ _ (val-mul (ops .inv a) a ∙ ap (λ (x : ℕ). x ⊗ a .val) (val-inv a) ∙ inverse-⊗ (a .val) (some (lit< tt) a (λ e. n (e ∙ elem-zero))) (small a) ∙ sym val-one);
   one-not-zero = λ e. zero-one (sym val-one ∙ ap (λ x. x .val) e ∙ val-zero);
   decide = same?;
 }
 
 pub coded : Coded coding
-coded = record { val-below = small; elem-val = elem-val; val-elem = val-elem }
+coded = b-coded (lit< tt)

@@ -1,18 +1,17 @@
 -- The symbols are a field, and its root has 255 different powers.
 -- Assumes nothing.
 use mathlib.Core.Path.{_≡_, refl, sym, _∙_, ap, ap₂}
-use mathlib.Core.HLevel.{isProp→PathP}
-use mathlib.Core.Logic.{⊎-elim}
 use Prim.Native.Nat.{ℕ, zero, suc, _-_, _*_, _%_, _<_}
-use native.Mathlib.Nat.{mod-lt, mod-eq-of-lt, mul-comm, eq-zero-or-pos}
-use native.Mathlib.Decide.{ℕ-discrete}
+use native.Mathlib.Nat.{mod-lt, mod-eq-of-lt, mul-comm}
 use native.Mathlib.Omega.{arith}
-use lib.Dec.{T, T-prop, ltb, ltb→lt, lit<}
+use lib.Dec.{lit<}
 use Rattle.algebra.specs.Field.{Ops, Laws}
 use Rattle.algebra.specs.Coding.{Coded}
 use Rattle.algebra.specs.Sum.{pow}
 use Rattle.algebra.specs.Shape.{Root, FieldLaws}
+use Rattle.algebra.specs.Below.{below}
 use Rattle.algebra.proofs.Pow.{pow-zero, pow-suc}
+use Rattle.algebra.proofs.Below.{elem-path, small, same?, some, val-mod as b-val-mod, val-elem as b-val-elem, coded as b-coded}
 use Rattle.symbol.specs.Arithmetic.{_⊕_, _⊗_, mulz, shiftAdd, power, zpow, root, order}
 use Rattle.symbol.specs.Elem.{Elem, elem, squares, ops, z, coding, gf256}
 use Rattle.symbol.proofs.Xor.{⊕-comm, ⊕-assoc, zero-⊕, ⊕-self, ⊕-lt, ⊕-mod}
@@ -20,22 +19,11 @@ use Rattle.symbol.proofs.Laws.{⊗-comm, ⊗-assoc, ⊗-⊕, ⊗-lt, on
 use Rattle.symbol.proofs.Power.{power-zero, power-suc, power-lt, power-square, power-zpow, zpow-lt}
 use Rattle.symbol.proofs.Tables.{zpow-log, zpow-turns, zpow-inj, zpow-order, log}
 
-pub elem-path : (x y : Elem) → x .val ≡ y .val → x ≡ y
-elem-path x y e = λ i. record { val = e i; small = isProp→PathP (λ i. T (ltb (e i) 256)) (λ i. T-prop (ltb (e i) 256)) (x .small) (y .small) i }
-
-pub small : (x : Elem) → x .val < 256
-small x = ltb→lt (x .val) 256 (x .small)
-
-pub elem-val : (x : Elem) → elem (x .val) ≡ x
-unfolding elem
-elem-val x = elem-path (elem (x .val)) x (mod-eq-of-lt (small x))
-
 pub val-mod : (n : ℕ) → (elem n) .val ≡ n % 256
-unfolding elem
-val-mod n = refl
+val-mod = b-val-mod (lit< tt)
 
 pub val-elem : (n : ℕ) → n < 256 → (elem n) .val ≡ n
-val-elem n h = val-mod n ∙ mod-eq-of-lt h
+val-elem = b-val-elem (lit< tt)
 
 -- ---- the operations, by values
 pub val-add : (x y : Elem) → (ops .add x y) .val ≡ x .val ⊕ y .val
@@ -47,11 +35,11 @@ unfolding ops
 val-mul x y = val-elem (x .val ⊗ y .val) (⊗-lt (x .val) (y .val))
 
 pub val-zero : ops .zero .val ≡ 0
-unfolding ops elem
+unfolding ops below
 val-zero = refl
 
 pub val-one : ops .one .val ≡ 1
-unfolding ops elem
+unfolding ops below
 val-one = refl
 
 pub neg-is : (x : Elem) → ops .neg x ≡ x
@@ -120,16 +108,6 @@ unfolding ops
 val-inv x = val-elem (squares 7 (x .val)) (squares-lt 7 (x .val))
 
 -- ---- the laws
-some : (a : Elem) → ¬ (a ≡ ops .zero) → 0 < a .val
-some a n = ⊎-elim (λ e. absurd (n (elem-path a (ops .zero) (e ∙ sym val-zero)))) (λ p. p) (eq-zero-or-pos (a .val))
-
-same? : (a b : Elem) → Dec (a ≡ b)
-same? a b = go (ℕ-discrete (a .val) (b .val))
-  where
-    go : Dec (a .val ≡ b .val) → Dec (a ≡ b)
-    go (yes e) = yes (elem-path a b e)
-    go (no d) = no (λ e. d (ap (λ x. x .val) e))
-
 zero-one : ¬ (_≡_ {A = ℕ} 1 0)
 zero-one e = omega arith
 
@@ -147,13 +125,13 @@ laws = record {
   mul-add = λ a b c. elem-path _ _ (
       val-mul a (ops .add b c) ∙ ap (λ (x : ℕ). a .val ⊗ x) (val-add b c) ∙ ⊗-⊕ (a .val) (b .val) (c .val)
       ∙ sym (val-add (ops .mul a b) (ops .mul a c) ∙ ap₂ _⊕_ (val-mul a b) (val-mul a c)));
-  inv-mul = λ a n. elem-path _ _ (val-mul (ops .inv a) a ∙ ap (λ (x : ℕ). x ⊗ a .val) (val-inv a) ∙ squares-inverse (a .val) (some a n) (small a) ∙ sym val-one);
+  inv-mul = λ a n. elem-path _ _ (val-mul (ops .inv a) a ∙ ap (λ (x : ℕ). x ⊗ a .val) (val-inv a) ∙ squares-inverse (a .val) (some (lit< tt) a (λ e. n (e ∙ elem-zero))) (small a) ∙ sym val-one);
   one-not-zero = λ e. zero-one (sym val-one ∙ ap (λ x. x .val) e ∙ val-zero);
   decide = same?;
 }
 
 pub coded : Coded coding
-coded = record { val-below = small; elem-val = elem-val; val-elem = val-elem }
+coded = b-coded (lit< tt)
 
 val-pow : (n : ℕ) → (pow ops z n) .val ≡ zpow n
 unfolding zpow
@@ -171,7 +149,7 @@ gf256-laws = record { laws = laws; root = root-order; coded = coded }
 
 -- the inverse of zero
 pub inverse-zero : (n : ℕ) → n ≡ 0 → elem n ≡ ops .inv (elem n)
-unfolding ops elem squares
+unfolding ops below squares
 inverse-zero n e = elem-path _ _ (ap (λ (y : ℕ). y % 256) e ∙ sym (ap (λ (y : ℕ). squares 7 (y % 256) % 256) e ∙ nil))
   where
     nil : squares 7 0 % 256 ≡ 0

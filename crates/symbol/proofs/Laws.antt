@@ -82,11 +82,6 @@ unfolding shiftAdd
 shiftAdd-zero zero a = refl
 shiftAdd-zero (suc n) a = ap₂ _⊕_ (mul-zero (a % 2)) (ap (shiftAdd n (a / 2)) mulz-zero ∙ shiftAdd-zero n (a / 2)) ∙ zero-⊕ 0
 
-zero-shiftAdd : (n b : ℕ) → shiftAdd n 0 b ≡ 0
-unfolding shiftAdd
-zero-shiftAdd zero b = refl
-zero-shiftAdd (suc n) b = ap₂ _⊕_ (zero-mul b) (zero-shiftAdd n (mulz b)) ∙ zero-⊕ 0
-
 -- a bit times a sum of shifts
 bit-shiftAdd : (t n a b : ℕ) → t < 2 → shiftAdd n a (t * b) ≡ t * shiftAdd n a b
 bit-shiftAdd zero n a b h = ap (shiftAdd n a) (zero-mul b) ∙ shiftAdd-zero n a ∙ sym (zero-mul (shiftAdd n a b))
@@ -142,10 +137,6 @@ unfolding _⊗_
 pub ⊗-zero : (a : ℕ) → a ⊗ 0 ≡ 0
 unfolding _⊗_
 ⊗-zero = shiftAdd-zero 8
-
-pub zero-⊗ : (b : ℕ) → 0 ⊗ b ≡ 0
-unfolding _⊗_
-zero-⊗ b = zero-shiftAdd 8 (b % 256)
 
 pub ⊗-comm : (a b : ℕ) → a ⊗ b ≡ b ⊗ a
 unfolding _⊗_

@@ -1,7 +1,6 @@
 pub mod Xor
 pub mod Laws
 pub mod Shifts
-pub mod Ring
 pub mod Power
 pub mod Tables
 pub mod Elem

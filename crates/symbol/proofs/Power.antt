@@ -35,10 +35,6 @@ power-mul x d (suc e) =
     ap (power x) (mul-suc d e ∙ add-comm (d * e) d) ∙ power-add x d (d * e) ∙ ap (λ (y : ℕ). power x d ⊗ y) (power-mul x d e)
     ∙ sym (power-suc (power x d) e)
 
-pub power-of-one : (e : ℕ) → power 1 e ≡ 1
-power-of-one zero = power-zero 1
-power-of-one (suc e) = power-suc 1 e ∙ ap (λ (y : ℕ). 1 ⊗ y) (power-of-one e) ∙ one-⊗ (lit< tt)
-
 -- the exponent halved: the power of the square
 pub power-square : {x : ℕ} → x < 256 → (e : ℕ) → power (x ⊗ x) e ≡ power x (2 * e)
 power-square {x} h e = ap (λ (y : ℕ). power y e) (sym square) ∙ sym (power-mul x 2 e)

@@ -122,6 +122,3 @@ pub ⊕-left-comm : (a b c : ℕ) → a ⊕ (b ⊕ c) ≡ b ⊕ (a ⊕ c)
 
 pub ⊕-swap : (a b c d : ℕ) → a ⊕ b ⊕ (c ⊕ d) ≡ a ⊕ c ⊕ (b ⊕ d)
 ⊕-swap a b c d = ⊕-assoc a b (c ⊕ d) ∙ ap (λ (x : ℕ). a ⊕ x) (⊕-left-comm b c d) ∙ sym (⊕-assoc a c (b ⊕ d))
-
-pub ⊕-twice : (a b : ℕ) → a ⊕ (a ⊕ b) ≡ b
-⊕-twice a b = sym (⊕-assoc a a b) ∙ ap (λ (x : ℕ). x ⊕ b) (⊕-self a) ∙ zero-⊕ b

@@ -1,24 +1,19 @@
 -- The symbols as a field to code over: the numbers below 256 with `⊕` and `⊗`, and the root z.
 -- Assumes nothing.
-use Prim.Native.Nat.{ℕ, zero, suc, _%_, _<_}
-use native.Mathlib.Nat.{mod-lt}
-use lib.Dec.{T, ltb, lt→ltb, lit<}
+use Prim.Native.Nat.{ℕ, zero, suc}
+use lib.Dec.{lit<}
 use Rattle.algebra.specs.Field.{Ops}
 use Rattle.algebra.specs.Coding.{Coding}
+use Rattle.algebra.specs.Below.{Below, below, belowCoding}
 use Rattle.algebra.specs.Shape.{Field}
 use Rattle.symbol.specs.Arithmetic.{_⊕_, _⊗_, root, order}
 
-pub record Elem : Type 0 where
-  pub val : ℕ
-  pub small : T (ltb val 256)
-
--- shut, so that no computation of an element computes the proof
-pub small-of : (n : ℕ) → T (ltb (n % 256) 256)
-small-of n = lt→ltb (n % 256) 256 (mod-lt n (lit< tt))
+abbrev pub Elem : Type 0
+Elem = Below 256
 
 -- the element that a number stands for
-unfoldable pub elem : ℕ → Elem
-elem n = record { val = n % 256; small = small-of n }
+abbrev pub elem : ℕ → Elem
+elem = below 256 (lit< tt)
 
 -- x² · x⁴ · .. , n factors: with 7 of them x to the power 254, the inverse
 unfoldable pub squares : ℕ → ℕ → ℕ
@@ -26,7 +21,6 @@ squares zero x = 1
 squares (suc n) x = x ⊗ x ⊗ squares n (x ⊗ x)
 
 unfoldable pub ops : Ops Elem
-unfolding elem
 ops = record {
   add = λ x y. elem (x .val ⊕ y .val);
   mul = λ x y. elem (x .val ⊗ y .val);
@@ -38,7 +32,7 @@ ops = record {
 
 -- the field of document 01
 abbrev pub gf256 : Field Elem
-gf256 = record { ops = ops; root = elem root; order = order; coding = record { size = 256; elem = elem; val = λ x. x .val } }
+gf256 = record { ops = ops; root = elem root; order = order; coding = belowCoding 256 (lit< tt) }
 
 -- ---- what only code and proofs need
 -- the root z
