@@ -10,11 +10,11 @@ use lib.Bits.{xor-shifted, xor-lt}
 use lib.ListN.{length, getD}
 use lib.Pow.{pow-add}
 use Rattle.symbol.specs.Arithmetic.{_⊕_}
-use Rattle.symbol.proofs.Xor.{⊕-comm, ⊕-assoc, ⊕-zero, zero-⊕, ⊕-left-comm, ⊕-twice, ⊕-double}
+use Rattle.symbol.proofs.Xor.{⊕-comm, ⊕-assoc, ⊕-zero, zero-⊕, ⊕-left-comm, ⊕-double}
 use Rattle.checksum.specs.Checksum.{reversed, ones, step, steps, fed, checksumOf}
 use Rattle.checksum.specs.Remainder.{polynomial, times, bits, bitsOf, Remainder}
 use Rattle.checksum.proofs.Steps.{steps-⊕, steps-add, eight-even}
-use Rattle.checksum.proofs.Parts.{back}
+use Rattle.checksum.proofs.Parts.{⊕-twice, back}
 use Rattle.checksum.proofs.Falling.{falling, falling-⊕, falling-double, falling-byte, falling-short, falling-shift}
 use Rattle.checksum.proofs.Falling.{times-bits, times-byte}
 

@@ -5,13 +5,17 @@ use mathlib.Core.List.{List, [], _∷_, _++_}
 use Prim.Native.Nat.{ℕ}
 use lib.Bits.{bitXor}
 use Rattle.symbol.specs.Arithmetic.{_⊕_}
-use Rattle.symbol.proofs.Xor.{⊕-assoc, ⊕-self, ⊕-zero}
+use Rattle.symbol.proofs.Xor.{⊕-assoc, ⊕-self, ⊕-zero, zero-⊕}
 use Rattle.checksum.specs.Checksum.{ones, steps, fed, checksumOf}
 
 pub fed-append : (r : ℕ) (a b : List ℕ) → fed r (a ++ b) ≡ fed (fed r a) b
 unfolding fed
 fed-append r [] b = refl
 fed-append r (x ∷ a) b = fed-append (steps 8 (r ⊕ x)) a b
+
+-- a number added twice is gone
+pub ⊕-twice : (a b : ℕ) → a ⊕ (a ⊕ b) ≡ b
+⊕-twice a b = sym (⊕-assoc a a b) ∙ ap (λ (x : ℕ). x ⊕ b) (⊕-self a) ∙ zero-⊕ b
 
 -- the complement of the complement
 pub back : (r : ℕ) → r ⊕ ones ⊕ ones ≡ r

@@ -11,8 +11,9 @@ use lib.Bits.{xor-lt}
 use lib.ListN.{length}
 use lib.Pow.{pow-add, pow-pos, pow-mono}
 use Rattle.symbol.specs.Arithmetic.{_⊕_}
-use Rattle.symbol.proofs.Xor.{⊕-assoc, zero-⊕, ⊕-zero, ⊕-twice, ⊕-shr}
+use Rattle.symbol.proofs.Xor.{⊕-assoc, zero-⊕, ⊕-zero, ⊕-shr}
 use Rattle.checksum.specs.Remainder.{polynomial, bits, times, Remainder}
+use Rattle.checksum.proofs.Parts.{⊕-twice}
 use Rattle.checksum.proofs.Falling.{falling, times-bits}
 
 -- h is of degree m: of a bit times h and what is of lower degree, the sum tells the bit
