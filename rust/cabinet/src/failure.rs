@@ -6,7 +6,7 @@ use std::io;
 use std::path::Path;
 
 /// Why a command ended without doing its work.
-#[derive(Debug)]
+#[derive(Clone, Debug)]
 pub enum Failure {
     /// The library said no; `about` says to what.
     Refused { about: String, refusal: Refusal },

@@ -3,7 +3,7 @@
 use super::Command;
 use crate::code::field::in_field;
 use crate::code::symbol::{is_zero, to_data, Symbol};
-use crate::disk::{folder_of, Disk};
+use crate::disk::{folder_of, Disk, Kind, PIPE};
 use crate::failure::{Failure, Outcome};
 use crate::files::cabinet::Cabinet;
 use crate::files::description;
@@ -20,6 +20,7 @@ use crate::terminal::screen::{Paint, Screen};
 use crate::terminal::words::count;
 use crate::terminal::{progress, report};
 use gesarumbo::checksum;
+use std::io::{self, Write};
 use std::path::Path;
 
 const ERASE: Setting = Setting::with(
@@ -27,6 +28,7 @@ const ERASE: Setting = Setting::with(
     "a,b:S,..",
     "do not use these trays, live or not; b only in stripe S, or stripes S-T, with --insist",
 );
+const REPLACE: Setting = Setting::plain("--replace", "write over FILE if it is there");
 const LENGTH: Setting = Setting::with(
     "--length",
     "N",
@@ -41,6 +43,7 @@ pub const COMMAND: Command = Command {
         ERASE,
         INSIST,
         LENGTH,
+        REPLACE,
         JOBS,
         description::LAYOUT,
         description::VOLUME,
@@ -51,7 +54,7 @@ pub const COMMAND: Command = Command {
 };
 
 const HELP: &str = "\
-cabinet get DIR FILE [--erase a,b:S,.. [--insist]] [--length N]
+cabinet get DIR FILE [--replace] [--erase a,b:S,.. [--insist]] [--length N]
 
 Writes the data of DIR to FILE, exactly as long as they were. Trays that are
 absent, unreadable, refused or of another generation are done without: any k
@@ -62,10 +65,14 @@ data are right all the same. They must have the checksum that the labels say,
 and no FILE is written if they have not (65), or if a stripe cannot be put right
 (5, 8). Where nothing was left to hold them against, which is so only in
 cabinets of the first format with just k trays, it says so (16). FILE lies
-outside of DIR, and no tray is changed.
+outside of DIR, and is written over only with --replace; no tray is changed.
 
 Data with a symbol that is no byte, 256 in the field of 257, are not written
 (65).
+
+With - for FILE the data go to standard output, and all words to standard error.
+What went out cannot be called back: the trays are read twice, and nothing goes
+out before all data are known to be right.
 ";
 
 fn run(arguments: &Arguments, disk: &dyn Disk, screen: &mut Screen) -> Result<Outcome, Failure> {
@@ -75,15 +82,40 @@ fn run(arguments: &Arguments, disk: &dyn Disk, screen: &mut Screen) -> Result<Ou
     named.judge(&cabinet)?;
     let length = length(&cabinet, arguments)?;
     let file = Path::new(file);
+    let mut asked = Asked {
+        named,
+        length,
+        file,
+    };
+    if file == Path::new(PIPE) {
+        screen.give_way();
+        return in_field!(
+            cabinet.description.field,
+            to_pipe(&cabinet, &mut asked, screen)
+        );
+    }
     if is_in(disk, file, cabinet.folder()) {
         let words = "is among the cabinet's own files; name a place outside of its folder";
         return Err(Failure::Usage(format!("{}: {words}", file.display())));
     }
     output::guard(disk, file)?;
+    let there = disk.look(file).map_err(Failure::file(file))?;
+    let is_there = there.is_some_and(|entry| entry.kind == Kind::File);
+    if is_there && !arguments.has(REPLACE) {
+        let words = "a file is there already (see --replace)";
+        return Err(Failure::File(format!("{}: {words}", file.display())));
+    }
     in_field!(
         cabinet.description.field,
-        get(&cabinet, &named, length, file, screen)
+        to_file(&cabinet, &mut asked, screen)
     )
+}
+
+/// What the command line asks for.
+struct Asked<'a> {
+    named: Erasures,
+    length: u64,
+    file: &'a Path,
 }
 
 /// Whether a file lies in a folder, or would: there it could take a tray's place.
@@ -97,7 +129,10 @@ fn is_in(disk: &dyn Disk, file: &Path, folder: &Path) -> bool {
 /// How many bytes are given back: no more than the stripes hold.
 fn length(cabinet: &Cabinet, arguments: &Arguments) -> Result<u64, Failure> {
     let room = cabinet.numbers.data() as u64 * u64::from(cabinet.description.stripes);
-    let words = |length| format!("{length} bytes of data: the stripes hold only {room}");
+    let words = |length: u64| {
+        let bytes = count(length as usize, "byte");
+        format!("{bytes} of data: the stripes hold only {room}")
+    };
     match (arguments.number(LENGTH)?, cabinet.description.length) {
         (Some(length), _) if length > room => Err(Failure::Usage(format!(
             "{}: {}",
@@ -109,9 +144,40 @@ fn length(cabinet: &Cabinet, arguments: &Arguments) -> Result<u64, Failure> {
     }
 }
 
+/// Where data go.
+enum Sink<'d> {
+    /// Nowhere: they are only looked at.
+    Nowhere,
+    File(Draft<'d>),
+    Pipe(Box<dyn Write>),
+}
+
+impl Sink<'_> {
+    fn write(&mut self, data: &[u8]) -> Result<(), Failure> {
+        match self {
+            Sink::Nowhere => Ok(()),
+            Sink::File(draft) => draft.write(data),
+            Sink::Pipe(out) => out.write_all(data).map_err(broken),
+        }
+    }
+
+    /// Brings all that was written to where it goes.
+    fn finish(self) -> Result<(), Failure> {
+        match self {
+            Sink::Nowhere => Ok(()),
+            Sink::File(draft) => draft::publish(vec![draft]),
+            Sink::Pipe(mut out) => out.flush().map_err(broken),
+        }
+    }
+}
+
+fn broken(error: io::Error) -> Failure {
+    Failure::File(format!("standard output: {error}"))
+}
+
 /// The data as far as they are written.
 struct Getting<'d> {
-    draft: Draft<'d>,
+    sink: Sink<'d>,
     left: u64,
     /// Of what is written.
     checksum: u64,
@@ -119,40 +185,83 @@ struct Getting<'d> {
     held: Held,
     /// Why a segment is right only if all data are.
     doubt: Option<Failure>,
+    /// How many ways there are then.
+    ways: usize,
     /// Whether zeros follow the data, as they were stored.
     is_filled: bool,
 }
 
-fn get<S: Symbol>(
+/// Writes the data to a file.
+fn to_file<S: Symbol>(
     cabinet: &Cabinet,
-    named: &Erasures,
-    length: u64,
-    file: &Path,
+    asked: &mut Asked,
     screen: &mut Screen,
 ) -> Result<Outcome, Failure> {
+    let sink = Draft::begin(cabinet.disk, asked.file, "get", None).map(Sink::File)?;
+    let mut getting = get::<S>(cabinet, asked, sink, screen)?;
+    while getting.has_another_way(cabinet, asked) {
+        asked.named.way += 1;
+        drop(getting);
+        let sink = Draft::begin(cabinet.disk, asked.file, "get", None).map(Sink::File)?;
+        getting = get::<S>(cabinet, asked, sink, &mut Screen::silent())?;
+    }
+    getting.finish(cabinet, asked, screen)
+}
+
+/// Writes the data to a pipe. What went out cannot be called back, so they are looked at first, and
+/// then read again.
+fn to_pipe<S: Symbol>(
+    cabinet: &Cabinet,
+    asked: &mut Asked,
+    screen: &mut Screen,
+) -> Result<Outcome, Failure> {
+    let mut seen = get::<S>(cabinet, asked, Sink::Nowhere, screen)?;
+    while seen.has_another_way(cabinet, asked) {
+        asked.named.way += 1;
+        seen = get::<S>(cabinet, asked, Sink::Nowhere, &mut Screen::silent())?;
+    }
+    seen.judge(cabinet, asked)?;
+    let sink = Sink::Pipe(cabinet.disk.output());
+    let again = get::<S>(cabinet, asked, sink, &mut Screen::silent())?;
+    match again.checksum == seen.checksum {
+        true => again.finish(cabinet, asked, screen),
+        false => Err(Failure::Contents(
+            "the trays changed while they were read: what was written is wrong".to_string(),
+        )),
+    }
+}
+
+/// Goes over all segments.
+fn get<'d, S: Symbol>(
+    cabinet: &Cabinet<'d>,
+    asked: &Asked,
+    sink: Sink<'d>,
+    screen: &mut Screen,
+) -> Result<Getting<'d>, Failure> {
     let mut getting = Getting {
-        draft: Draft::begin(cabinet.disk, file, "get", None)?,
-        left: length,
+        sink,
+        left: asked.length,
         checksum: 0,
         faults: Faults::default(),
         held: Held::Checks,
         doubt: None,
+        ways: 1,
         is_filled: true,
     };
     let mut unused = None;
-    let mend = with_segment(|segment: &Segment<S>| mend_as(segment, named));
+    let mend = with_segment(|segment: &Segment<S>| mend_as(segment, &asked.named));
     cabinet.over(cabinet.from_segment(0), mend, |(segment, mended)| {
         Unused::begin_or_say(&mut unused, &segment, screen);
         let mended = mended?;
         getting.doubt = getting.doubt.take().or(mended.doubt);
+        getting.ways = getting.ways.max(mended.ways);
         getting.faults.add(&segment, &mended.stripes);
         getting.write(&segment, &mended.stripes)?;
         progress::segment(cabinet, &segment.stripes, screen);
         Ok(())
     })?;
     getting.faults.add_files(cabinet, &Unused::trays(unused));
-    getting.faults.say(cabinet, screen);
-    getting.finish(cabinet, length, file, screen)
+    Ok(getting)
 }
 
 impl Getting<'_> {
@@ -168,7 +277,7 @@ impl Getting<'_> {
             let data = bytes(&one.codeword[..here]);
             let place = segment.cabinet.place(number);
             let data = data.map_err(|failure| failure.at(&place))?;
-            self.draft.write(&data)?;
+            self.sink.write(&data)?;
             self.checksum = checksum(self.checksum, &data);
             self.left -= data.len() as u64;
             self.held = self.held.min(one.held);
@@ -177,35 +286,56 @@ impl Getting<'_> {
         Ok(())
     }
 
-    /// Compares the checksum of all data, and gives the file its name.
+    /// Compares the checksum of all data, and gives whether they have one.
+    fn judge(&self, cabinet: &Cabinet, asked: &Asked) -> Result<bool, Failure> {
+        let is_all = cabinet.description.length == Some(asked.length);
+        let stored = cabinet.description.checksum.filter(|_| is_all);
+        if let (Some(doubt), true) = (
+            &self.doubt,
+            stored != Some(self.checksum) || !self.is_filled,
+        ) {
+            return Err(doubt.clone());
+        }
+        match stored.is_some_and(|stored| stored != self.checksum) {
+            false => Ok(stored.is_some()),
+            true => Err(Failure::Contents(
+                "the data do not have the checksum that they were stored with; no file is written"
+                    .to_string(),
+            )),
+        }
+    }
+
+    /// Whether the data are not right, and may be if doubted segments are put right in another way.
+    fn has_another_way(&self, cabinet: &Cabinet, asked: &Asked) -> bool {
+        self.doubt.is_some()
+            && asked.named.way + 1 < self.ways
+            && self.judge(cabinet, asked).is_err()
+    }
+
+    /// Brings the data to where they go, and says so.
     fn finish(
         self,
         cabinet: &Cabinet,
-        length: u64,
-        file: &Path,
+        asked: &Asked,
         screen: &mut Screen,
     ) -> Result<Outcome, Failure> {
-        let is_all = cabinet.description.length == Some(length);
-        let stored = cabinet.description.checksum.filter(|_| is_all);
-        if stored != Some(self.checksum) || !self.is_filled {
-            self.doubt.map_or(Ok(()), Err)?;
-        }
-        if stored.is_some_and(|stored| stored != self.checksum) {
-            return Err(Failure::Contents(
-                "the data do not have the checksum that they were stored with; no file is written"
-                    .to_string(),
-            ));
-        }
-        draft::publish(vec![self.draft])?;
+        self.faults.say(cabinet, screen);
+        let is_summed = self.judge(cabinet, asked)?;
+        let (length, file) = (asked.length, asked.file);
+        self.sink.finish()?;
         screen.fact("cabinet", report::cabinet(cabinet));
         screen.fact("file", report::path(file));
         screen.fact("bytes", length);
         screen.fact("held_against", report::held(self.held));
         screen.fact("faults", self.faults.json());
         let bytes = count(length as usize, "byte");
-        screen.line(format!("  {bytes} written to {}", file.display()));
+        let place = match file == Path::new(PIPE) {
+            true => "standard output".into(),
+            false => file.to_string_lossy(),
+        };
+        screen.line(format!("  {bytes} written to {place}"));
         let is_clear = self.faults.is_empty();
-        match (stored.is_some(), self.held, is_clear) {
+        match (is_summed, self.held, is_clear) {
             (false, Held::Nothing, _) => {
                 let words = screen.paint(Paint::Warning, "not tested: no tray to spare");
                 screen.line(format!("  {words}"));

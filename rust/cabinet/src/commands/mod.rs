@@ -49,6 +49,9 @@ impl Command {
         if report::REPORTING.contains(&self.name) {
             all.push(report::JSON);
         }
+        if report::can_be_quiet(self.name) {
+            all.push(report::QUIET);
+        }
         all
     }
 }
@@ -104,9 +107,15 @@ fn run_one(
         return Ok(Outcome::Done);
     }
     let known = command.all_settings();
-    let is_known = known.iter().any(|known| known.name == report::JSON.name);
-    if is_known && settings().any(|word| word == report::JSON.name) {
+    let is_asked = |asked: Setting| {
+        let is_known = known.iter().any(|known| known.name == asked.name);
+        is_known && settings().any(|word| word == asked.name)
+    };
+    if is_asked(report::JSON) {
         screen.begin_report();
+    }
+    if is_asked(report::QUIET) {
+        screen.be_quiet();
     }
     let see = |failure| match failure {
         Failure::Usage(words) => Failure::Usage(format!(

@@ -86,7 +86,7 @@ fn run(arguments: &Arguments, disk: &dyn Disk, screen: &mut Screen) -> Result<Ou
 /// What a recovery is to do, and what it has found.
 struct Recovery<'a> {
     cabinet: &'a Cabinet<'a>,
-    named: &'a Erasures,
+    named: Erasures,
     faults: Faults,
     held: Held,
     /// Of the data of the stripes examined so far.
@@ -97,6 +97,8 @@ struct Recovery<'a> {
     is_filled: bool,
     /// The segments that only the checksum of all data bears out, and what they are known by.
     doubted: BTreeMap<u32, u64>,
+    /// How many ways there are to put these right.
+    ways: usize,
 }
 
 /// What the stripes of a segment are known by.
@@ -114,7 +116,9 @@ pub fn recover<S: Symbol>(
 ) -> Result<Outcome, Failure> {
     let survey = Survey::of::<S>(cabinet, screen)?;
     let named = &erasures.trays();
-    judge::<S>(cabinet, named)?;
+    for stripe in erasures.starts() {
+        judge::<S>(cabinet, &erasures.of(stripe))?;
+    }
     let not_named = |(tray, _): &&(Tray, String)| !named.contains(tray);
     if let Some((tray, words)) = survey.closed.iter().find(not_named) {
         let path = cabinet.image_path(*tray);
@@ -124,17 +128,15 @@ pub fn recover<S: Symbol>(
         )));
     }
     cabinet.guard_newer(named)?;
-    let mut recovery = Recovery {
-        cabinet,
-        named: erasures,
-        faults: Faults::default(),
-        held: Held::Checks,
-        checksum: 0,
-        left: cabinet.description.length.unwrap_or(0),
-        is_filled: true,
-        doubted: BTreeMap::new(),
-    };
-    recovery.examine::<S>()?;
+    let mut recovery = Recovery::new(cabinet, erasures.clone());
+    let mut examined = recovery.examine::<S>();
+    while examined.is_err() && recovery.named.way + 1 < recovery.ways {
+        let mut named = recovery.named;
+        named.way += 1;
+        recovery = Recovery::new(cabinet, named);
+        examined = recovery.examine::<S>();
+    }
+    examined?;
     if recovery.held == Held::Nothing && !named.is_empty() && !insists {
         return Err(Failure::Contents(format!(
             "nothing is left to test the others by: {} may hold the only right symbols ({} writes \
@@ -160,15 +162,30 @@ fn judge<S: Symbol>(cabinet: &Cabinet, named: &[Tray]) -> Result<(), Failure> {
         .map_err(Failure::refused(about))
 }
 
-impl Recovery<'_> {
+impl<'a> Recovery<'a> {
+    fn new(cabinet: &'a Cabinet<'a>, named: Erasures) -> Recovery<'a> {
+        Recovery {
+            cabinet,
+            named,
+            faults: Faults::default(),
+            held: Held::Checks,
+            checksum: 0,
+            left: cabinet.description.length.unwrap_or(0),
+            is_filled: true,
+            doubted: BTreeMap::new(),
+            ways: 1,
+        }
+    }
+
     /// Puts all stripes right once, without writing: which trays are wrong is known before any is
     /// written.
     fn examine<S: Symbol>(&mut self) -> Result<(), Failure> {
         let mut doubt = None;
-        let (cabinet, named) = (self.cabinet, self.named);
-        let mend = with_segment(|segment: &Segment<S>| mend_as(segment, named));
+        let (cabinet, named) = (self.cabinet, self.named.clone());
+        let mend = with_segment(|segment: &Segment<S>| mend_as(segment, &named));
         cabinet.over(cabinet.from_segment(0), mend, |(segment, mended)| {
             let mended = mended?;
+            self.ways = self.ways.max(mended.ways);
             let stripes = mended.stripes;
             if mended.doubt.is_some() {
                 self.doubted.insert(segment.number, known_by(&stripes));
@@ -211,10 +228,10 @@ impl Recovery<'_> {
         let cabinet = self.cabinet;
         let mut rebuild = open::<S>(cabinet, erased, screen)?;
         let first = cabinet.geometry.segment_of(rebuild.next);
-        let named = self.named;
+        let named = &self.named;
         let mend = with_segment(|segment: &Segment<S>| mend_as(segment, named));
         cabinet.over(cabinet.from_segment(first), mend, |(segment, mended)| {
-            let Mending { stripes, doubt } = mended?;
+            let Mending { stripes, doubt, .. } = mended?;
             if let Some(doubt) = doubt {
                 let seen = self.doubted.get(&segment.number);
                 seen.filter(|seen| **seen == known_by(&stripes))

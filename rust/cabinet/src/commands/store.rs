@@ -3,13 +3,14 @@
 use super::Command;
 use crate::code::field::{in_field, Field, FIELD};
 use crate::code::numbers::Numbers;
-use crate::disk::{Disk, Handle};
+use crate::disk::{Disk, Handle, PIPE};
 use crate::failure::{Failure, Outcome};
 use crate::files;
 use crate::files::cabinet::Cabinet;
 use crate::files::description::{Description, Format};
 use crate::files::geometry::many;
 use crate::jobs::{self, JOBS};
+use crate::storing::spool::Spool;
 use crate::storing::store;
 use crate::terminal::arguments::{needed, Arguments, Setting};
 use crate::terminal::report;
@@ -28,8 +29,10 @@ const EXACT: Setting = Setting::plain(
     "--exact",
     "take only a file that fills its stripes of k*L bytes",
 );
-const REPLACE: Setting =
-    Setting::plain("--replace", "write over the images that DIR holds already");
+const REPLACE: Setting = Setting::plain(
+    "--replace",
+    "take the place of the cabinet that DIR holds already",
+);
 
 pub const COMMAND: Command = Command {
     name: "store",
@@ -42,11 +45,11 @@ pub const COMMAND: Command = Command {
 const HELP: &str = "\
 cabinet store B u k d [E] --volume N [--field N] [--exact] [--replace] INPUT DIR
 
-Stores the file INPUT in a cabinet of B racks of u trays, k of them data, with d
-helper racks in a repair, of which E, 0 or 1, may send a wrong share. Writes the
-folder DIR: a file for every tray, and cabinet.txt, which says for people what
-the label of every tray says: layout, field, volume, generation, stripes, and
-the data's length and checksum.
+Stores the file INPUT, or with - what comes by a pipe, in a cabinet of B racks
+of u trays, k of them data, with d helper racks in a repair, of which E, 0 or 1,
+may send a wrong share. Writes the folder DIR: a file for every tray, and
+cabinet.txt, which says for people what the label of every tray says: layout,
+field, volume, generation, stripes, and the data's length and checksum.
 
 A stripe, which is one codeword, takes k*L bytes, each as one symbol: in the
 field of 257 these are the symbols 0 to 255, with two bytes a symbol. There are
@@ -59,7 +62,9 @@ refused (11). With --exact a file that leaves room in its last stripe is refused
 With --replace the new cabinet has the next generation: old trays and new ones
 never mix. The files are written beside their places and get their names when
 all are whole; cut before the first has its name, DIR holds the old cabinet, cut
-later the new one. A store that was cut is done again by the same line.
+later the new one. A store that was cut is done again by the same line. Tray
+files of the old cabinet that the new one has no place for are removed, and
+others are named. What comes by a pipe is kept in DIR until it is stored.
 ";
 
 fn run(arguments: &Arguments, disk: &dyn Disk, screen: &mut Screen) -> Result<Outcome, Failure> {
@@ -67,26 +72,78 @@ fn run(arguments: &Arguments, disk: &dyn Disk, screen: &mut Screen) -> Result<Ou
     let volume = needed(VOLUME, arguments.number(VOLUME)?)?;
     let field = Field::asked(arguments)?.unwrap_or_default();
     let numbers = Numbers::of(layout, field)?;
-    let input = Path::new(input);
-    let (file, length) = files::open_existing(disk, input)?;
-    let room = numbers.data() as u64;
-    if arguments.has(EXACT) && (length == 0 || length % room != 0) {
-        let about = format!("{}: {length} bytes, a stripe takes {room}", input.display());
-        return Err(Failure::refused(about)(Refusal::Length));
+    let asked = Asked {
+        numbers,
+        volume,
+        is_exact: arguments.has(EXACT),
+        replaces: arguments.has(REPLACE),
+        jobs: jobs::asked(arguments)?,
+    };
+    let (input, folder) = (Path::new(input), Path::new(folder));
+    if input != Path::new(PIPE) {
+        let (file, length) = files::open_existing(disk, input)?;
+        asked.judge(input, length)?;
+        let mut data = Input { file, at: 0 };
+        let sum = summed(&mut data, length).map_err(Failure::file(input))?;
+        return asked.store(disk, &mut data, length, sum, folder, screen);
     }
-    let mut data = Input { file, at: 0 };
-    let sum = summed(&mut data, length).map_err(Failure::file(input))?;
-    let description = described(&numbers, volume, length, sum);
-    if description.last_volume().is_none() || u64::from(description.stripes) * room < length {
-        return Err(Failure::Usage(description.too_many()));
+    let (mut data, is_new) = Spool::take(disk, folder, asked.replaces)?;
+    let (length, sum) = (data.length, data.checksum);
+    let stored = asked.judge(input, length);
+    let stored = stored.and_then(|()| asked.store(disk, &mut data, length, sum, folder, screen));
+    drop(data);
+    if stored.is_err() && is_new {
+        // Nothing is in it, and where it is not empty all the same, it stays.
+        let _ = disk.remove_folder(folder);
     }
-    let mut cabinet = Cabinet::new(disk, Path::new(folder), description)?;
-    cabinet.jobs = jobs::asked(arguments)?;
-    let replace = arguments.has(REPLACE);
-    let description = in_field!(field, store(cabinet, &mut data, replace, screen))?;
-    let cabinet = Cabinet::new(disk, Path::new(folder), description)?;
-    report(&cabinet, length, screen);
-    Ok(Outcome::Done)
+    stored
+}
+
+/// What the command line asks for.
+struct Asked {
+    numbers: Numbers,
+    volume: u32,
+    is_exact: bool,
+    replaces: bool,
+    jobs: usize,
+}
+
+impl Asked {
+    /// Lets the library's rule judge the length, where only whole stripes are taken.
+    fn judge(&self, input: &Path, length: u64) -> Result<(), Failure> {
+        let room = self.numbers.data() as u64;
+        match self.is_exact && (length == 0 || length % room != 0) {
+            false => Ok(()),
+            true => {
+                let (input, bytes) = (input.display(), count(length as usize, "byte"));
+                let about = format!("{input}: {bytes}, a stripe takes {room}");
+                Err(Failure::refused(about)(Refusal::Length))
+            }
+        }
+    }
+
+    /// Stores data of this length and checksum.
+    fn store(
+        &self,
+        disk: &dyn Disk,
+        data: &mut dyn Read,
+        length: u64,
+        sum: u64,
+        folder: &Path,
+        screen: &mut Screen,
+    ) -> Result<Outcome, Failure> {
+        let (numbers, room) = (&self.numbers, self.numbers.data() as u64);
+        let description = described(numbers, self.volume, length, sum);
+        if description.last_volume().is_none() || u64::from(description.stripes) * room < length {
+            return Err(Failure::Usage(description.too_many()));
+        }
+        let mut cabinet = Cabinet::new(disk, folder, description)?;
+        cabinet.jobs = self.jobs;
+        let stored = in_field!(numbers.field, store(cabinet, data, self.replaces, screen))?;
+        let cabinet = Cabinet::new(disk, folder, stored)?;
+        report(&cabinet, length, screen);
+        Ok(Outcome::Done)
+    }
 }
 
 /// The checksum of the data, which every segment's checksum starts from; they are read again to be
@@ -143,10 +200,10 @@ fn report(cabinet: &Cabinet, stored: u64, screen: &mut Screen) {
     screen.fact("bytes", stored);
     screen.fact("room", room);
     screen.line(format!(
-        "  {} bytes stored, {} fit: {} zeros added",
-        grouped(stored as usize),
+        "  {} stored, {} fit: {} added",
+        count(stored as usize, "byte"),
         grouped(room as usize),
-        grouped((room - stored) as usize)
+        count((room - stored) as usize, "zero")
     ));
     let images = match stripes {
         1 => format!("images of {} symbols", numbers.layers),

@@ -6,7 +6,7 @@ pub mod simulated;
 pub mod system;
 
 use std::ffi::OsString;
-use std::io;
+use std::io::{self, Read, Write};
 use std::path::{Path, PathBuf};
 
 /// What stands under a name, links not followed.
@@ -78,7 +78,14 @@ pub trait Disk {
     fn lock(&self, folder: &Path, hold: Hold, wait: bool) -> io::Result<Option<Box<dyn Lock>>>;
     /// The one name of a folder without links.
     fn canonical(&self, folder: &Path) -> io::Result<PathBuf>;
+    /// What comes by a pipe.
+    fn input(&self) -> Box<dyn Read>;
+    /// What goes out by a pipe.
+    fn output(&self) -> Box<dyn Write>;
 }
+
+/// The name that stands for a pipe.
+pub const PIPE: &str = "-";
 
 /// Reads exactly so many bytes from a place on, or as many as there are.
 pub fn read_part(file: &dyn Handle, at: u64, length: usize) -> io::Result<Vec<u8>> {

@@ -8,7 +8,7 @@ use super::{Disk, Entry, Handle, Hold, Kind, Lock};
 use std::cell::RefCell;
 use std::collections::BTreeMap;
 use std::ffi::OsString;
-use std::io;
+use std::io::{self, Read, Write};
 use std::ops::Range;
 use std::path::{Path, PathBuf};
 use std::rc::Rc;
@@ -73,6 +73,38 @@ pub struct Simulated(Rc<RefCell<State>>);
 struct SimulatedFile {
     disk: Simulated,
     number: u64,
+}
+
+/// A pipe: what comes from it is the file `input`, and what goes into it the file `output`.
+struct Pipe {
+    disk: Simulated,
+    at: usize,
+}
+
+impl Read for Pipe {
+    fn read(&mut self, out: &mut [u8]) -> io::Result<usize> {
+        self.disk.enter()?;
+        let bytes = self.disk.get("input").unwrap_or_default();
+        let left = bytes.get(self.at..).unwrap_or_default();
+        // A pipe gives as much as it has, not as much as is asked for.
+        let read = left.len().min(out.len()).min(30);
+        out[..read].copy_from_slice(&left[..read]);
+        self.at += read;
+        Ok(read)
+    }
+}
+
+impl Write for Pipe {
+    fn write(&mut self, bytes: &[u8]) -> io::Result<usize> {
+        self.disk.enter()?;
+        let before = self.disk.get("output").unwrap_or_default();
+        self.disk.put("output", &[&before[..], bytes].concat());
+        Ok(bytes.len())
+    }
+
+    fn flush(&mut self) -> io::Result<()> {
+        Ok(())
+    }
 }
 
 struct SimulatedLock {
@@ -578,6 +610,20 @@ impl Disk for Simulated {
     fn canonical(&self, folder: &Path) -> io::Result<PathBuf> {
         self.enter()?;
         Ok(folder.to_path_buf())
+    }
+
+    fn input(&self) -> Box<dyn Read> {
+        Box::new(Pipe {
+            disk: self.clone(),
+            at: 0,
+        })
+    }
+
+    fn output(&self) -> Box<dyn Write> {
+        Box::new(Pipe {
+            disk: self.clone(),
+            at: 0,
+        })
     }
 }
 

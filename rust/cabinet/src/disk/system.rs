@@ -3,7 +3,7 @@
 use super::{Disk, Entry, Handle, Hold, Kind, Lock};
 use std::ffi::OsString;
 use std::fs::{self, File, Metadata, OpenOptions, Permissions, TryLockError};
-use std::io;
+use std::io::{self, Read, Write};
 use std::os::unix::fs::{FileExt, MetadataExt, OpenOptionsExt, PermissionsExt};
 use std::path::{Path, PathBuf};
 
@@ -161,5 +161,13 @@ impl Disk for System {
 
     fn canonical(&self, folder: &Path) -> io::Result<PathBuf> {
         folder.canonicalize()
+    }
+
+    fn input(&self) -> Box<dyn Read> {
+        Box::new(io::stdin())
+    }
+
+    fn output(&self) -> Box<dyn Write> {
+        Box::new(io::stdout())
     }
 }

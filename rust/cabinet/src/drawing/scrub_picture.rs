@@ -26,9 +26,11 @@ pub fn draw(description: &Description, findings: &Findings) -> String {
         "layer" => "Layers",
         _ => "Stripes",
     };
-    let title = format!("{thing} of {}", description.words());
+    // The title has room for the layout alone, in letters of its size.
+    let title = format!("{thing} of cabinet {}", description.name());
+    let words = format!("{}; {}", description.contents(), findings.words());
     let height = grid.bottom(cells) + BELOW;
-    let mut svg = frame::begin(height, &title, &findings.words());
+    let mut svg = frame::begin(height, &title, &words);
     frame::legend(
         &State::ALL.map(|state| (class(state), state.words(), 88)),
         &mut svg,

@@ -246,12 +246,19 @@ impl Census {
         self.files.iter().any(|file| file.is_published)
     }
 
-    /// The published files of trays from this number on that are labelled.
-    pub fn beyond(&self, trays: u32) -> impl Iterator<Item = &Path> {
-        let beyond = move |file: &&TrayFile| {
-            file.is_published && file.tray.number() >= trays && file.label.is_some()
-        };
-        self.files.iter().filter(beyond).map(|file| &*file.path)
+    /// The published files of trays from this number on: those of a cabinet that is known, and the
+    /// others.
+    pub fn beyond(&self, trays: u32) -> (Vec<&Path>, Vec<&Path>) {
+        let beyond = |file: &&TrayFile| file.is_published && file.tray.number() >= trays;
+        let (own, others): (Vec<&TrayFile>, Vec<&TrayFile>) = self
+            .files
+            .iter()
+            .filter(beyond)
+            .partition(|file| file.cabinet().is_some());
+        (
+            own.into_iter().map(|file| &*file.path).collect(),
+            others.into_iter().map(|file| &*file.path).collect(),
+        )
     }
 
     /// Gives the remaining files of a store that was cut their own names.

@@ -225,17 +225,22 @@ impl Description {
 
     /// The description in words.
     pub fn words(&self) -> String {
-        let (name, volume) = (self.name(), self.volume);
-        let length = self.length.map(|length| grouped(length as usize));
-        let bytes = length.map(|length| format!(", {length} bytes"));
+        format!("Cabinet {}, {}", self.name(), self.contents())
+    }
+
+    /// The same without layout and field.
+    pub fn contents(&self) -> String {
+        let volume = self.volume;
+        let bytes = self.length.map(|length| count(length as usize, "byte"));
+        let bytes = bytes.map(|bytes| format!(", {bytes}"));
         let bytes = bytes.unwrap_or_default();
         let stripes = grouped(self.stripes as usize);
         match (self.stripes, self.last_volume()) {
             (2.., Some(last)) if last > volume => {
-                format!("Cabinet {name}, volumes {volume} to {last}: {stripes} stripes{bytes}")
+                format!("volumes {volume} to {last}: {stripes} stripes{bytes}")
             }
-            (2.., _) => format!("Cabinet {name}, volume {volume}: {stripes} stripes{bytes}"),
-            _ => format!("Cabinet {name}, volume {volume}"),
+            (2.., _) => format!("volume {volume}: {stripes} stripes{bytes}"),
+            _ => format!("volume {volume}"),
         }
     }
 }

@@ -114,7 +114,8 @@ impl<'d> Draft<'d> {
             .map_err(Failure::file(&self.path))
     }
 
-    fn flush(&mut self) -> Result<(), Failure> {
+    /// Writes what is still held back.
+    pub fn flush(&mut self) -> Result<(), Failure> {
         if !self.buffer.is_empty() {
             self.file
                 .write_at(self.at, &self.buffer)

@@ -14,7 +14,11 @@ pub const INSIST: Setting = Setting::plain(
 
 /// Trays that are not looked at, each in a run of stripes.
 #[derive(Clone, Default, PartialEq, Eq, Debug)]
-pub struct Erasures(Vec<(Tray, Range<u32>)>);
+pub struct Erasures {
+    list: Vec<(Tray, Range<u32>)>,
+    /// Which way is taken of those to put a segment right, where no checksum of it tells.
+    pub way: usize,
+}
 
 /// All stripes.
 const ALL: Range<u32> = 0..u32::MAX;
@@ -22,7 +26,10 @@ const ALL: Range<u32> = 0..u32::MAX;
 impl Erasures {
     /// These trays, in all stripes.
     pub fn whole(trays: &[Tray]) -> Erasures {
-        Erasures(trays.iter().map(|tray| (*tray, ALL)).collect())
+        Erasures {
+            list: trays.iter().map(|tray| (*tray, ALL)).collect(),
+            way: 0,
+        }
     }
 
     /// The trays of a setting, T or T:A or T:A-B, with commas between; a part of a tray only where a
@@ -38,8 +45,11 @@ impl Erasures {
             Failure::Usage(words)
         };
         let erased = words.map(|word| erasure(word).ok_or_else(|| wrong(word)));
-        let erasures = Erasures(erased.collect::<Result<_, Failure>>()?);
-        let in_part = erasures.0.iter().any(|(_, run)| *run != ALL);
+        let erasures = Erasures {
+            list: erased.collect::<Result<_, Failure>>()?,
+            way: 0,
+        };
+        let in_part = erasures.list.iter().any(|(_, run)| *run != ALL);
         match in_part && !arguments.has(INSIST) {
             true => Err(Failure::Usage(format!(
                 "{}: some stripes of a tray are erased only with {}",
@@ -51,19 +61,24 @@ impl Erasures {
 
     /// The trays that are not looked at in a stripe, rising.
     pub fn of(&self, stripe: u32) -> Vec<Tray> {
-        let here = self.0.iter().filter(|(_, run)| run.contains(&stripe));
+        let here = self.list.iter().filter(|(_, run)| run.contains(&stripe));
         rising(here.map(|(tray, _)| *tray))
+    }
+
+    /// The stripes where a run begins: in one of these the most trays are erased.
+    pub fn starts(&self) -> impl Iterator<Item = u32> + '_ {
+        self.list.iter().map(|(_, run)| run.start)
     }
 
     /// All trays that are named, rising.
     pub fn trays(&self) -> Vec<Tray> {
-        rising(self.0.iter().map(|(tray, _)| *tray))
+        rising(self.list.iter().map(|(tray, _)| *tray))
     }
 
     /// Fails where a stripe is named that is not there.
     pub fn judge(&self, cabinet: &Shape) -> Result<(), Failure> {
         let count = cabinet.description.stripes;
-        let in_part = self.0.iter().filter(|(_, run)| *run != ALL);
+        let in_part = self.list.iter().filter(|(_, run)| *run != ALL);
         match in_part
             .map(|(_, run)| run.end - 1)
             .find(|last| *last >= count)
@@ -112,7 +127,10 @@ mod tests {
     #[test]
     fn each_stripe_has_its_own() {
         let list = ["4:7-9", "2", "4:20"].map(|word| erasure(word).expect("a tray"));
-        let erasures = Erasures(list.to_vec());
+        let erasures = Erasures {
+            list: list.to_vec(),
+            way: 0,
+        };
         let of = |stripe| -> Vec<u32> {
             let trays = erasures.of(stripe);
             trays.iter().map(|tray| tray.number()).collect()

@@ -174,6 +174,8 @@ impl Faults {
         }
         let labels = self.labels.iter();
         all.extend(labels.map(|tray| fault("label", tray.number(), &[])));
+        let long = self.long.iter();
+        all.extend(long.map(|tray| fault("too_long", tray.number(), &[])));
         Json::List(all)
     }
 

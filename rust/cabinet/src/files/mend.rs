@@ -34,7 +34,12 @@ pub struct Mending<S> {
     /// Why checks and checksums do not bear it out, where they do not: then the checksum of all data
     /// has to.
     pub doubt: Option<Failure>,
+    /// How many ways there are to put it right then; the one that was asked for is taken.
+    pub ways: usize,
 }
+
+/// No more ways are held against the checksum of all data.
+const MOST_WAYS: usize = 64;
 
 /// What symbols were held against.
 #[derive(Clone, Copy, PartialEq, Eq, PartialOrd, Ord, Debug)]
@@ -82,13 +87,20 @@ pub fn mend_as<S: Symbol>(
         };
         stripes.push(one.map_err(stripe.named())?);
     }
-    let mut doubt = None;
-    if !is_clear && !is_borne_out(segment, &stripes)? && !choose(segment, &mut stripes, erasures)? {
-        let about = "the trays put right do not have the checksums that were written";
-        let failure = Failure::refused(about)(Refusal::Survivors);
-        doubt = Some(segment.named()(failure));
+    let (mut doubt, mut ways) = (None, 1);
+    if !is_clear && !is_borne_out(segment, &stripes)? {
+        if let Some(open) = choose(segment, &mut stripes, erasures)? {
+            let about = "the trays put right do not have the checksums that were written";
+            let failure = Failure::refused(about)(Refusal::Survivors);
+            doubt = Some(segment.named()(failure));
+            ways = open;
+        }
     }
-    Ok(Mending { stripes, doubt })
+    Ok(Mending {
+        stripes,
+        doubt,
+        ways,
+    })
 }
 
 /// Two lists as one that rises.
@@ -278,12 +290,13 @@ impl<S: Symbol> Choice<S> {
 }
 
 /// Tries all that the stripes may be, with some trays taken as wrong in all of them and others in
-/// some, those with the fewest ways first, until the checksums bear one out.
+/// some, those with the fewest ways first, until the checksums bear one out. Where they bear out none,
+/// it takes the one that was asked for, and says how many there are.
 fn choose<S: Symbol>(
     segment: &Segment<S>,
     stripes: &mut Vec<Mended<S>>,
     erasures: &Erasures,
-) -> Result<bool, Failure> {
+) -> Result<Option<usize>, Failure> {
     let rotten = segment.rotten();
     let sets = std::iter::once(Vec::new()).chain(sets(&rotten, rotten.len()));
     let mut choices: Vec<Choice<S>> = Vec::new();
@@ -292,20 +305,30 @@ fn choose<S: Symbol>(
     }
     choices.sort_by_key(|choice| choice.ways);
     let mut left = MOST_TRIES;
+    let mut open: Vec<Vec<Mended<S>>> = Vec::new();
     for choice in &choices {
         for way in 0..choice.ways.min(left) {
             let tried = choice.way(way);
             if is_borne_out(segment, &tried)? {
                 *stripes = tried;
-                return Ok(true);
+                return Ok(None);
+            }
+            if open.len() < MOST_WAYS && !open.iter().any(|other| are_same(other, &tried)) {
+                open.push(tried);
             }
         }
         left -= choice.ways.min(left);
     }
-    if let Some(choice) = choices.first() {
-        *stripes = choice.way(0);
+    let ways = open.len().max(1);
+    if !open.is_empty() {
+        *stripes = open.swap_remove(erasures.way % ways);
     }
-    Ok(false)
+    Ok(Some(ways))
+}
+
+fn are_same<S: Symbol>(one: &[Mended<S>], other: &[Mended<S>]) -> bool {
+    let mut pairs = one.iter().zip(other);
+    pairs.all(|(one, other)| one.codeword == other.codeword)
 }
 
 /// All sets of one or more of these trays, no larger than this, small ones first.

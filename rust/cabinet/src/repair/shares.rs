@@ -8,6 +8,7 @@ use crate::files;
 use crate::files::cabinet::Cabinet;
 use crate::files::shape::Shape;
 use crate::files::stripe::Stripe;
+use crate::terminal::words::count;
 use gesarumbo::Refusal;
 use std::ffi::OsStr;
 use std::path::{Path, PathBuf};
@@ -54,7 +55,8 @@ impl Shares {
                 }),
                 false => {
                     let place = path.display();
-                    let about = format!("{place}: {length} bytes, a share has {wanted}");
+                    let bytes = count(length as usize, "byte");
+                    let about = format!("{place}: {bytes}, a share has {wanted}");
                     Err(Failure::refused(about)(Refusal::Length))
                 }
             }

@@ -361,9 +361,11 @@ fn trial(world: &World, dice: &mut Dice, tally: &mut BTreeMap<&'static str, usiz
     let damaged = Damaged::new(world, dice);
     let words = damaged.words.join(", ");
     let needed = world.shape.numbers.dimension;
-    // With no tray to spare, a tray that lost its checksum cannot be told from a wrong one.
+    // With no tray to spare in several segments, a tray that lost its checksum is not told from a
+    // wrong one.
+    let is_one = world.shape.geometry.segments() == 1;
     let right = match damaged.right(world, false) {
-        right if right > needed => right,
+        right if right > needed || is_one => right,
         _ => damaged.right(world, true),
     };
     let told = is_told(world, &damaged);

@@ -31,6 +31,38 @@ fn a_bad_sector_is_no_lost_tray() {
     assert_eq!(run(&disk, "test c").status, 0);
 }
 
+/// Nothing goes out by a pipe before all data are known to be right.
+#[test]
+fn a_get_to_a_pipe_is_right_or_nothing() {
+    let before = racks();
+    let right = before.get("data");
+    for call in 0..400 {
+        let disk = before.copy();
+        disk.fail_at(call, 5);
+        let ended = run(&disk, "get c -");
+        let out = disk.get("output");
+        match super::is_done(ended.status) {
+            true => assert_eq!(out, right, "error at {call}: {ended:?}"),
+            false => assert!(out.is_none() || ended.status == 74, "{call}: {ended:?}"),
+        }
+    }
+    let disk = before.copy();
+    for tray in 0..7 {
+        let name = format!("c/tray-{tray:02}.img");
+        disk.put(
+            &name,
+            &poked(disk.copy(), &name, 560)
+                .get(&name)
+                .expect("it is there"),
+        );
+    }
+    let ended = run(&disk, "get c -");
+    assert!(
+        super::is_done(ended.status) || disk.get("output").is_none(),
+        "{ended:?}"
+    );
+}
+
 /// No more handles are no damage: no tray is taken for lost, and none is written.
 #[test]
 fn local_trouble_is_no_damage() {

@@ -118,7 +118,16 @@ fn stores() -> Vec<Scene> {
         0,
     );
     outnumbered.new = data(SIZE + 3)[3..].to_vec();
-    vec![store, replacing, shrinking, outnumbered]
+    let by_pipe = Simulated::with(&[("data", &data(SIZE)), ("input", &data(SIZE))]);
+    let line = "store 3 1 1 2 --volume 7 - c";
+    let mut piped = scene("a store from a pipe", by_pipe, line, 0);
+    piped.old = None;
+    let over = small();
+    over.put("input", &data(SIZE + 3)[3..]);
+    let line = "store 3 1 1 2 --volume 7 --replace - c";
+    let mut over = scene("a store from a pipe over another", over, line, 0);
+    over.new = data(SIZE + 3)[3..].to_vec();
+    vec![store, replacing, shrinking, outnumbered, piped, over]
 }
 
 fn repairs() -> Vec<Scene> {

@@ -1,6 +1,8 @@
 //! Data into a new cabinet: every tray file is written beside its place, with its label last, and
 //! gets its name when all are whole.
 
+pub mod spool;
+
 use crate::code::symbol::{from_data, Symbol};
 use crate::disk::{folder_of, Disk, Hold};
 use crate::failure::Failure;
@@ -16,7 +18,8 @@ use crate::files::tasks;
 use crate::jobs;
 use crate::scrub;
 use crate::terminal::progress;
-use crate::terminal::screen::Screen;
+use crate::terminal::screen::{Paint, Screen};
+use crate::terminal::words::hanging;
 use gesarumbo::{checksum, Tray};
 use std::io::Read;
 use std::path::Path;
@@ -68,10 +71,7 @@ fn prepare(cabinet: &mut Cabinet, replace: bool) -> Result<Census, Failure> {
     let has_text = disk.look(&text).map_err(Failure::file(&text))?.is_some();
     let is_taken = has_text || (census.has_trays() && !was_cut(cabinet)?);
     if is_taken && !replace {
-        return Err(Failure::File(format!(
-            "{}: a cabinet is there already (see --replace)",
-            folder.display()
-        )));
+        return Err(is_there(&folder));
     }
     // Where it cannot be told which cabinet is there, the new one takes the place of all.
     if let Ok(Some(agreed)) = census.agreed() {
@@ -91,6 +91,13 @@ fn prepare(cabinet: &mut Cabinet, replace: bool) -> Result<Census, Failure> {
     // New trays get the mode of those that they replace.
     cabinet.trays = Census::take(disk, &folder)?.of(&description, cabinet.numbers.trays as u32);
     Ok(census)
+}
+
+fn is_there(folder: &Path) -> Failure {
+    Failure::File(format!(
+        "{}: a cabinet is there already (see --replace)",
+        folder.display()
+    ))
 }
 
 /// Whether a store of the same description was cut in this folder.
@@ -134,10 +141,32 @@ fn write<S: Symbol>(
     forget_cut_tasks(disk, &folder)?;
     text.stays = true;
     draft::rename(drafts)?;
-    for path in old.beyond(cabinet.numbers.trays as u32) {
-        files::remove(disk, path)?;
-    }
+    clear_beyond(cabinet, old, screen)?;
     draft::rename(vec![text])
+}
+
+/// Removes the old cabinet's trays that the new one has no place for, and names them; what is not
+/// known to be one is named too, and stays.
+fn clear_beyond(cabinet: &Cabinet, old: &Census, screen: &mut Screen) -> Result<(), Failure> {
+    let (own, others) = old.beyond(cabinet.numbers.trays as u32);
+    for path in &own {
+        files::remove(cabinet.disk, path)?;
+    }
+    for (paths, words) in [
+        (own, "removed, trays of the old cabinet"),
+        (others, "left, no trays of this cabinet"),
+    ] {
+        let name = |path: &&Path| {
+            path.file_name()
+                .map(|name| name.to_string_lossy().into_owned())
+        };
+        let names: Vec<String> = paths.iter().filter_map(name).collect();
+        if !names.is_empty() {
+            let words = screen.paint(Paint::Warning, words);
+            screen.line(hanging("  ", &format!("{words}: {}", names.join(", "))));
+        }
+    }
+    Ok(())
 }
 
 /// A work file for every tray, with room for its label.
@@ -238,6 +267,10 @@ fn write_labels(cabinet: &Cabinet, drafts: &mut [Draft]) -> Result<(), Failure> 
 /// record of the last scrub: they are of other trays.
 fn forget_cut_tasks(disk: &dyn Disk, folder: &Path) -> Result<(), Failure> {
     let is_of_one = |name: &str| {
+        let of_pipe = work_name(Path::new(spool::INPUT), STORE);
+        if of_pipe.is_ok_and(|work| work == Path::new(name)) {
+            return true;
+        }
         let of_scrub = [scrub::NAME, scrub::record::NAME].contains(&tasks::bare(name));
         of_scrub || tasks::is_of_rebuild(name)
     };

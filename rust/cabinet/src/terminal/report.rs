@@ -18,6 +18,19 @@ pub const JSON: Setting = Setting::plain(
     "print one JSON object in place of all lines (docs/JSON.md)",
 );
 
+pub const QUIET: Setting = Setting::plain(
+    "--quiet",
+    "print nothing but what a failure has to say; the exit status tells the rest",
+);
+
+/// The commands that print what they do, besides those that report.
+const TELLING: [&str; 3] = ["share", "card", "read"];
+
+/// Whether a command can be told to print nothing.
+pub fn can_be_quiet(name: &str) -> bool {
+    REPORTING.contains(&name) || TELLING.contains(&name)
+}
+
 /// The commands that report.
 pub const REPORTING: [&str; 13] = [
     "status", "fix", "replace", "choose", "plan", "store", "get", "test", "scrub", "recover",

@@ -33,6 +33,10 @@ pub struct Screen {
     pub kept: Option<String>,
     /// The facts of a report, where one is printed in place of all lines.
     report: Option<Facts>,
+    /// Whether no line is printed.
+    is_quiet: bool,
+    /// Whether lines go to standard error: the data of a cabinet go to standard output.
+    gives_way: bool,
 }
 
 /// Names of a report with their values, in their order.
@@ -48,6 +52,8 @@ impl Screen {
             trouble: None,
             kept: None,
             report: None,
+            is_quiet: false,
+            gives_way: false,
         }
     }
 
@@ -58,6 +64,8 @@ impl Screen {
             trouble: None,
             kept: Some(String::new()),
             report: None,
+            is_quiet: false,
+            gives_way: false,
         }
     }
 
@@ -65,6 +73,17 @@ impl Screen {
     pub fn begin_report(&mut self) {
         self.colour = false;
         self.report = Some(Vec::new());
+    }
+
+    /// From here on no line is printed; a report still is.
+    pub fn be_quiet(&mut self) {
+        self.is_quiet = true;
+    }
+
+    /// From here on lines go to standard error.
+    pub fn give_way(&mut self) {
+        self.gives_way = true;
+        self.colour = self.colour && io::stderr().is_terminal();
     }
 
     /// Takes a fact into the report, if there is one; in place of an earlier one of this name.
@@ -87,13 +106,14 @@ impl Screen {
     pub fn end_report(&mut self, head: Facts) {
         if let Some(facts) = self.report.take() {
             let whole = Json::Object([head, facts].concat());
+            self.is_quiet = false;
             self.line(whole.to_string());
         }
     }
 
     /// Prints one line, or several.
     pub fn line(&mut self, text: impl AsRef<str>) {
-        if self.report.is_some() {
+        if self.report.is_some() || self.is_quiet {
             return;
         }
         if let Some(kept) = &mut self.kept {
@@ -102,7 +122,11 @@ impl Screen {
             return;
         }
         if self.trouble.is_none() {
-            self.trouble = writeln!(io::stdout(), "{}", text.as_ref()).err();
+            let text = text.as_ref();
+            self.trouble = match self.gives_way {
+                true => writeln!(io::stderr(), "{text}").err(),
+                false => writeln!(io::stdout(), "{text}").err(),
+            };
         }
     }
 

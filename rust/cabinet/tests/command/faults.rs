@@ -75,7 +75,7 @@ const WRITING: [&str; 6] = [
     "store 4 3 8 3 --volume 9 --replace data c",
     "repair c --lost 4 --helpers 0,2,3",
     "recover c",
-    "get c back",
+    "get c back --replace",
     "share c --host 0 --helper 2 share",
 ];
 
@@ -149,7 +149,7 @@ fn files_that_may_not_be_read() {
     assert_eq!(ended.status, 16, "{}", ended.err);
     let words = "tray  4 is not used: cannot be read here: Permission denied";
     assert!(ended.out.contains(words), "{}", ended.out);
-    let ended = as_user(&bench, "get c back");
+    let ended = as_user(&bench, "get c back --replace");
     assert_eq!(ended.status, 0, "{}", ended.err);
     assert_eq!(bench.read("back"), data(256_000));
     // It is not taken for damage, and is written anew only where a person says so.
@@ -200,7 +200,13 @@ fn files_and_folders_that_may_only_be_read() {
         fails_as_user(&bench, line, "Permission denied");
         assert!(before == bench.snapshot("c"), "{line}: a file has changed");
     }
-    for line in ["test c", "margin c", "scrub c", "get c back", "recover c"] {
+    for line in [
+        "test c",
+        "margin c",
+        "scrub c",
+        "get c back --replace",
+        "recover c",
+    ] {
         let ended = as_user(&bench, line);
         assert_eq!(ended.status, 0, "{line}: {}", ended.err);
     }
@@ -226,7 +232,7 @@ fn something_else_in_a_files_place() {
             "{line}"
         );
     }
-    bench.done("get c back");
+    bench.done("get c back --replace");
     assert_eq!(bench.read("back"), data(256_000));
     fs::remove_dir(bench.path("c/tray-04.img")).expect("it can be removed");
     // A link is not followed, neither in the file's place nor under the work name.

@@ -61,7 +61,7 @@ fn data_come_back_from_any_fifteen_trays() {
     for first in 0..20 {
         for step in [1, 3] {
             (0..5).for_each(|place| bench.remove(&image((first + place * step) % 20)));
-            bench.done("get c back");
+            bench.done("get c back --replace");
             bench.done("recover c");
             assert!(before == bench.snapshot("c"), "first {first}, step {step}");
             assert_eq!(bench.read("back"), data(480));
@@ -193,7 +193,7 @@ fn a_scrub_in_pieces() {
     assert!(message.contains("bad: 1 layer of 32 broken, layer 20 is the first"));
     let picture = String::from_utf8(bench.read("picture.svg")).expect("a picture is text");
     assert_well_formed(&picture);
-    assert!(picture.contains("Layers of Cabinet (5, 4, 15, 4) modulo 257, volume 7"));
+    assert!(picture.contains(">Layers of cabinet (5, 4, 15, 4) modulo 257<"));
     let message = bench.fails(65, "test c");
     assert!(message.contains("layer 20 is the first"), "{message}");
     bench.ends(17, "recover c --erase 9");
@@ -361,7 +361,7 @@ fn a_large_cabinet() {
     assert_readable(&out);
     assert!(out.contains("4608 crossed,    0 to come"), "{out}");
     bench.remove(&image(0));
-    bench.done("get c back");
+    bench.done("get c back --replace");
     bench.done("recover c");
     assert!(before == bench.snapshot("c"));
     assert_eq!(bench.read("back"), data(32_768));

@@ -70,19 +70,19 @@ fn a_short_file_is_filled_up_with_zeros() {
         out.contains("100 bytes stored, 128 fit: 28 zeros added"),
         "{out}"
     );
-    bench.done("get c back");
+    bench.done("get c back --replace");
     assert_eq!(bench.read("back"), data(100));
     let mut filled = data(100);
     filled.resize(128, 0);
     bench.done("get c whole --length 128");
     assert_eq!(bench.read("whole"), filled);
     bench.remove("c/cabinet.txt");
-    bench.done("get c back");
+    bench.done("get c back --replace");
     assert_eq!(bench.read("back"), data(100), "the labels say how long");
     bench.write("empty", b"");
     bench.done("store 4 3 8 3 --volume 7 empty e");
     bench.done("test e");
-    bench.done("get e back");
+    bench.done("get e back --replace");
     assert_eq!(bench.read("back"), b"");
 }
 

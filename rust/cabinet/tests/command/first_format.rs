@@ -19,7 +19,7 @@ fn it_is_read_as_ever() {
         "{out}"
     );
     bench.done("scrub first");
-    bench.done("get first back");
+    bench.done("get first back --replace");
     assert_eq!(bench.read("back"), data(300));
     let out = bench.done("inspect first/tray-05.img");
     assert!(
@@ -51,7 +51,7 @@ fn its_wrong_trays_are_named() {
     for (tray, stripe) in [(0, 0), (7, 1), (11, 2)] {
         bench.flip(&image(tray), stripe * 40 + 24 + 5);
     }
-    let out = bench.ends(17, "get first back");
+    let out = bench.ends(17, "get first back --replace");
     assert!(
         out.contains("tray 7 holds wrong symbols in stripe 1"),
         "{out}"

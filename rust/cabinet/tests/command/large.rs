@@ -73,7 +73,7 @@ fn a_file_larger_than_the_memory_that_is_used() {
     for tray in [0, 7, 29] {
         bench.remove(&format!("c/tray-{tray:02}.img"));
     }
-    run("get c back");
+    run("get c back --replace");
     assert!(bench.read("back") == data, "the data are as they were");
     run("recover c");
     run("test c");

@@ -14,6 +14,7 @@ mod fix;
 mod help;
 mod json;
 mod large;
+mod manners;
 mod manual;
 mod mixed;
 mod plan;

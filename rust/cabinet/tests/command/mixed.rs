@@ -31,7 +31,7 @@ fn files_that_are_too_long() {
             );
         }
         let words = "tray 9's file is too long: bytes follow its last segment";
-        let out = bench.ends(17, "get c back");
+        let out = bench.ends(17, "get c back --replace");
         assert!(out.contains(words), "{out}");
         assert!(bench.read("back") == data(128 * stripes));
         for line in ["test c", "scrub c"] {
@@ -89,7 +89,7 @@ fn a_stale_label_does_not_outvote_segments() {
         bench.write(&image(0), &old[0]);
         bench.flip(&image(1), 100);
         bench.flip(&image(2), 0);
-        let out = bench.ends(17, "get c back");
+        let out = bench.ends(17, "get c back --replace");
         let words = "tray  0 is not used: its label is of generation 1, not 2";
         assert!(out.contains(words), "{out}");
         assert!(out.contains("tray 2's label cannot be read"), "{out}");
@@ -110,7 +110,7 @@ fn a_cabinet_that_nothing_describes_is_not_written_over() {
         bench.remove("c/cabinet.txt");
         let before = bench.snapshot("c");
         for line in [
-            "get c back",
+            "get c back --replace",
             "recover c",
             "test c",
             "repair c --lost 1 --helpers 0,2",
@@ -123,14 +123,14 @@ fn a_cabinet_that_nothing_describes_is_not_written_over() {
         assert!(!bench.exists("back"));
         // With the stale tray taken out, the new ones are still not described.
         bench.remove(&image(0));
-        bench.fails(64, "get c back");
+        bench.fails(64, "get c back --replace");
         // Files that are damaged all over are no cabinet: the one that is left is given.
         bench.write(&image(0), &old[0]);
         for tray in [1, 2] {
             let damaged: Vec<u8> = old[tray].iter().map(|byte| byte ^ tray as u8).collect();
             bench.write(&image(tray), &damaged);
         }
-        bench.run("get c back");
+        bench.run("get c back --replace");
         assert!(bench.read("back") == bench.read("data"));
     }
 }
@@ -142,12 +142,12 @@ fn a_newer_cabinet_is_not_passed_over() {
     let (bench, old, new) = two_generations(1);
     bench.write(&image(0), &old[0]);
     bench.write(&image(1), &old[1]);
-    bench.done("get c back");
+    bench.done("get c back --replace");
     assert!(bench.read("back") == bench.read("other"));
     // Nothing tells which one is meant.
     let text = bench.read("c/cabinet.txt");
     bench.remove("c/cabinet.txt");
-    let message = bench.fails(65, "get c back");
+    let message = bench.fails(65, "get c back --replace");
     assert!(
         message.contains("generation 2, which is newer"),
         "{message}"
@@ -165,7 +165,7 @@ fn a_newer_cabinet_is_not_passed_over() {
     }
     let own = bench.read("e/tray-05.img");
     bench.write("e/tray-05.img", &bench.read("d/tray-05.img"));
-    let out = bench.done("get e back");
+    let out = bench.done("get e back --replace");
     assert!(out.contains("tray  5 is not used"), "{out}");
     let message = bench.fails(65, "recover e");
     assert!(message.contains("may be newer"), "{message}");
@@ -180,7 +180,7 @@ fn a_labelled_tray_among_those_of_the_first_format() {
     bench.write("data", &data(128));
     bench.done("store 4 3 8 3 --volume 7 data c");
     bench.write("first/tray-03.img", &bench.read(&image(3)));
-    let out = bench.done("get first back");
+    let out = bench.done("get first back --replace");
     assert!(out.contains("tray  3 is not used"), "{out}");
     assert!(bench.read("back") == data(300));
 }
@@ -225,7 +225,7 @@ fn stripes_with_just_as_many_right_trays_as_they_need() {
             .iter()
             .for_each(|tray| bench.flip(&image(*tray), place(stripe, 5)));
     }
-    let out = bench.ends(17, "get c back");
+    let out = bench.ends(17, "get c back --replace");
     assert!(
         out.contains("tray 11 holds wrong symbols in stripe 7"),
         "{out}"
@@ -241,7 +241,7 @@ fn stripes_with_just_as_many_right_trays_as_they_need() {
         let last = bench.read(&image(tray)).len() - 1;
         bench.flip(&image(tray), last);
     }
-    let out = bench.ends(17, "get c back");
+    let out = bench.ends(17, "get c back --replace");
     assert!(
         out.contains("tray 9 has a wrong checksum; its symbols are right"),
         "{out}"

@@ -165,7 +165,7 @@ fn pictures_of_layers_are_well_formed() {
     let drawn = picture(&bench);
     assert_eq!(cells(&drawn), [11, 1, 4]);
     for words in [
-        "Layers of Cabinet (4, 3, 8, 3), volume 7",
+        "Layers of cabinet (4, 3, 8, 3)",
         "12 of 16 layers looked at: 1 bad, the first is 11",
         "not looked at yet",
     ] {

@@ -50,10 +50,10 @@ fn data_come_back_exactly_as_long_as_they_were() {
             let tray = bench.read(&image(5));
             assert_eq!(tray.len(), LABEL + 24 + stripes * size + 8);
             bench.done("test c");
-            bench.done("get c back");
+            bench.done("get c back --replace");
             assert_eq!(bench.read("back"), data(length), "{layout}, {length}");
             bench.remove(&image(0));
-            bench.done("get c back --erase 5");
+            bench.done("get c back --erase 5 --replace");
             assert_eq!(bench.read("back"), data(length), "{layout}, {length}");
         }
     }
@@ -282,7 +282,8 @@ fn bad_stripes_are_named() {
     let bench = cabinet();
     bench.done("scrub c --svg picture.svg");
     let picture = String::from_utf8(bench.read("picture.svg")).expect("text");
-    assert!(picture.contains("Stripes of Cabinet (4, 3, 8, 3), volume 7: 3 stripes"));
+    assert!(picture.contains(">Stripes of cabinet (4, 3, 8, 3)<"));
+    assert!(picture.contains(">volume 7: 3 stripes, 300 bytes; "));
     assert_eq!(picture.matches("class=\"sound\"").count(), 1 + 3);
     damage(&bench, 6, 2, 5);
     let message = bench.fails(65, "test c");
@@ -314,7 +315,7 @@ fn many_stripes() {
     bench.write("data", &data(10_000));
     bench.done("store 2 1 1 1 --volume 7 data c");
     bench.done("test c");
-    bench.done("get c back");
+    bench.done("get c back --replace");
     assert_eq!(bench.read("back"), data(10_000));
     for stripe in [5000, 5001, 9999] {
         let at = SYMBOLS + stripe + stripe / 4096 * 32;
@@ -369,7 +370,7 @@ fn trays_serve_where_they_are_live() {
         out.contains("margin 0 in stripes 512-599, the first with the least: no tray"),
         "{out}"
     );
-    bench.done("get c back");
+    bench.done("get c back --replace");
     assert!(bench.read("back") == data(76_800));
     let out = bench.done("recover c");
     assert!(
@@ -408,7 +409,7 @@ fn a_segment_in_a_wrong_place_is_refused() {
     bench.refused(11, "inspect c/tray-07.img");
     bench.write("alone", &swapped);
     bench.refused(11, "inspect alone");
-    bench.done("get c back");
+    bench.done("get c back --replace");
     assert!(bench.read("back") == data(76_800));
     bench.done("recover c");
     assert!(before == bench.snapshot("c"));
@@ -435,7 +436,7 @@ fn demonstration_segments_are_never_handed_out() {
     assert!(message.contains("stripe 512: "), "{message}");
     let message = bench.refused(10, "repair c --lost 4 --helpers 0,2,3");
     assert!(message.contains(words), "{message}");
-    bench.done("get c back");
+    bench.done("get c back --replace");
     assert!(bench.read("back") == data(76_800));
 }
 
@@ -516,7 +517,7 @@ fn volumes_end() {
     assert!(message.contains("volumes end at 4294967295"), "{message}");
     assert!(!bench.exists("c"));
     bench.done("store 4 3 8 3 --volume 4294967293 data c");
-    bench.done("get c back");
+    bench.done("get c back --replace");
     assert!(bench.read("back") == data(76_800));
     bench.refused(3, "store 4 3 8 3 --volume 0 data d");
     assert!(!bench.exists("d"));
@@ -612,7 +613,7 @@ fn a_store_that_was_cut_is_done_again() {
             _ => {
                 bench.fails(74, "store 4 3 8 3 --volume 8 data c");
                 bench.done("test c");
-                bench.done("get c back");
+                bench.done("get c back --replace");
                 assert_eq!(bench.read("back"), data(300));
             }
         }

@@ -132,7 +132,7 @@ fn sound_is_what_was_held_against_something() {
     }
     let out = bench.ends(16, "test c");
     assert!(out.contains("has the checksums that were written"), "{out}");
-    bench.done("get c back");
+    bench.done("get c back --replace");
     assert_eq!(bench.read("back"), data(128));
     let out = bench.done("recover c");
     assert!(out.contains("sound, by the checksums"), "{out}");
@@ -164,7 +164,7 @@ fn in_the_first_format_nothing_is_left_to_test_by() {
     for tray in [0, 4, 7, 11] {
         bench.remove(&format!("first/tray-{tray:02}.img"));
     }
-    let out = bench.ends(16, "get first back");
+    let out = bench.ends(16, "get first back --replace");
     assert!(out.contains("not tested: no tray to spare"), "{out}");
     assert_eq!(bench.read("back"), data(300));
     let out = bench.ends(16, "test first");
@@ -199,7 +199,7 @@ fn a_store_over_another_cabinet_that_was_cut() {
                 }
             }
         }
-        bench.done("get c back");
+        bench.done("get c back --replace");
         let expected = match renamed {
             0 => bench.read("data"),
             _ => bench.read("other"),
@@ -207,7 +207,7 @@ fn a_store_over_another_cabinet_that_was_cut() {
         assert!(bench.read("back") == expected, "{renamed} have their names");
         bench.done("test c");
         bench.done("store 4 3 8 3 --volume 7 --replace other c");
-        bench.done("get c back");
+        bench.done("get c back --replace");
         assert!(bench.read("back") == bench.read("other"), "{renamed}");
         assert_eq!(bench.snapshot("c").len(), 13, "{renamed}");
     }
@@ -220,7 +220,13 @@ fn one_lock_a_cabinet() {
     let folder = fs::File::open(bench.path("c")).expect("it is there");
     let before = bench.snapshot("c");
     bench.write("other", &data(91)[1..]);
-    let readers = ["get c back", "test c", "scrub c", "margin c", "recover c"];
+    let readers = [
+        "get c back --replace",
+        "test c",
+        "scrub c",
+        "margin c",
+        "recover c",
+    ];
     let store = "store 5 3 6 3 --volume 7 --replace other c";
     folder.lock().expect("it can be locked");
     for line in readers.iter().chain(&[store, REPAIR]) {
@@ -238,7 +244,7 @@ fn one_lock_a_cabinet() {
     bench.done(store);
     let fresh = bench.snapshot("c");
     bench.write(&image(4), &stale);
-    let out = bench.done("get c back");
+    let out = bench.done("get c back --replace");
     let words = "tray  4 is not used: its label is of generation 1, not 2";
     assert!(out.contains(words), "{out}");
     assert!(bench.read("back") == bench.read("other"));
@@ -257,7 +263,7 @@ fn a_stale_tray_without_a_label() {
     bench.done("store 5 3 6 3 --volume 7 --replace other c");
     let fresh = bench.snapshot("c");
     bench.write(&image(1), &[&[0; LABEL], &stale[LABEL..]].concat());
-    let out = bench.ends(17, "get c back");
+    let out = bench.ends(17, "get c back --replace");
     assert!(out.contains("tray 1 holds wrong symbols"), "{out}");
     assert!(bench.read("back") == bench.read("other"));
     bench.ends(17, "recover c");
@@ -290,17 +296,17 @@ fn the_description_is_a_copy() {
     for at in 0..text.len() {
         bench.write("c/cabinet.txt", &text);
         bench.flip("c/cabinet.txt", at);
-        bench.done("get c back");
+        bench.done("get c back --replace");
         assert_eq!(bench.read("back"), data(90), "byte {at}");
     }
     bench.remove("c/cabinet.txt");
-    bench.done("get c back");
+    bench.done("get c back --replace");
     assert_eq!(bench.read("back"), data(90));
     bench.done("test c");
     // Any one tray tells what the cabinet is; with all labels gone the copy does.
     bench.write("c/cabinet.txt", &text);
     (0..15).for_each(|tray| bench.flip(&image(tray), 100));
-    bench.ends(17, "get c back");
+    bench.ends(17, "get c back --replace");
     assert_eq!(bench.read("back"), data(90));
     let out = bench.ends(17, "recover c");
     assert!(out.contains("label cannot be read"), "{out}");
@@ -336,7 +342,7 @@ fn one_flipped_bit_is_named_and_healed() {
     let bench = segments();
     let before = bench.snapshot("c");
     bench.flip(&image(6), place(300, 11));
-    let out = bench.ends(17, "get c back");
+    let out = bench.ends(17, "get c back --replace");
     assert!(
         out.contains("tray 6 holds wrong symbols in stripe 300"),
         "{out}"
@@ -366,7 +372,7 @@ fn a_bit_in_each_of_five_trays() {
     for (tray, stripe) in [(0, 10), (3, 20), (4, 30), (8, 40), (11, 50)] {
         bench.flip(&image(tray), place(stripe, 5));
     }
-    let out = bench.ends(17, "get c back");
+    let out = bench.ends(17, "get c back --replace");
     for words in [
         "tray 0 holds wrong symbols in stripe 10",
         "tray 11 holds wrong symbols in stripe 50",
@@ -376,7 +382,7 @@ fn a_bit_in_each_of_five_trays() {
     assert!(bench.read("back") == data(76_800));
     // Two in one stripe besides.
     bench.flip(&image(3), place(30, 9));
-    bench.ends(17, "get c back");
+    bench.ends(17, "get c back --replace");
     assert!(bench.read("back") == data(76_800));
     // Hunting for the wrong tray makes no loss: nothing is written that the checksums do not bear out.
     let hunted = bench.snapshot("c");
@@ -412,7 +418,7 @@ fn the_code_names_a_tray_that_was_written_wrong() {
     let before = bench.snapshot("c");
     for tray in 0..12 {
         bench.forge(&image(tray), SYMBOLS + tray);
-        let out = bench.ends(17, "get c back");
+        let out = bench.ends(17, "get c back --replace");
         assert!(
             out.contains(&format!("tray {tray} holds wrong symbols")),
             "{out}"
@@ -460,7 +466,7 @@ fn modes_are_kept() {
     bench.write("back", b"");
     let permissions = fs::Permissions::from_mode(0o640);
     fs::set_permissions(bench.path("back"), permissions).expect("it is ours");
-    bench.done("get c back");
+    bench.done("get c back --replace");
     assert_eq!(mode("back"), 0o640);
 }
 
@@ -510,7 +516,7 @@ fn a_work_name_that_is_a_hard_link() {
     for (line, work) in [
         ("repair c --lost 4 --helpers 0,2,3", "c/.tray-04.img.repair"),
         ("recover c --erase 4", "c/.tray-04.img.recover"),
-        ("get c back", ".back.get"),
+        ("get c back --replace", ".back.get"),
     ] {
         fs::hard_link(bench.path(&image(9)), bench.path(work)).expect("a link can be made");
         bench.done(line);
@@ -523,7 +529,7 @@ fn a_work_name_that_is_a_hard_link() {
 fn no_handles_are_no_damage() {
     let bench = cabinet();
     let before = bench.snapshot("c");
-    for line in ["recover c", "get c back", "test c", REPAIR] {
+    for line in ["recover c", "get c back --replace", "test c", REPAIR] {
         let ended = bench.shell(&format!("ulimit -n 12; exec $cabinet {line}"));
         assert_eq!(ended.status, 74, "{line}: {}{}", ended.out, ended.err);
         assert!(
@@ -567,7 +573,7 @@ fn trays_of_another_cabinet_without_labels_are_not_recovered_from() {
         bench.write(&image(tray), &bench.read(&format!("d/tray-{tray:02}.img")));
         bench.poke(&image(tray), 300, b'X');
     }
-    bench.done("get c back");
+    bench.done("get c back --replace");
     assert_eq!(bench.read("back"), data(90));
     // They may be newer.
     let mixed = bench.snapshot("c");
