@@ -96,6 +96,9 @@ pub fn print(status: &Status, screen: &mut Screen) {
         _ => screen.paint(Paint::Good, &status.margin()),
     };
     screen.line(format!("  margin      {margin}"));
+    if !status.has_text {
+        screen.line("  cabinet.txt is not as the labels say");
+    }
     screen.line(hanging("  last scrub  ", &status.last_scrub()));
     match &status.work[..] {
         [] => screen.line("  open work   none"),

@@ -200,6 +200,13 @@ impl<'d> Cabinet<'d> {
         }
     }
 
+    /// What `cabinet.txt` should say and does not, in the second format, where it is a copy.
+    pub fn other_text(&self) -> Option<Description> {
+        let stored = self.stored.filter(|stored| stored.format == Format::Second);
+        let text = Description::of(self.disk, self.folder()).unwrap_or_default();
+        stored.filter(|_| text != stored)
+    }
+
     /// Takes the lock alone, once all readers are done, and makes sure that the folder still holds
     /// the cabinet that was found in it.
     pub fn take_alone(&self) -> Result<(), Failure> {
