@@ -26,6 +26,12 @@ DATA = {'List ℕ', '(ℕ → A) → ℕ → List A', 'Signature', 'Param n', 'T
 # a lemma of each group that is left to merge
 OPEN = {
     'algebra/Points digits-same',
+    'batch_parts/Parts part-place',
+    'batch_parts/Parts positive',
+    'batch_restore/Known free-high',
+    'batch_restore/Known free-next',
+    'batch_restore/Layers place-is',
+    'batch_restore/Rows basis-congr',
     'box_recover/Steps free-none',
     'cards/Grounds cabinet-so',
     'checksum/Unique bit-lt',
