@@ -100,6 +100,8 @@
  * are there and the list of those that are not. gesarumbo_test_kept and gesarumbo_recover_correcting
  * go on from there, and say how many checks were left to find a wrong tray with.
  *
+ * Batches. Many codewords of one layout may be lent to one call, interleaved: see "Batches" below.
+ *
  * The second field. Each call over a layout has a twin over the numbers modulo 257, for racks of 1,
  * 2, 4, 8 or 16 trays: see "The second field" below.
  */
@@ -626,6 +628,29 @@ gesarumbo_reported gesarumbo_scrub_in_place(gesarumbo_layout layout,
                                             gesarumbo_scrub_record *record, uint64_t budget);
 
 /*
+ * Batches: many codewords of one layout in a call, interleaved. Symbol j of tray x of codeword q
+ * stands at (x*L + j)*many + q, for q from 0 to many-1. Data, racks, shares and spares lie likewise:
+ * what stands at i in the call for one codeword stands at i*many + q. So codeword q has every
+ * many-th symbol of a buffer from q on: its part.
+ *
+ * A call does to each part what the call for one codeword does, with layout, numbers and lists the
+ * same for all. Its grounds are that call's, in that order, with lengths times many, whatever number
+ * many is; a ground applies where it does to one of the parts, and a refused call has changed none.
+ * With many = 0 all buffers are empty, and layout, numbers and lists are judged as ever. With many =
+ * 1 answer and bytes are those of the call for one codeword.
+ */
+
+/*
+ * Works out a helper rack's share of many*L/s bytes for a host rack, from the helper's many*u*L bytes.
+ * Grounds: 1; 2, either buffer; 3, either rack; 6, both racks are the same.
+ * Done: every byte of share is written, whatever it held. Each part is what gesarumbo_share makes of
+ * the part of rack.
+ */
+uint32_t gesarumbo_share_batch(gesarumbo_layout layout, size_t many, uint32_t host, uint32_t helper,
+                               const uint8_t *rack, size_t rack_length,
+                               uint8_t *share, size_t share_length);
+
+/*
  * The second field: the whole numbers modulo 257, with root 3 of order 256.
  *
  * Every call above has a twin gesarumbo257_.., with symbols lent as 16-bit numbers. What is said
@@ -645,7 +670,8 @@ gesarumbo_reported gesarumbo_scrub_in_place(gesarumbo_layout layout,
  *    store                       the data
  *    recover, recover_correcting, test_kept
  *                                the trays that are not listed
- *    share, share_many           the helper's rack
+ *    share, share_many, share_batch
+ *                                the helper's rack
  *    share_add, share_add_many   the tray, and what the share holds
  *    repair, repair_many         the share symbols of the groups that the call does, and the
  *                                symbols of the host's sound trays in their layers
@@ -794,6 +820,11 @@ gesarumbo_reported gesarumbo257_scrub_reset_in_place(gesarumbo_layout layout,
 gesarumbo_reported gesarumbo257_scrub_in_place(gesarumbo_layout layout,
                                                const uint16_t *codeword, size_t codeword_length,
                                                gesarumbo_scrub_record *record, uint64_t budget);
+
+uint32_t gesarumbo257_share_batch(gesarumbo_layout layout, size_t many,
+                                  uint32_t host, uint32_t helper,
+                                  const uint16_t *rack, size_t rack_length,
+                                  uint16_t *share, size_t share_length);
 
 /*
  * The CRC-64 of bytes, as xz has it (ECMA-182, reflected), so that outside tools agree: of the nine

@@ -7,6 +7,8 @@
 
 static SYMBOL OWN(codeword)[SYMBOLS], OWN(kept)[SYMBOLS], OWN(spare)[SYMBOLS], OWN(shares)[SYMBOLS];
 static SYMBOL OWN(card_room)[CARD];
+static SYMBOL OWN(batch)[SYMBOLS];
+static SYMBOL OWN(batch_shares)[SYMBOLS];
 
 static SYMBOL *OWN(rack_at)(uint32_t rack)
 {
@@ -120,6 +122,23 @@ static void OWN(do_scrub_in_place)(void)
     answer = CALL(scrub_in_place)(layout, OWN(codeword), length, &record, layers).refusal;
 }
 
+static void OWN(do_share_batch)(void)
+{
+    answer = CALL(share_batch)(layout, many, host, helper, OWN(batch) + helper * many * rack_length,
+                               many * rack_length, OWN(batch_shares), many * groups);
+}
+
+/* Some codewords, all the one at hand: in small layouts more than a block may have, else few. */
+static void OWN(fill_batch)(void)
+{
+    many = length <= FEW ? BATCH : SOME;
+    if (many > SYMBOLS / length)
+        many = SYMBOLS / length;
+    for (size_t i = 0; i < length; i++)
+        for (size_t q = 0; q < many; q++)
+            OWN(batch)[i * many + q] = OWN(kept)[i];
+}
+
 /* Recovery and testing with the trays from first on in steps erased, at most r, over a sound word, one
  * with a wrong tray and, where that does not take too long, the correcting recovery. */
 static void OWN(with_erased)(uint32_t first, uint32_t step, uint32_t count)
@@ -155,6 +174,7 @@ static void OWN(with_host)(uint32_t rack, uint32_t first)
     MEASURE(share_add_many);
     MEASURE(share);
     MEASURE(share_add);
+    MEASURE(share_batch);
     first_group = 0;
     MEASURE(repair);
     MEASURE(repair_many);
@@ -191,6 +211,7 @@ static void OWN(in_layout)(void)
     MEASURE(measure);
     MEASURE(store);
     memcpy(OWN(kept), OWN(codeword), length * sizeof(SYMBOL));
+    OWN(fill_batch)();
     MEASURE(test);
     MEASURE(scrub_reset);
     MEASURE(scrub);

@@ -3,8 +3,9 @@
  * repaired in pieces and by a card and read meanwhile, the codeword is tested some layers at a time,
  * two erased trays are recovered, a wrong one beside them too, and trays are gathered from their
  * images. In a cabinet with less data, two lost trays of one rack are repaired. In one that allows
- * for a wrong share, a lost tray is repaired although one rack's share is stale. The second field's
- * calls are in test257.c, the box's in box_test.c.
+ * for a wrong share, a lost tray is repaired although one rack's share is stale. Then seventeen
+ * codewords are worked on in one call each, and every part is as the call for one leaves it. The
+ * second field's calls are in test257.c, the box's in box_test.c.
  *
  * No byte beside a buffer may be written: see guards.h.
  */
@@ -27,6 +28,9 @@ enum { WARY_RACKS = 5, WARY_TRAYS = WARY_RACKS * SIZE, WARY_DATA = 4, WARY_HELPE
 enum { WARY_LAYERS = 32, WARY_GROUPS = 16, WARY_RACK = SIZE * WARY_LAYERS };
 enum { WARY_SHARES = WARY_HELPERS * WARY_GROUPS };
 
+/* So many codewords in a batch. */
+enum { MANY = 17 };
+
 enum { ABSENT = 0, LIVE = 1, DEMONSTRATION = 2, VOLUME = 7 };
 
 static const gesarumbo_layout layout = { RACKS, SIZE, DATA, HELPERS, 0 };
@@ -42,6 +46,10 @@ static uint32_t *helpers, *erased, *lost, *wary_helpers;
 /* What trays are gathered into, and bytes for a checksum. */
 static uint8_t *gathered, *rack, *nine;
 static uint32_t *missing;
+/* A batch, and one codeword of it. */
+static uint8_t *batch_data, *batch, *one_data, *one;
+/* Its shares, and one of one codeword. */
+static uint8_t *batch_shares, *one_share;
 
 static void lend_all(void)
 {
@@ -67,6 +75,12 @@ static void lend_all(void)
     rack = lend(RACK_LENGTH);
     missing = lend(TRAYS * sizeof *missing);
     nine = lend(9);
+    batch_data = lend(MANY * DATA_LENGTH);
+    batch = lend(MANY * CODEWORD_LENGTH);
+    one_data = lend(DATA_LENGTH);
+    one = lend(CODEWORD_LENGTH);
+    batch_shares = lend(MANY * SHARES_LENGTH);
+    one_share = lend(GROUPS);
 }
 
 static uint8_t *tray_at(size_t tray)
@@ -571,6 +585,60 @@ static void correct_a_share(void)
     must(memcmp(wary_spare, tray, WARY_LAYERS) == 0, "a refusal changes nothing");
 }
 
+/* Takes the part of codeword q, so many bytes, out of a batch. */
+static void part(uint8_t *taken, const uint8_t *from, size_t count, size_t q)
+{
+    for (size_t i = 0; i < count; i++)
+        taken[i] = from[i * MANY + q];
+}
+
+/* Whether a share is the part of codeword q. */
+static int is_part(const uint8_t *alone, const uint8_t *of, size_t count, size_t q)
+{
+    for (size_t i = 0; i < count; i++)
+        if (of[i * MANY + q] != alone[i])
+            return 0;
+    return 1;
+}
+
+/* Fills the batch by the call for one codeword. */
+static void fill_batch(void)
+{
+    for (size_t i = 0; i < MANY * DATA_LENGTH; i++)
+        batch_data[i] = (uint8_t)(i * i / 5 + 3 * i);
+    for (size_t q = 0; q < MANY; q++) {
+        part(one_data, batch_data, DATA_LENGTH, q);
+        must(gesarumbo_store(layout, one_data, DATA_LENGTH, one, CODEWORD_LENGTH) == 0,
+             "a part of the data is stored");
+        for (size_t i = 0; i < CODEWORD_LENGTH; i++)
+            batch[i * MANY + q] = one[i];
+    }
+}
+
+/* Racks 0, 2 and 3 each send a share of all codewords for rack 1. */
+static void share_batch(void)
+{
+    enum { RACK = MANY * RACK_LENGTH, SHARE = MANY * GROUPS };
+    for (size_t i = 0; i < HELPERS; i++) {
+        const uint8_t *from = batch + helpers[i] * RACK;
+        uint8_t *share = batch_shares + i * SHARE;
+        must(gesarumbo_share_batch(layout, MANY, 1, helpers[i], from, RACK, share, SHARE) == 0,
+             "a share of a batch is worked out");
+        for (size_t q = 0; q < MANY; q++) {
+            part(one, from, RACK_LENGTH, q);
+            must(gesarumbo_share(layout, 1, helpers[i], one, RACK_LENGTH, one_share, GROUPS) == 0,
+                 "a part's share is worked out");
+            must(is_part(one_share, share, GROUPS, q), "each part's share is as it is alone");
+        }
+    }
+    print_bytes("share of rack 3, codeword 16:", one_share, GROUPS);
+    printf("batch of none: share %u, refused %u for a rack, %u for its own, %u for its length\n",
+           gesarumbo_share_batch(layout, 0, 1, 0, NULL, 0, NULL, 0),
+           gesarumbo_share_batch(layout, 0, 1, RACKS, NULL, 0, NULL, 0),
+           gesarumbo_share_batch(layout, 0, 1, 1, NULL, 0, NULL, 0),
+           gesarumbo_share_batch(layout, 0, 1, 0, batch, RACK, batch_shares, SHARE));
+}
+
 int main(void)
 {
     lend_all();
@@ -592,6 +660,8 @@ int main(void)
     gather();
     gather_racks();
     checksum();
+    fill_batch();
+    share_batch();
     must(guards_untouched(), "no byte beside a buffer is written");
     return 0;
 }

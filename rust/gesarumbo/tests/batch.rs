@@ -1,0 +1,70 @@
+//! The calls for many codewords: their grounds in order, and each part against the call for one.
+
+use gesarumbo::{Layout, Rack, Refusal};
+use std::fmt::Debug;
+
+/// Numbers of codewords: few, and beside the ends of the blocks that they may be worked on in.
+const MANY: [usize; 17] = [
+    0, 1, 2, 3, 7, 15, 16, 17, 63, 64, 65, 127, 128, 129, 255, 256, 257,
+];
+
+/// Numbers whose products with lengths are small or nothing in 64 bits only.
+const HUGE: [usize; 5] = [1 << 32, 1 << 60, 1 << 63, usize::MAX, usize::MAX / 3 + 1];
+
+/// What codeword q has of a buffer.
+fn part<S: Copy>(buffer: &[S], many: usize, q: usize) -> Vec<S> {
+    buffer.iter().skip(q).step_by(many).copied().collect()
+}
+
+/// Symbols that follow no pattern of the code's, all below 251.
+fn scattered<S: From<u8>>(seed: usize, length: usize) -> Vec<S> {
+    let symbol = |at: usize| S::from(((at * at + 7 * at + seed * 13) % 251) as u8);
+    (0..length).map(symbol).collect()
+}
+
+/// Asserts that a call is refused on this ground and leaves what it is lent.
+fn refused<S, T, F>(ground: Refusal, length: usize, call: F)
+where
+    S: Clone + Debug + PartialEq + From<u8>,
+    T: Debug,
+    F: FnOnce(&mut [S]) -> Result<T, Refusal>,
+{
+    let before: Vec<S> = (0..length).map(|at| S::from(at as u8 ^ 0x5A)).collect();
+    let mut lent = before.clone();
+    assert_eq!(call(&mut lent).expect_err("it is refused"), ground);
+    assert_eq!(lent, before);
+}
+
+mod field256 {
+    use super::*;
+    use gesarumbo::*;
+
+    type Symbol = u8;
+    const BAD: Layout = Layout::new(4, 4, 8, 3);
+    const GOOD: Layout = Layout::new(4, 3, 8, 3); // 12 trays, 16 layers, 4 checks, 8 groups
+    const U: usize = 3;
+
+    include!("batch/share.rs");
+}
+
+mod field257 {
+    use super::*;
+    use gesarumbo::field257::*;
+
+    type Symbol = u16;
+    const BAD: Layout = Layout::new(4, 3, 8, 3);
+    const GOOD: Layout = Layout::new(4, 4, 11, 3); // 16 trays, 16 layers, 5 checks, 8 groups
+    const U: usize = 4;
+
+    include!("batch/share.rs");
+
+    #[test]
+    fn sharing_looks_at_the_rack() {
+        let host = Rack::new(2);
+        let mut rack = scattered(3, 3 * U * 16);
+        rack[3 * U * 16 - 1] = 257;
+        refused(Refusal::Number, 3 * 8, |out| {
+            share_batch(GOOD, 3, host, host, &rack, out)
+        });
+    }
+}
