@@ -211,7 +211,7 @@ typedef struct {
 typedef struct {
     uint32_t refusal;
     uint64_t groups;    /* groups done */
-    uint64_t crossed;   /* symbols crossed: d for each lost tray and group done */
+    uint64_t crossed;   /* symbols crossed: d for each lost tray, codeword and group done */
     uint64_t remaining; /* symbols still to come: as many for each group after the last one done */
 } gesarumbo_repaired;
 
@@ -651,6 +651,24 @@ uint32_t gesarumbo_share_batch(gesarumbo_layout layout, size_t many, uint32_t ho
                                uint8_t *share, size_t share_length);
 
 /*
+ * Repairs a lost tray of many codewords, or a piece of it: the same groups of all. helpers are d
+ * racks, rising; shares are theirs in this order, many*d*L/s bytes, each helper's as
+ * gesarumbo_share_batch gives it; host is the many*u*L bytes of the lost tray's rack, of which those
+ * of the lost tray are not looked at; spare has many*L bytes.
+ * Grounds: 1, also for E = 1; 2, shares, host or spare; 3, the tray or a helper; 4; 5; 6; 7.
+ * Done: the groups from first on, the smaller of budget and the groups left. Each part of spare is
+ * as gesarumbo_repair leaves it: its layers of these groups are written, and no other byte. groups
+ * counts groups; crossed and remaining count symbols, many times those of one codeword.
+ * It may be cut as the repair of one codeword may.
+ */
+gesarumbo_repaired gesarumbo_repair_batch(gesarumbo_layout layout, size_t many, uint32_t lost,
+                                          const uint32_t *helpers, size_t helpers_count,
+                                          const uint8_t *shares, size_t shares_length,
+                                          const uint8_t *host, size_t host_length,
+                                          uint8_t *spare, size_t spare_length,
+                                          uint64_t first, uint64_t budget);
+
+/*
  * The second field: the whole numbers modulo 257, with root 3 of order 256.
  *
  * Every call above has a twin gesarumbo257_.., with symbols lent as 16-bit numbers. What is said
@@ -673,7 +691,8 @@ uint32_t gesarumbo_share_batch(gesarumbo_layout layout, size_t many, uint32_t ho
  *    share, share_many, share_batch
  *                                the helper's rack
  *    share_add, share_add_many   the tray, and what the share holds
- *    repair, repair_many         the share symbols of the groups that the call does, and the
+ *    repair, repair_many, repair_batch
+ *                                the share symbols of the groups that the call does, and the
  *                                symbols of the host's sound trays in their layers
  *    repair_correcting           the shares, and the host's sound trays
  *    card_test                   the card
@@ -825,6 +844,13 @@ uint32_t gesarumbo257_share_batch(gesarumbo_layout layout, size_t many,
                                   uint32_t host, uint32_t helper,
                                   const uint16_t *rack, size_t rack_length,
                                   uint16_t *share, size_t share_length);
+
+gesarumbo_repaired gesarumbo257_repair_batch(gesarumbo_layout layout, size_t many, uint32_t lost,
+                                             const uint32_t *helpers, size_t helpers_count,
+                                             const uint16_t *shares, size_t shares_length,
+                                             const uint16_t *host, size_t host_length,
+                                             uint16_t *spare, size_t spare_length,
+                                             uint64_t first, uint64_t budget);
 
 /*
  * The CRC-64 of bytes, as xz has it (ECMA-182, reflected), so that outside tools agree: of the nine

@@ -9,6 +9,7 @@ static SYMBOL OWN(codeword)[SYMBOLS], OWN(kept)[SYMBOLS], OWN(spare)[SYMBOLS], O
 static SYMBOL OWN(card_room)[CARD];
 static SYMBOL OWN(batch)[SYMBOLS];
 static SYMBOL OWN(batch_shares)[SYMBOLS];
+static SYMBOL OWN(batch_spare)[SYMBOLS];
 
 static SYMBOL *OWN(rack_at)(uint32_t rack)
 {
@@ -127,6 +128,13 @@ static void OWN(do_share_batch)(void)
     answer = CALL(share_batch)(layout, many, host, helper, OWN(batch) + helper * many * rack_length,
                                many * rack_length, OWN(batch_shares), many * groups);
 }
+static void OWN(do_repair_batch)(void)
+{
+    answer = CALL(repair_batch)(layout, many, lost[0], helpers, layout.helpers, OWN(batch_shares),
+                                many * layout.helpers * groups, OWN(batch) + host * many * rack_length,
+                                many * rack_length, OWN(batch_spare), many * layers, first_group, groups)
+                 .refusal;
+}
 
 /* Some codewords, all the one at hand: in small layouts more than a block may have, else few. */
 static void OWN(fill_batch)(void)
@@ -178,9 +186,11 @@ static void OWN(with_host)(uint32_t rack, uint32_t first)
     first_group = 0;
     MEASURE(repair);
     MEASURE(repair_many);
+    MEASURE(repair_batch);
     first_group = groups / 2;
     MEASURE(repair);
     MEASURE(repair_many);
+    MEASURE(repair_batch);
     if (layout.errors == 1) {
         for (uint32_t i = 0; i < layout.helpers; i++)
             CALL(share)(layout, rack, helpers[i], OWN(rack_at)(helpers[i]), rack_length,

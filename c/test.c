@@ -48,8 +48,8 @@ static uint8_t *gathered, *rack, *nine;
 static uint32_t *missing;
 /* A batch, and one codeword of it. */
 static uint8_t *batch_data, *batch, *one_data, *one;
-/* Its shares, and one of one codeword. */
-static uint8_t *batch_shares, *one_share;
+/* Its shares and one of one codeword, and the spare. */
+static uint8_t *batch_shares, *one_share, *batch_spare;
 
 static void lend_all(void)
 {
@@ -81,6 +81,7 @@ static void lend_all(void)
     one = lend(CODEWORD_LENGTH);
     batch_shares = lend(MANY * SHARES_LENGTH);
     one_share = lend(GROUPS);
+    batch_spare = lend(MANY * LAYERS);
 }
 
 static uint8_t *tray_at(size_t tray)
@@ -639,6 +640,46 @@ static void share_batch(void)
            gesarumbo_share_batch(layout, 0, 1, 0, batch, RACK, batch_shares, SHARE));
 }
 
+static gesarumbo_repaired repair_batch_piece(size_t many, uint64_t first, uint64_t budget)
+{
+    enum { RACK = MANY * RACK_LENGTH };
+    return gesarumbo_repair_batch(layout, many, 5, helpers, HELPERS, batch_shares,
+                                  MANY * SHARES_LENGTH, batch + RACK, RACK, batch_spare,
+                                  MANY * LAYERS, first, budget);
+}
+
+/* Tray 5 of all codewords is lost, and comes back in pieces of three groups. */
+static void repair_batch(void)
+{
+    enum { TRAY = MANY * LAYERS };
+    static uint8_t kept[TRAY];
+    uint8_t *tray = batch + 5 * TRAY;
+    memcpy(kept, tray, TRAY);
+    memset(tray, 0xFF, TRAY);
+    memset(batch_spare, 0xEE, TRAY);
+    for (uint64_t done = 0; done < GROUPS; done += 3) {
+        gesarumbo_repaired piece = repair_batch_piece(MANY, done, 3);
+        must(piece.refusal == 0, "a piece of a batch is done");
+        printf("batch, groups %u: crossed %u, still to come %u\n", (unsigned)piece.groups,
+               (unsigned)piece.crossed, (unsigned)piece.remaining);
+        for (size_t j = 0; done == 0 && j < LAYERS; j++)
+            for (size_t q = 0; q < MANY; q++)
+                must(batch_spare[j * MANY + q] == (j < 5 || j == 6 ? kept[j * MANY + q] : 0xEE),
+                     "a piece writes the layers of its groups in every part");
+    }
+    printf("batch: from group %u: refused %u; a codeword too few: refused %u\n", GROUPS + 1,
+           repair_batch_piece(MANY, GROUPS + 1, 0).refusal,
+           repair_batch_piece(MANY + 1, 0, 1).refusal);
+    gesarumbo_repaired none = gesarumbo_repair_batch(layout, 0, 5, helpers, HELPERS, NULL, 0, NULL,
+                                                     0, NULL, 0, 2, 4);
+    must(none.refusal == 0 && none.crossed == 0 && none.remaining == 0, "of none nothing crosses");
+    printf("batch of none: groups %u, no helpers: refused %u\n", (unsigned)none.groups,
+           gesarumbo_repair_batch(layout, 0, 5, NULL, 0, NULL, 0, NULL, 0, NULL, 0, 0, 1).refusal);
+    printf("tray 5 of every codeword is %s\n",
+           memcmp(batch_spare, kept, TRAY) == 0 ? "as it was" : "wrong");
+    memcpy(tray, kept, TRAY);
+}
+
 int main(void)
 {
     lend_all();
@@ -662,6 +703,7 @@ int main(void)
     checksum();
     fill_batch();
     share_batch();
+    repair_batch();
     must(guards_untouched(), "no byte beside a buffer is written");
     return 0;
 }

@@ -36,8 +36,8 @@ static gesarumbo_scrub_record *record;
 static uint32_t *helpers, *trays, *missing;
 /* A batch, and one codeword of it. */
 static uint16_t *batch_data, *batch, *one_data, *one;
-/* Its shares, and one of one codeword. */
-static uint16_t *batch_shares, *one_share;
+/* Its shares and one of one codeword, and the spare. */
+static uint16_t *batch_shares, *one_share, *batch_spare;
 
 static uint16_t *lend_symbols(size_t count)
 {
@@ -67,6 +67,7 @@ static void lend_all(void)
     one = lend_symbols(CODEWORD);
     batch_shares = lend_symbols(MANY * SHARES);
     one_share = lend_symbols(GROUPS);
+    batch_spare = lend_symbols(MANY * LAYERS);
 }
 
 static uint16_t *tray_at(size_t tray)
@@ -468,6 +469,39 @@ static void share_batch(void)
            gesarumbo257_share_batch(layout, 0, 1, 1, NULL, 0, NULL, 0));
 }
 
+static gesarumbo_repaired repair_batch_piece(uint64_t first, uint64_t budget)
+{
+    return gesarumbo257_repair_batch(layout, MANY, 6, helpers, HELPERS, batch_shares, MANY * SHARES,
+                                     batch + MANY * RACK, MANY * RACK, batch_spare, MANY * LAYERS,
+                                     first, budget);
+}
+
+/* Tray 6 of all codewords is lost, and comes back in pieces; a share is no symbol in group 15. */
+static void repair_batch(void)
+{
+    enum { TRAY = MANY * LAYERS, LAST = MANY * SHARES - 1 };
+    static uint16_t kept[TRAY];
+    uint16_t *tray = batch + 6 * TRAY;
+    memcpy(kept, tray, sizeof kept);
+    fill(tray, TRAY, LARGE);
+    fill(batch_spare, TRAY, LARGE);
+    uint16_t last = batch_shares[LAST];
+    batch_shares[LAST] = LARGE;
+    printf("batch with a share above 256: refused %u, and in its other groups %u\n",
+           repair_batch_piece(0, GROUPS).refusal, repair_batch_piece(0, GROUPS - 1).refusal);
+    batch_shares[LAST] = last;
+    fill(batch_spare, TRAY, LARGE);
+    for (uint64_t done = 0; done < GROUPS; done += 10) {
+        must(repair_batch_piece(GROUPS + 1, 1).refusal == 7, "no such group");
+        gesarumbo_repaired piece = repair_batch_piece(done, 10);
+        must(piece.refusal == 0, "a piece of a batch is done");
+        printf("batch, groups %u: crossed %u, still to come %u\n", (unsigned)piece.groups,
+               (unsigned)piece.crossed, (unsigned)piece.remaining);
+    }
+    printf("tray 6 of each codeword is %s\n", as_it_was(alike(batch_spare, kept, TRAY)));
+    memcpy(tray, kept, sizeof kept);
+}
+
 int main(void)
 {
     lend_all();
@@ -484,6 +518,7 @@ int main(void)
     lend_nothing();
     fill_batch();
     share_batch();
+    repair_batch();
     must(guards_untouched(), "no byte beside a buffer is written");
     return 0;
 }

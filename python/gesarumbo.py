@@ -274,6 +274,7 @@ _BOTH = {
     "scrub_reset_in_place": ("reported", "LS"),
     "scrub_in_place": ("reported", "LrSN"),
     "share_batch": ("", "Lznnrw"),
+    "repair_batch": ("repaired", "LznlrrwNN"),
 }
 _CALLS: Dict[str, Tuple[str, str]] = {
     **{"gesarumbo_" + name: call for name, call in _BOTH.items()},
@@ -525,6 +526,22 @@ class _Field:
         share = self._made(share, layout, lambda sizes: many * sizes.groups)
         self._call("share_batch", layout, many, host, helper, rack, share)
         return share
+
+    def repair_batch(
+        self,
+        layout: Layout,
+        many: int,
+        lost: int,
+        helpers: Sequence[int],
+        shares: Buffer,
+        host: Buffer,
+        spare: Buffer,
+        first: int = 0,
+        budget: int = ALL,
+    ) -> Repaired:
+        """Repairs a lost tray of many codewords into spare, or so many groups of it. Grounds: 1 to 7."""
+        answer = self._call("repair_batch", layout, many, lost, helpers, shares, host, spare, first, budget)
+        return Repaired(answer.groups, answer.crossed, answer.remaining)
 
     def card(self, layout: Layout, lost: int, helpers: Sequence[int], group: int, card: Optional[Buffer] = None) -> Buffer:
         """Prints the right repair card of d*s multipliers for a group. Grounds: 1 to 6."""

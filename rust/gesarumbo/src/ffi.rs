@@ -846,6 +846,7 @@ pub mod field256 {
 
     calls!("gesarumbo", u8);
     share_batch!("gesarumbo", u8);
+    repair_batch!("gesarumbo", u8);
 
     extern "C" {
         fn gesarumbo_read_image(
@@ -868,6 +869,7 @@ pub mod field257 {
 
     calls!("gesarumbo257", u16);
     share_batch!("gesarumbo257", u16);
+    repair_batch!("gesarumbo257", u16);
 
     extern "C" {
         fn gesarumbo257_read_image(

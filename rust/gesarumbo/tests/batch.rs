@@ -1,6 +1,6 @@
 //! The calls for many codewords: their grounds in order, and each part against the call for one.
 
-use gesarumbo::{Layout, Rack, Refusal};
+use gesarumbo::{Layout, Rack, Refusal, Repaired, Tray};
 use std::fmt::Debug;
 
 /// Numbers of codewords: few, and beside the ends of the blocks that they may be worked on in.
@@ -42,9 +42,11 @@ mod field256 {
     type Symbol = u8;
     const BAD: Layout = Layout::new(4, 4, 8, 3);
     const GOOD: Layout = Layout::new(4, 3, 8, 3); // 12 trays, 16 layers, 4 checks, 8 groups
+    const N: usize = 12;
     const U: usize = 3;
 
     include!("batch/share.rs");
+    include!("batch/repair.rs");
 }
 
 mod field257 {
@@ -54,9 +56,11 @@ mod field257 {
     type Symbol = u16;
     const BAD: Layout = Layout::new(4, 3, 8, 3);
     const GOOD: Layout = Layout::new(4, 4, 11, 3); // 16 trays, 16 layers, 5 checks, 8 groups
+    const N: usize = 16;
     const U: usize = 4;
 
     include!("batch/share.rs");
+    include!("batch/repair.rs");
 
     #[test]
     fn sharing_looks_at_the_rack() {
@@ -66,5 +70,33 @@ mod field257 {
         refused(Refusal::Number, 3 * 8, |out| {
             share_batch(GOOD, 3, host, host, &rack, out)
         });
+    }
+
+    /// A tray of the last rack is lost: group p has layers p and p + 8.
+    #[test]
+    fn a_piece_looks_at_its_own_groups() {
+        let (lost, helpers) = (Tray::new(3 * U as u32), racks(&[0, 1, 2]));
+        let [shares, host, spare] = lengths(3).map(|length| scattered(6, length));
+        let tried = |at_share: Option<usize>, at_host: Option<usize>, first, budget| {
+            let (mut shares, mut host) = (shares.clone(), host.clone());
+            at_share.into_iter().for_each(|at| shares[at] = 257);
+            at_host.into_iter().for_each(|at| host[at] = 257);
+            let mut spare = spare.clone();
+            repair_batch(
+                GOOD, 3, lost, &helpers, &shares, &host, &mut spare, first, budget,
+            )
+            .err()
+        };
+        let number = Some(Refusal::Number);
+        // The last codeword's symbol of group 5 in the second helper's share.
+        let share = Some((8 + 5) * 3 + 2);
+        assert_eq!(tried(share, None, 5, 1), number);
+        assert_eq!(tried(share, None, 0, 5), None);
+        assert_eq!(tried(share, None, 6, 9), None);
+        // The first codeword's symbol of layer 13 in the lost tray, and in the one after it.
+        assert_eq!(tried(None, Some(13 * 3), 0, 8), None);
+        assert_eq!(tried(None, Some((16 + 13) * 3), 0, 8), number);
+        assert_eq!(tried(None, Some((16 + 13) * 3), 0, 5), None);
+        assert_eq!(tried(None, Some((16 + 13) * 3), 5, 0), None);
     }
 }

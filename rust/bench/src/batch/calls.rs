@@ -22,22 +22,40 @@ impl<S: Batched> Call<S> {
         Call::ALL.into_iter().find(|call| call.name == name)
     }
 
-    /// Figures are a share by the symbols of the helper's rack.
-    pub const ALL: [Call<S>; 1] = [Call {
-        name: "share-batch",
-        symbols: Numbers::rack,
-        before: |m| m.cleared(m.numbers.groups),
-        batch: |m, share| {
-            let rack = m.rack(&m.codewords.together, m.helpers[0]);
-            S::share_batch(&m.numbers, m.many, m.host, m.helpers[0], rack, share);
+    /// Figures are a share by the symbols of the helper's rack; a repair by those of the lost tray.
+    pub const ALL: [Call<S>; 2] = [
+        Call {
+            name: "share-batch",
+            symbols: Numbers::rack,
+            before: |m| m.cleared(m.numbers.groups),
+            batch: |m, share| {
+                let rack = m.rack(&m.codewords.together, m.helpers[0]);
+                S::share_batch(&m.numbers, m.many, m.host, m.helpers[0], rack, share);
+            },
+            single: |m, q, share| {
+                let codeword = m.of(&m.codewords.apart, q);
+                let rack = m.rack(codeword, m.helpers[0]);
+                S::LIBRARY.share(&m.numbers, m.host, m.helpers[0], rack, share);
+            },
+            after: |m| &m.first_share,
         },
-        single: |m, q, share| {
-            let codeword = m.of(&m.codewords.apart, q);
-            let rack = m.rack(codeword, m.helpers[0]);
-            S::LIBRARY.share(&m.numbers, m.host, m.helpers[0], rack, share);
+        Call {
+            name: "repair-batch",
+            symbols: |numbers| numbers.layers,
+            before: |m| m.cleared(m.numbers.layers),
+            batch: |m, spare| {
+                let host = m.rack(&m.codewords.together, m.host);
+                let shares = &m.shares.together;
+                S::repair_batch(&m.numbers, m.many, m.lost, &m.helpers, shares, host, spare);
+            },
+            single: |m, q, spare| {
+                let host = m.rack(m.of(&m.codewords.apart, q), m.host);
+                let shares = m.of(&m.shares.apart, q);
+                S::LIBRARY.repair(&m.numbers, m.lost, &m.helpers, shares, host, spare);
+            },
+            after: |m| &m.lost_tray,
         },
-        after: |m| &m.first_share,
-    }];
+    ];
 
     /// The call for one codeword for each of them.
     pub fn one_by_one(&self, many: &Many<S>, buffer: &mut [S]) {

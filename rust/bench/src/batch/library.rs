@@ -1,7 +1,7 @@
 //! The library's calls for many codewords, by field.
 
 use crate::symbol::Symbol;
-use gesarumbo::{field257, Layout, Numbers, Rack};
+use gesarumbo::{field257, Layout, Numbers, Rack, Tray};
 
 /// A symbol of a field that has these calls.
 pub trait Batched: Symbol {
@@ -15,6 +15,16 @@ pub trait Batched: Symbol {
         helper: Rack,
         rack: &[Self],
         share: &mut [Self],
+    );
+    /// Repairs the whole tray.
+    fn repair_batch(
+        numbers: &Numbers,
+        many: usize,
+        lost: Tray,
+        helpers: &[Rack],
+        shares: &[Self],
+        host: &[Self],
+        spare: &mut [Self],
     );
 }
 
@@ -35,6 +45,20 @@ macro_rules! batched {
                 share: &mut [$symbol],
             ) {
                 $calls::share_batch(numbers.layout, many, host, helper, rack, share).expect(RIGHT);
+            }
+
+            fn repair_batch(
+                numbers: &Numbers,
+                many: usize,
+                lost: Tray,
+                helpers: &[Rack],
+                shares: &[$symbol],
+                host: &[$symbol],
+                spare: &mut [$symbol],
+            ) {
+                let (layout, all) = (numbers.layout, u64::MAX);
+                $calls::repair_batch(layout, many, lost, helpers, shares, host, spare, 0, all)
+                    .expect(RIGHT);
             }
         }
     };

@@ -2,7 +2,7 @@
 
 use super::library::Batched;
 use crate::filled::symbols;
-use gesarumbo::{Layout, Numbers, Rack};
+use gesarumbo::{Layout, Numbers, Rack, Tray};
 
 /// The same symbols of all codewords: one codeword's after another's, and interleaved.
 #[derive(Clone)]
@@ -21,6 +21,14 @@ impl<S: Copy> Both<S> {
             apart,
         }
     }
+
+    pub fn together(together: Vec<S>, many: usize) -> Both<S> {
+        let of_codeword = |q: usize| together.iter().skip(q).step_by(many).copied();
+        Both {
+            apart: (0..many).flat_map(of_codeword).collect(),
+            together,
+        }
+    }
 }
 
 /// The inputs of every call for one layout.
@@ -33,6 +41,11 @@ pub struct Many<S> {
     /// The d helpers, and the share of the first.
     pub helpers: Vec<Rack>,
     pub first_share: Both<S>,
+    /// The shares of all helpers.
+    pub shares: Both<S>,
+    /// A tray of the host rack, and its symbols.
+    pub lost: Tray,
+    pub lost_tray: Both<S>,
 }
 
 impl<S: Batched> Many<S> {
@@ -56,8 +69,13 @@ impl<S: Batched> Many<S> {
             host,
             helpers: others.take(numbers.helpers).collect(),
             first_share: Both::apart(vec![], 1),
+            shares: Both::apart(vec![], 1),
+            lost: Tray::new(layout.racks / 2 * layout.size + layout.size / 2),
+            lost_tray: Both::apart(vec![], 1),
         };
         many.first_share = many.share_of(many.helpers[0]);
+        many.shares = many.all_shares();
+        many.lost_tray = many.tray(many.lost);
         many
     }
 
@@ -69,6 +87,21 @@ impl<S: Batched> Many<S> {
             S::LIBRARY.share(&self.numbers, self.host, helper, rack, share);
         }
         Both::apart(shares, self.many)
+    }
+
+    /// The shares of all helpers, one after another.
+    fn all_shares(&self) -> Both<S> {
+        let shares = self.helpers.iter().map(|&helper| self.share_of(helper));
+        let together = shares.flat_map(|share| share.together).collect();
+        Both::together(together, self.many)
+    }
+
+    /// The symbols of a tray.
+    fn tray(&self, tray: Tray) -> Both<S> {
+        let length = self.numbers.layers * self.many;
+        let place = tray.number() as usize * length;
+        let together = self.codewords.together[place..place + length].to_vec();
+        Both::together(together, self.many)
     }
 
     /// A rack of a codeword, or of all of them together.

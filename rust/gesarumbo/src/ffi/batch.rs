@@ -31,3 +31,57 @@ macro_rules! share_batch {
         }
     };
 }
+
+macro_rules! repair_batch {
+    ($prefix:literal, $symbol:ty) => {
+        #[allow(clippy::too_many_arguments)] // a repair has as many
+        pub fn repair_batch(
+            layout: Layout,
+            many: usize,
+            lost: Tray,
+            helpers: &[Rack],
+            shares: &[$symbol],
+            host: &[$symbol],
+            spare: &mut [$symbol],
+            first: u64,
+            budget: u64,
+        ) -> Repaired {
+            extern "C" {
+                #[link_name = concat!($prefix, "_repair_batch")]
+                fn call(
+                    layout: Layout,
+                    many: usize,
+                    lost: Tray,
+                    helpers: *const Rack,
+                    count: usize,
+                    shares: *const $symbol,
+                    shares_length: usize,
+                    host: *const $symbol,
+                    host_length: usize,
+                    spare: *mut $symbol,
+                    spare_length: usize,
+                    first: u64,
+                    budget: u64,
+                ) -> Repaired;
+            }
+            // SAFETY: all slices are lent for the call, the written one alone; a rack is a 32-bit number.
+            unsafe {
+                call(
+                    layout,
+                    many,
+                    lost,
+                    helpers.as_ptr(),
+                    helpers.len(),
+                    shares.as_ptr(),
+                    shares.len(),
+                    host.as_ptr(),
+                    host.len(),
+                    spare.as_mut_ptr(),
+                    spare.len(),
+                    first,
+                    budget,
+                )
+            }
+        }
+    };
+}

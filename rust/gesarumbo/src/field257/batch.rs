@@ -1,7 +1,8 @@
 //! Calls for many codewords of this field, interleaved.
 
 use crate::ffi::field257;
-use crate::{Layout, Rack, Refusal};
+use crate::repair::answered;
+use crate::{Layout, Rack, Refusal, Repaired, Tray};
 
 /// Works out what a helper rack sends for the repair of a tray of the host rack in `many` codewords,
 /// as [`share_batch`](crate::share_batch) does: sums are modulo 257.
@@ -29,4 +30,41 @@ pub fn share_batch(
 ) -> Result<(), Refusal> {
     let refusal = field257::share_batch(layout, many, host, helper, rack, share);
     Refusal::unless_done(refusal, ())
+}
+
+/// Repairs a lost tray of `many` codewords, or a piece of it, as
+/// [`repair_batch`](crate::repair_batch) does.
+///
+/// Refused, in this order: as there, and [`Refusal::Number`] also where a share symbol of a group
+/// that the piece does is above 256, or a symbol of a sound tray of `host` in a layer of such a
+/// group, whatever else is wrong with the helpers. A piece of no group looks at no symbol.
+///
+/// ```
+/// use gesarumbo::field257::repair_batch;
+/// use gesarumbo::{Layout, Rack, Refusal, Repaired, Tray};
+///
+/// // Of 5, 7, 80, 165 and of twice that, tray 1 is lost; rack 1 sends 80 + 165 and 160 + 73.
+/// let (layout, lost, helpers) = (Layout::new(2, 2, 2, 1), Tray::new(1), [Rack::new(1)]);
+/// let (host, mut spare) = ([5, 10, 9999, 9999], [0; 2]);
+/// let done = repair_batch(layout, 2, lost, &helpers, &[245, 233], &host, &mut spare, 0, 1);
+/// assert_eq!(done, Ok(Repaired { groups: 1, crossed: 2, remaining: 0 }));
+/// assert_eq!(spare, [7, 14]);
+/// let refused = repair_batch(layout, 2, lost, &helpers, &[245, 257], &host, &mut spare, 0, 1);
+/// assert_eq!(refused, Err(Refusal::Number));
+/// ```
+#[allow(clippy::too_many_arguments)] // a repair has as many
+pub fn repair_batch(
+    layout: Layout,
+    many: usize,
+    lost: Tray,
+    helpers: &[Rack],
+    shares: &[u16],
+    host: &[u16],
+    spare: &mut [u16],
+    first: u64,
+    budget: u64,
+) -> Result<Repaired, Refusal> {
+    answered(field257::repair_batch(
+        layout, many, lost, helpers, shares, host, spare, first, budget,
+    ))
 }

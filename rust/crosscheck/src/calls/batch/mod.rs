@@ -2,6 +2,7 @@
 //! [`batches`] each, and
 //! how their inputs are made of those for one codeword and taken apart again.
 
+pub mod repair;
 pub mod share;
 
 use super::Call;
@@ -28,7 +29,7 @@ pub struct Batch {
 }
 
 /// Both fields have them alike.
-const BATCHES: [&Batch; 1] = [&share::BATCH];
+const BATCHES: [&Batch; 2] = [&share::BATCH, &repair::BATCH];
 
 /// Those of a field.
 pub fn batches(_: Field) -> &'static [&'static Batch] {
