@@ -641,6 +641,16 @@ gesarumbo_reported gesarumbo_scrub_in_place(gesarumbo_layout layout,
  */
 
 /*
+ * Stores the data of many codewords, many*k*L bytes, as many*n*L bytes.
+ * Grounds: 1; 2, either buffer.
+ * Done: every byte of codewords is written, whatever it held. Each part is what gesarumbo_store
+ * makes of the part of data.
+ */
+uint32_t gesarumbo_store_batch(gesarumbo_layout layout, size_t many,
+                               const uint8_t *data, size_t data_length,
+                               uint8_t *codewords, size_t codewords_length);
+
+/*
  * Works out a helper rack's share of many*L/s bytes for a host rack, from the helper's many*u*L bytes.
  * Grounds: 1; 2, either buffer; 3, either rack; 6, both racks are the same.
  * Done: every byte of share is written, whatever it held. Each part is what gesarumbo_share makes of
@@ -685,7 +695,7 @@ gesarumbo_repaired gesarumbo_repair_batch(gesarumbo_layout layout, size_t many, 
  * Ground 3 applies also where a number above 256 stands where the call looks:
  *
  *    test                        every symbol, before it answers
- *    store                       the data
+ *    store, store_batch          the data
  *    recover, recover_correcting, test_kept
  *                                the trays that are not listed
  *    share, share_many, share_batch
@@ -839,6 +849,10 @@ gesarumbo_reported gesarumbo257_scrub_reset_in_place(gesarumbo_layout layout,
 gesarumbo_reported gesarumbo257_scrub_in_place(gesarumbo_layout layout,
                                                const uint16_t *codeword, size_t codeword_length,
                                                gesarumbo_scrub_record *record, uint64_t budget);
+
+uint32_t gesarumbo257_store_batch(gesarumbo_layout layout, size_t many,
+                                  const uint16_t *data, size_t data_length,
+                                  uint16_t *codewords, size_t codewords_length);
 
 uint32_t gesarumbo257_share_batch(gesarumbo_layout layout, size_t many,
                                   uint32_t host, uint32_t helper,

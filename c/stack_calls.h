@@ -8,6 +8,7 @@
 static SYMBOL OWN(codeword)[SYMBOLS], OWN(kept)[SYMBOLS], OWN(spare)[SYMBOLS], OWN(shares)[SYMBOLS];
 static SYMBOL OWN(card_room)[CARD];
 static SYMBOL OWN(batch)[SYMBOLS];
+static SYMBOL OWN(kept_batch)[SYMBOLS];
 static SYMBOL OWN(batch_shares)[SYMBOLS];
 static SYMBOL OWN(batch_spare)[SYMBOLS];
 
@@ -123,6 +124,11 @@ static void OWN(do_scrub_in_place)(void)
     answer = CALL(scrub_in_place)(layout, OWN(codeword), length, &record, layers).refusal;
 }
 
+static void OWN(do_store_batch)(void)
+{
+    answer = CALL(store_batch)(layout, many, OWN(kept_batch), many * layout.dimension * layers, OWN(batch),
+                               many * length);
+}
 static void OWN(do_share_batch)(void)
 {
     answer = CALL(share_batch)(layout, many, host, helper, OWN(batch) + helper * many * rack_length,
@@ -145,6 +151,7 @@ static void OWN(fill_batch)(void)
     for (size_t i = 0; i < length; i++)
         for (size_t q = 0; q < many; q++)
             OWN(batch)[i * many + q] = OWN(kept)[i];
+    memcpy(OWN(kept_batch), OWN(batch), many * length * sizeof(SYMBOL));
 }
 
 /* Recovery and testing with the trays from first on in steps erased, at most r, over a sound word, one
@@ -222,6 +229,7 @@ static void OWN(in_layout)(void)
     MEASURE(store);
     memcpy(OWN(kept), OWN(codeword), length * sizeof(SYMBOL));
     OWN(fill_batch)();
+    MEASURE(store_batch);
     MEASURE(test);
     MEASURE(scrub_reset);
     MEASURE(scrub);

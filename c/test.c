@@ -616,6 +616,25 @@ static void fill_batch(void)
     }
 }
 
+/* Over the same data the batch is what it was, whatever it held. */
+static void store_batch(void)
+{
+    enum { DATA_OF_ALL = MANY * DATA_LENGTH, ALL = MANY * CODEWORD_LENGTH };
+    static uint8_t kept[ALL];
+    memcpy(kept, batch, ALL);
+    memset(batch, 0xEE, ALL);
+    must(gesarumbo_store_batch(layout, MANY, batch_data, DATA_OF_ALL, batch, ALL) == 0,
+         "a batch is stored");
+    must(memcmp(batch, kept, ALL) == 0, "each part is stored as it is alone");
+    part(one, batch, CODEWORD_LENGTH, MANY - 1);
+    print_bytes("codeword 16, tray 11:", one + 11 * LAYERS, LAYERS);
+    printf("batch: a codeword too few: refused %u, no codeword: %u, 2^63 of none: refused %u\n",
+           gesarumbo_store_batch(layout, MANY + 1, batch_data, DATA_OF_ALL, batch, ALL),
+           gesarumbo_store_batch(layout, 0, NULL, 0, NULL, 0),
+           gesarumbo_store_batch(layout, SIZE_MAX / 2 + 1, NULL, 0, NULL, 0));
+    must(memcmp(batch, kept, ALL) == 0, "a refusal changes nothing");
+}
+
 /* Racks 0, 2 and 3 each send a share of all codewords for rack 1. */
 static void share_batch(void)
 {
@@ -702,6 +721,7 @@ int main(void)
     gather_racks();
     checksum();
     fill_batch();
+    store_batch();
     share_batch();
     repair_batch();
     must(guards_untouched(), "no byte beside a buffer is written");

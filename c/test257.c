@@ -441,6 +441,28 @@ static void fill_batch(void)
     }
 }
 
+/* Over the same data the batch is what it was, whatever it held. */
+static void store_batch(void)
+{
+    enum { DATA_OF_ALL = MANY * DATA * LAYERS, ALL = MANY * CODEWORD };
+    static uint16_t kept[ALL];
+    memcpy(kept, batch, sizeof kept);
+    fill(batch, ALL, LARGE);
+    must(gesarumbo257_store_batch(layout, MANY, batch_data, DATA_OF_ALL, batch, ALL) == 0,
+         "a batch is stored");
+    must(alike(batch, kept, ALL), "each part is stored as it is alone");
+    part(one, batch, CODEWORD, MANY - 1);
+    print_symbols("codeword 16, tray 19:", one + 19 * LAYERS, 8);
+    batch_data[DATA_OF_ALL - 1] += 257;
+    printf("batch: a number above 256: refused %u, a codeword too few: refused %u, "
+           "no codeword: %u, 2^63 of none: refused %u\n",
+           gesarumbo257_store_batch(layout, MANY, batch_data, DATA_OF_ALL, batch, ALL),
+           gesarumbo257_store_batch(layout, MANY + 1, batch_data, DATA_OF_ALL, batch, ALL),
+           gesarumbo257_store_batch(layout, 0, NULL, 0, NULL, 0),
+           gesarumbo257_store_batch(layout, SIZE_MAX / 2 + 1, NULL, 0, NULL, 0));
+    must(alike(batch, kept, ALL), "a refusal changes nothing");
+}
+
 /* The racks but rack 1 each send a share of all codewords for it. */
 static void share_batch(void)
 {
@@ -517,6 +539,7 @@ int main(void)
     correct_a_share();
     lend_nothing();
     fill_batch();
+    store_batch();
     share_batch();
     repair_batch();
     must(guards_untouched(), "no byte beside a buffer is written");

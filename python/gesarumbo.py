@@ -273,6 +273,7 @@ _BOTH = {
     "scrub": ("scrubbed", "LrsN"),
     "scrub_reset_in_place": ("reported", "LS"),
     "scrub_in_place": ("reported", "LrSN"),
+    "store_batch": ("", "Lzrw"),
     "share_batch": ("", "Lznnrw"),
     "repair_batch": ("repaired", "LznlrrwNN"),
 }
@@ -518,6 +519,12 @@ class _Field:
         """Repairs a lost tray though one helper's share may be wrong: E is 1. Grounds: 1 to 6, 14."""
         answer = self._call("repair_correcting", layout, lost, helpers, shares, host, spare)
         return Corrected(answer.rack, answer.crossed)
+
+    def store_batch(self, layout: Layout, many: int, data: Buffer, codewords: Optional[Buffer] = None) -> Buffer:
+        """Stores the data of many codewords, interleaved, as codewords, which are returned. Grounds: 1, 2."""
+        codewords = self._made(codewords, layout, lambda sizes: many * sizes.codeword)
+        self._call("store_batch", layout, many, data, codewords)
+        return codewords
 
     def share_batch(
         self, layout: Layout, many: int, host: int, helper: int, rack: Buffer, share: Optional[Buffer] = None

@@ -233,6 +233,7 @@ def replies(field):
         ],
         'recover_correcting': lambda *given: [*field.recover_correcting(*given), shown(given[1])],
         'test_kept': lambda *given: [*field.test_kept(*given)],
+        'store_batch': lambda *given: [shown(field.store_batch(*given))],
         'share_batch': lambda *given: [shown(field.share_batch(*given))],
         'repair_batch': lambda *given: [*field.repair_batch(*given), shown(given[6])],
         'states': lambda *given: [shown(field.states(*given))],

@@ -24,7 +24,7 @@ and for one layout only, in the field of 256 if none is named: --layout B u k d,
 where one share may be wrong
 calls: store, test, walk, recover-1, recover-r, share-first, share-middle, share-last, repair; with
 --errors 1 correct-right and correct-wrong in place of repair; checksum-N of N bytes
-calls for many codewords: share-batch, repair-batch
+calls for many codewords: store-batch, share-batch, repair-batch
 versions in the field of 256: library, log-exp, product-table; isal-portable and isal-dispatched of
 store alone
 versions in the field of 257: library, remainder, delayed

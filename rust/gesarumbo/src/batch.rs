@@ -4,6 +4,36 @@ use crate::ffi::field256;
 use crate::repair::answered;
 use crate::{Layout, Rack, Refusal, Repaired, Tray};
 
+/// Stores the data of `many` codewords, as [`store`](crate::store()) does for each.
+///
+/// Done: all many·n·L bytes of `codewords` are written, whatever they held; each part is the codeword
+/// of the part of `data`. Refused: `codewords` is as it was.
+///
+/// Refused, in this order: [`Refusal::Layout`]; [`Refusal::Length`] where `data` has not many·k·L
+/// bytes or `codewords` not many·n·L.
+///
+/// ```
+/// use gesarumbo::{store, store_batch, Layout, Refusal};
+///
+/// // Two trays of one symbol each, three codewords.
+/// let layout = Layout::new(2, 1, 1, 1);
+/// let mut codewords = [0; 6];
+/// store_batch(layout, 3, &[0x01, 0x02, 0x03], &mut codewords)?;
+/// assert_eq!(codewords, [0x01, 0x02, 0x03, 0x01, 0x02, 0x03]);
+///
+/// assert_eq!(store_batch(layout, 2, &[0x01, 0x02, 0x03], &mut codewords), Err(Refusal::Length));
+/// assert_eq!(store_batch(layout, 0, &[], &mut []), Ok(()));
+/// # Ok::<(), Refusal>(())
+/// ```
+pub fn store_batch(
+    layout: Layout,
+    many: usize,
+    data: &[u8],
+    codewords: &mut [u8],
+) -> Result<(), Refusal> {
+    Refusal::unless_done(field256::store_batch(layout, many, data, codewords), ())
+}
+
 /// Works out what a helper rack sends for the repair of a tray of the host rack in `many` codewords,
 /// as [`share`](crate::share()) does for each.
 ///

@@ -845,6 +845,7 @@ pub mod field256 {
     use super::*;
 
     calls!("gesarumbo", u8);
+    store_batch!("gesarumbo", u8);
     share_batch!("gesarumbo", u8);
     repair_batch!("gesarumbo", u8);
 
@@ -868,6 +869,7 @@ pub mod field257 {
     use super::*;
 
     calls!("gesarumbo257", u16);
+    store_batch!("gesarumbo257", u16);
     share_batch!("gesarumbo257", u16);
     repair_batch!("gesarumbo257", u16);
 

@@ -58,7 +58,7 @@
 //! times `many`, which may be any number: a ground applies where it does to one of the parts, and a
 //! refused call has changed none of them. With `many` 0 all buffers are empty, and layout, numbers
 //! and lists are judged all the same; with `many` 1 answer and symbols are those of the call for
-//! one. The calls are [`share_batch`] and [`repair_batch`].
+//! one. The calls are [`store_batch`], [`share_batch`] and [`repair_batch`].
 //!
 //! A second field, in which racks of two, four, eight and sixteen trays can be had, has the same
 //! calls in [`field257`].
@@ -101,7 +101,7 @@ mod store;
 mod test;
 mod test_kept;
 
-pub use batch::{repair_batch, share_batch};
+pub use batch::{repair_batch, share_batch, store_batch};
 pub use card::{card, card_repair, card_test};
 pub use checksum::checksum;
 pub use correcting::{repair_correcting, Corrected};

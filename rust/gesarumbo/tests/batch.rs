@@ -42,9 +42,11 @@ mod field256 {
     type Symbol = u8;
     const BAD: Layout = Layout::new(4, 4, 8, 3);
     const GOOD: Layout = Layout::new(4, 3, 8, 3); // 12 trays, 16 layers, 4 checks, 8 groups
+    const K: usize = 8;
     const N: usize = 12;
     const U: usize = 3;
 
+    include!("batch/store.rs");
     include!("batch/share.rs");
     include!("batch/repair.rs");
 }
@@ -56,11 +58,28 @@ mod field257 {
     type Symbol = u16;
     const BAD: Layout = Layout::new(4, 3, 8, 3);
     const GOOD: Layout = Layout::new(4, 4, 11, 3); // 16 trays, 16 layers, 5 checks, 8 groups
+    const K: usize = 11;
     const N: usize = 16;
     const U: usize = 4;
 
+    include!("batch/store.rs");
     include!("batch/share.rs");
     include!("batch/repair.rs");
+
+    #[test]
+    fn storing_looks_at_the_data() {
+        let mut codewords = vec![9999; 3 * 16 * 16];
+        let mut data = scattered(4, 3 * 11 * 16);
+        assert_eq!(store_batch(GOOD, 3, &data, &mut codewords), Ok(()));
+        assert!(codewords.iter().all(|&symbol| symbol <= 256));
+        for at in [0, 1, 3 * 11 * 16 - 1] {
+            data[at] = 257;
+            refused(Refusal::Number, 3 * 16 * 16, |out| {
+                store_batch(GOOD, 3, &data, out)
+            });
+            data[at] = 256;
+        }
+    }
 
     #[test]
     fn sharing_looks_at_the_rack() {

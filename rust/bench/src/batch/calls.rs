@@ -22,8 +22,19 @@ impl<S: Batched> Call<S> {
         Call::ALL.into_iter().find(|call| call.name == name)
     }
 
-    /// Figures are a share by the symbols of the helper's rack; a repair by those of the lost tray.
-    pub const ALL: [Call<S>; 2] = [
+    /// Figures are by symbols of data; a share by the symbols of the helper's rack, a repair by
+    /// those of the lost tray.
+    pub const ALL: [Call<S>; 3] = [
+        Call {
+            name: "store-batch",
+            symbols: Numbers::data,
+            before: |m| m.cleared(m.numbers.codeword()),
+            batch: |m, codewords| S::store_batch(&m.numbers, m.many, &m.data.together, codewords),
+            single: |m, q, codeword| {
+                S::LIBRARY.store(&m.numbers, m.of(&m.data.apart, q), codeword);
+            },
+            after: |m| &m.codewords,
+        },
         Call {
             name: "share-batch",
             symbols: Numbers::rack,

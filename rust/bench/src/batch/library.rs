@@ -8,6 +8,7 @@ pub trait Batched: Symbol {
     /// The layouts that are timed.
     const LAYOUTS_OF_BATCHES: &'static [Layout];
 
+    fn store_batch(numbers: &Numbers, many: usize, data: &[Self], codewords: &mut [Self]);
     fn share_batch(
         numbers: &Numbers,
         many: usize,
@@ -35,6 +36,15 @@ macro_rules! batched {
     ($symbol:ty, $calls:ident, $layouts:expr) => {
         impl Batched for $symbol {
             const LAYOUTS_OF_BATCHES: &'static [Layout] = &$layouts;
+
+            fn store_batch(
+                numbers: &Numbers,
+                many: usize,
+                data: &[$symbol],
+                codewords: &mut [$symbol],
+            ) {
+                $calls::store_batch(numbers.layout, many, data, codewords).expect(RIGHT);
+            }
 
             fn share_batch(
                 numbers: &Numbers,

@@ -35,6 +35,7 @@ impl<S: Copy> Both<S> {
 pub struct Many<S> {
     pub numbers: Numbers,
     pub many: usize,
+    pub data: Both<S>,
     pub codewords: Both<S>,
     /// The rack in the middle, which a share is for.
     pub host: Rack,
@@ -52,9 +53,9 @@ impl<S: Batched> Many<S> {
     /// Codewords of data that only look random, by the call for one codeword.
     pub fn new(layout: Layout, many: usize) -> Many<S> {
         let numbers = S::numbers(layout).expect("the layout is admissible");
-        let data: Vec<S> = symbols(many * numbers.data());
+        let data = Both::apart(symbols(many * numbers.data()), many);
         let mut codewords = vec![S::default(); many * numbers.codeword()];
-        let own = data.chunks(numbers.data());
+        let own = data.apart.chunks(numbers.data());
         for (data, codeword) in own.zip(codewords.chunks_mut(numbers.codeword())) {
             S::LIBRARY.store(&numbers, data, codeword);
         }
@@ -65,6 +66,7 @@ impl<S: Batched> Many<S> {
         let mut many = Many {
             numbers,
             many,
+            data,
             codewords: Both::apart(codewords, many),
             host,
             helpers: others.take(numbers.helpers).collect(),

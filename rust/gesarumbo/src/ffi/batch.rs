@@ -1,6 +1,33 @@
 //! The C functions for many codewords, each as a macro that makes its safe function for one field:
 //! the C function with this prefix over symbols of this type.
 
+macro_rules! store_batch {
+    ($prefix:literal, $symbol:ty) => {
+        pub fn store_batch(
+            layout: Layout,
+            many: usize,
+            data: &[$symbol],
+            codewords: &mut [$symbol],
+        ) -> u32 {
+            extern "C" {
+                #[link_name = concat!($prefix, "_store_batch")]
+                fn call(
+                    layout: Layout,
+                    many: usize,
+                    data: *const $symbol,
+                    data_length: usize,
+                    codewords: *mut $symbol,
+                    length: usize,
+                ) -> u32;
+            }
+            let (from, from_length) = (data.as_ptr(), data.len());
+            let (to, to_length) = (codewords.as_mut_ptr(), codewords.len());
+            // SAFETY: both slices are lent for the call, the written one alone.
+            unsafe { call(layout, many, from, from_length, to, to_length) }
+        }
+    };
+}
+
 macro_rules! share_batch {
     ($prefix:literal, $symbol:ty) => {
         pub fn share_batch(

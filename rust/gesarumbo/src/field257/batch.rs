@@ -4,6 +4,32 @@ use crate::ffi::field257;
 use crate::repair::answered;
 use crate::{Layout, Rack, Refusal, Repaired, Tray};
 
+/// Stores the data of `many` codewords, as [`store_batch`](crate::store_batch) does.
+///
+/// Refused, in this order: as there, and [`Refusal::Number`] where a number of `data` is above 256.
+/// What `codewords` holds is not looked at.
+///
+/// ```
+/// use gesarumbo::field257::store_batch;
+/// use gesarumbo::{Layout, Refusal};
+///
+/// // Two codewords, of the data 5, 7 and of the data 0, 1.
+/// let layout = Layout::new(2, 2, 2, 1);
+/// let mut codewords = [9999; 8];
+/// store_batch(layout, 2, &[5, 0, 7, 1], &mut codewords)?;
+/// assert_eq!(codewords, [5, 0, 7, 1, 80, 171, 165, 85]);
+/// assert_eq!(store_batch(layout, 2, &[5, 0, 7, 257], &mut codewords), Err(Refusal::Number));
+/// # Ok::<(), Refusal>(())
+/// ```
+pub fn store_batch(
+    layout: Layout,
+    many: usize,
+    data: &[u16],
+    codewords: &mut [u16],
+) -> Result<(), Refusal> {
+    Refusal::unless_done(field257::store_batch(layout, many, data, codewords), ())
+}
+
 /// Works out what a helper rack sends for the repair of a tray of the host rack in `many` codewords,
 /// as [`share_batch`](crate::share_batch) does: sums are modulo 257.
 ///

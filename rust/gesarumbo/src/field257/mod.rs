@@ -70,7 +70,7 @@ mod store;
 mod test;
 mod test_kept;
 
-pub use batch::{repair_batch, share_batch};
+pub use batch::{repair_batch, share_batch, store_batch};
 pub use card::{card, card_repair, card_test};
 pub use correcting::repair_correcting;
 pub use gather::{gather, gather_rack, states};

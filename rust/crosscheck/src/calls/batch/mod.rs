@@ -4,6 +4,7 @@
 
 pub mod repair;
 pub mod share;
+pub mod store;
 
 use super::Call;
 use crate::answer::Answer;
@@ -29,7 +30,7 @@ pub struct Batch {
 }
 
 /// Both fields have them alike.
-const BATCHES: [&Batch; 2] = [&share::BATCH, &repair::BATCH];
+const BATCHES: [&Batch; 3] = [&store::BATCH, &share::BATCH, &repair::BATCH];
 
 /// Those of a field.
 pub fn batches(_: Field) -> &'static [&'static Batch] {
