@@ -100,6 +100,8 @@
  * are there and the list of those that are not. gesarumbo_test_kept and gesarumbo_recover_correcting
  * go on from there, and say how many checks were left to find a wrong tray with.
  *
+ * Batches. Many codewords of one layout may be lent to one call, interleaved: see "Batches" below.
+ *
  * The second field. Each call over a layout has a twin over the numbers modulo 257, for racks of 1,
  * 2, 4, 8 or 16 trays: see "The second field" below.
  */
@@ -209,7 +211,7 @@ typedef struct {
 typedef struct {
     uint32_t refusal;
     uint64_t groups;    /* groups done */
-    uint64_t crossed;   /* symbols crossed: d for each lost tray and group done */
+    uint64_t crossed;   /* symbols crossed: d for each lost tray, codeword and group done */
     uint64_t remaining; /* symbols still to come: as many for each group after the last one done */
 } gesarumbo_repaired;
 
@@ -626,6 +628,57 @@ gesarumbo_reported gesarumbo_scrub_in_place(gesarumbo_layout layout,
                                             gesarumbo_scrub_record *record, uint64_t budget);
 
 /*
+ * Batches: many codewords of one layout in a call, interleaved. Symbol j of tray x of codeword q
+ * stands at (x*L + j)*many + q, for q from 0 to many-1. Data, racks, shares and spares lie likewise:
+ * what stands at i in the call for one codeword stands at i*many + q. So codeword q has every
+ * many-th symbol of a buffer from q on: its part.
+ *
+ * A call does to each part what the call for one codeword does, with layout, numbers and lists the
+ * same for all. Its grounds are that call's, in that order, with lengths times many, whatever number
+ * many is; a ground applies where it does to one of the parts, and a refused call has changed none.
+ * With many = 0 all buffers are empty, and layout, numbers and lists are judged as ever. With many =
+ * 1 answer and bytes are those of the call for one codeword.
+ */
+
+/*
+ * Stores the data of many codewords, many*k*L bytes, as many*n*L bytes.
+ * Grounds: 1; 2, either buffer.
+ * Done: every byte of codewords is written, whatever it held. Each part is what gesarumbo_store
+ * makes of the part of data.
+ */
+uint32_t gesarumbo_store_batch(gesarumbo_layout layout, size_t many,
+                               const uint8_t *data, size_t data_length,
+                               uint8_t *codewords, size_t codewords_length);
+
+/*
+ * Works out a helper rack's share of many*L/s bytes for a host rack, from the helper's many*u*L bytes.
+ * Grounds: 1; 2, either buffer; 3, either rack; 6, both racks are the same.
+ * Done: every byte of share is written, whatever it held. Each part is what gesarumbo_share makes of
+ * the part of rack.
+ */
+uint32_t gesarumbo_share_batch(gesarumbo_layout layout, size_t many, uint32_t host, uint32_t helper,
+                               const uint8_t *rack, size_t rack_length,
+                               uint8_t *share, size_t share_length);
+
+/*
+ * Repairs a lost tray of many codewords, or a piece of it: the same groups of all. helpers are d
+ * racks, rising; shares are theirs in this order, many*d*L/s bytes, each helper's as
+ * gesarumbo_share_batch gives it; host is the many*u*L bytes of the lost tray's rack, of which those
+ * of the lost tray are not looked at; spare has many*L bytes.
+ * Grounds: 1, also for E = 1; 2, shares, host or spare; 3, the tray or a helper; 4; 5; 6; 7.
+ * Done: the groups from first on, the smaller of budget and the groups left. Each part of spare is
+ * as gesarumbo_repair leaves it: its layers of these groups are written, and no other byte. groups
+ * counts groups; crossed and remaining count symbols, many times those of one codeword.
+ * It may be cut as the repair of one codeword may.
+ */
+gesarumbo_repaired gesarumbo_repair_batch(gesarumbo_layout layout, size_t many, uint32_t lost,
+                                          const uint32_t *helpers, size_t helpers_count,
+                                          const uint8_t *shares, size_t shares_length,
+                                          const uint8_t *host, size_t host_length,
+                                          uint8_t *spare, size_t spare_length,
+                                          uint64_t first, uint64_t budget);
+
+/*
  * The second field: the whole numbers modulo 257, with root 3 of order 256.
  *
  * Every call above has a twin gesarumbo257_.., with symbols lent as 16-bit numbers. What is said
@@ -642,12 +695,14 @@ gesarumbo_reported gesarumbo_scrub_in_place(gesarumbo_layout layout,
  * Ground 3 applies also where a number above 256 stands where the call looks:
  *
  *    test                        every symbol, before it answers
- *    store                       the data
+ *    store, store_batch          the data
  *    recover, recover_correcting, test_kept
  *                                the trays that are not listed
- *    share, share_many           the helper's rack
+ *    share, share_many, share_batch
+ *                                the helper's rack
  *    share_add, share_add_many   the tray, and what the share holds
- *    repair, repair_many         the share symbols of the groups that the call does, and the
+ *    repair, repair_many, repair_batch
+ *                                the share symbols of the groups that the call does, and the
  *                                symbols of the host's sound trays in their layers
  *    repair_correcting           the shares, and the host's sound trays
  *    card_test                   the card
@@ -794,6 +849,22 @@ gesarumbo_reported gesarumbo257_scrub_reset_in_place(gesarumbo_layout layout,
 gesarumbo_reported gesarumbo257_scrub_in_place(gesarumbo_layout layout,
                                                const uint16_t *codeword, size_t codeword_length,
                                                gesarumbo_scrub_record *record, uint64_t budget);
+
+uint32_t gesarumbo257_store_batch(gesarumbo_layout layout, size_t many,
+                                  const uint16_t *data, size_t data_length,
+                                  uint16_t *codewords, size_t codewords_length);
+
+uint32_t gesarumbo257_share_batch(gesarumbo_layout layout, size_t many,
+                                  uint32_t host, uint32_t helper,
+                                  const uint16_t *rack, size_t rack_length,
+                                  uint16_t *share, size_t share_length);
+
+gesarumbo_repaired gesarumbo257_repair_batch(gesarumbo_layout layout, size_t many, uint32_t lost,
+                                             const uint32_t *helpers, size_t helpers_count,
+                                             const uint16_t *shares, size_t shares_length,
+                                             const uint16_t *host, size_t host_length,
+                                             uint16_t *spare, size_t spare_length,
+                                             uint64_t first, uint64_t budget);
 
 /*
  * The CRC-64 of bytes, as xz has it (ECMA-182, reflected), so that outside tools agree: of the nine

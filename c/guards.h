@@ -20,7 +20,7 @@ static void must(int holds, const char *what)
 }
 
 /* The pool: parts that are lent, and a guard before, between and after them. */
-enum { ROOM = 16384, PARTS = 32, GUARD = 32, GUARD_BYTE = 0xA5 };
+enum { ROOM = 131072, PARTS = 40, GUARD = 32, GUARD_BYTE = 0xA5 };
 static _Alignas(8) uint8_t pool[ROOM];
 static struct { size_t begin, end; } parts[PARTS];
 static size_t part_count, pool_used;

@@ -17,12 +17,12 @@
 #include "gesarumbo.h"
 
 enum { STACK = 128 * 1024, PAGE = 2048, PAINT = 0xA7, TRAYS = 60, LAYERS = 4096, SYMBOLS = TRAYS * LAYERS, CARD = 60 * 60 };
-enum { FEW = 64, LIVE = 1, VOLUME = 7, CALLS = 128 };
+enum { FEW = 64, LIVE = 1, VOLUME = 7, CALLS = 128, SOME = 17, BATCH = 257 };
 
 /* The layout at hand and its numbers, and what a call is lent. */
 static gesarumbo_layout layout;
 static uint32_t trays, layers, checks, groups, host, helper, lost_count, answer;
-static size_t length, rack_length, card_length, image_length, first_group, erased_count;
+static size_t length, rack_length, card_length, image_length, first_group, erased_count, many;
 static uint32_t erased[TRAYS], helpers[TRAYS], lost[TRAYS], missing[TRAYS];
 static uint8_t images[TRAYS * (24 + 2 * LAYERS)], states[TRAYS];
 static gesarumbo_scrub_record record;

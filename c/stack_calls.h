@@ -7,6 +7,10 @@
 
 static SYMBOL OWN(codeword)[SYMBOLS], OWN(kept)[SYMBOLS], OWN(spare)[SYMBOLS], OWN(shares)[SYMBOLS];
 static SYMBOL OWN(card_room)[CARD];
+static SYMBOL OWN(batch)[SYMBOLS];
+static SYMBOL OWN(kept_batch)[SYMBOLS];
+static SYMBOL OWN(batch_shares)[SYMBOLS];
+static SYMBOL OWN(batch_spare)[SYMBOLS];
 
 static SYMBOL *OWN(rack_at)(uint32_t rack)
 {
@@ -120,6 +124,36 @@ static void OWN(do_scrub_in_place)(void)
     answer = CALL(scrub_in_place)(layout, OWN(codeword), length, &record, layers).refusal;
 }
 
+static void OWN(do_store_batch)(void)
+{
+    answer = CALL(store_batch)(layout, many, OWN(kept_batch), many * layout.dimension * layers, OWN(batch),
+                               many * length);
+}
+static void OWN(do_share_batch)(void)
+{
+    answer = CALL(share_batch)(layout, many, host, helper, OWN(batch) + helper * many * rack_length,
+                               many * rack_length, OWN(batch_shares), many * groups);
+}
+static void OWN(do_repair_batch)(void)
+{
+    answer = CALL(repair_batch)(layout, many, lost[0], helpers, layout.helpers, OWN(batch_shares),
+                                many * layout.helpers * groups, OWN(batch) + host * many * rack_length,
+                                many * rack_length, OWN(batch_spare), many * layers, first_group, groups)
+                 .refusal;
+}
+
+/* Some codewords, all the one at hand: in small layouts more than a block may have, else few. */
+static void OWN(fill_batch)(void)
+{
+    many = length <= FEW ? BATCH : SOME;
+    if (many > SYMBOLS / length)
+        many = SYMBOLS / length;
+    for (size_t i = 0; i < length; i++)
+        for (size_t q = 0; q < many; q++)
+            OWN(batch)[i * many + q] = OWN(kept)[i];
+    memcpy(OWN(kept_batch), OWN(batch), many * length * sizeof(SYMBOL));
+}
+
 /* Recovery and testing with the trays from first on in steps erased, at most r, over a sound word, one
  * with a wrong tray and, where that does not take too long, the correcting recovery. */
 static void OWN(with_erased)(uint32_t first, uint32_t step, uint32_t count)
@@ -155,12 +189,15 @@ static void OWN(with_host)(uint32_t rack, uint32_t first)
     MEASURE(share_add_many);
     MEASURE(share);
     MEASURE(share_add);
+    MEASURE(share_batch);
     first_group = 0;
     MEASURE(repair);
     MEASURE(repair_many);
+    MEASURE(repair_batch);
     first_group = groups / 2;
     MEASURE(repair);
     MEASURE(repair_many);
+    MEASURE(repair_batch);
     if (layout.errors == 1) {
         for (uint32_t i = 0; i < layout.helpers; i++)
             CALL(share)(layout, rack, helpers[i], OWN(rack_at)(helpers[i]), rack_length,
@@ -191,6 +228,8 @@ static void OWN(in_layout)(void)
     MEASURE(measure);
     MEASURE(store);
     memcpy(OWN(kept), OWN(codeword), length * sizeof(SYMBOL));
+    OWN(fill_batch)();
+    MEASURE(store_batch);
     MEASURE(test);
     MEASURE(scrub_reset);
     MEASURE(scrub);

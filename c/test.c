@@ -3,8 +3,9 @@
  * repaired in pieces and by a card and read meanwhile, the codeword is tested some layers at a time,
  * two erased trays are recovered, a wrong one beside them too, and trays are gathered from their
  * images. In a cabinet with less data, two lost trays of one rack are repaired. In one that allows
- * for a wrong share, a lost tray is repaired although one rack's share is stale. The second field's
- * calls are in test257.c, the box's in box_test.c.
+ * for a wrong share, a lost tray is repaired although one rack's share is stale. Then seventeen
+ * codewords are worked on in one call each, and every part is as the call for one leaves it. The
+ * second field's calls are in test257.c, the box's in box_test.c.
  *
  * No byte beside a buffer may be written: see guards.h.
  */
@@ -27,6 +28,9 @@ enum { WARY_RACKS = 5, WARY_TRAYS = WARY_RACKS * SIZE, WARY_DATA = 4, WARY_HELPE
 enum { WARY_LAYERS = 32, WARY_GROUPS = 16, WARY_RACK = SIZE * WARY_LAYERS };
 enum { WARY_SHARES = WARY_HELPERS * WARY_GROUPS };
 
+/* So many codewords in a batch. */
+enum { MANY = 17 };
+
 enum { ABSENT = 0, LIVE = 1, DEMONSTRATION = 2, VOLUME = 7 };
 
 static const gesarumbo_layout layout = { RACKS, SIZE, DATA, HELPERS, 0 };
@@ -42,6 +46,10 @@ static uint32_t *helpers, *erased, *lost, *wary_helpers;
 /* What trays are gathered into, and bytes for a checksum. */
 static uint8_t *gathered, *rack, *nine;
 static uint32_t *missing;
+/* A batch, and one codeword of it. */
+static uint8_t *batch_data, *batch, *one_data, *one;
+/* Its shares and one of one codeword, and the spare. */
+static uint8_t *batch_shares, *one_share, *batch_spare;
 
 static void lend_all(void)
 {
@@ -67,6 +75,13 @@ static void lend_all(void)
     rack = lend(RACK_LENGTH);
     missing = lend(TRAYS * sizeof *missing);
     nine = lend(9);
+    batch_data = lend(MANY * DATA_LENGTH);
+    batch = lend(MANY * CODEWORD_LENGTH);
+    one_data = lend(DATA_LENGTH);
+    one = lend(CODEWORD_LENGTH);
+    batch_shares = lend(MANY * SHARES_LENGTH);
+    one_share = lend(GROUPS);
+    batch_spare = lend(MANY * LAYERS);
 }
 
 static uint8_t *tray_at(size_t tray)
@@ -571,6 +586,119 @@ static void correct_a_share(void)
     must(memcmp(wary_spare, tray, WARY_LAYERS) == 0, "a refusal changes nothing");
 }
 
+/* Takes the part of codeword q, so many bytes, out of a batch. */
+static void part(uint8_t *taken, const uint8_t *from, size_t count, size_t q)
+{
+    for (size_t i = 0; i < count; i++)
+        taken[i] = from[i * MANY + q];
+}
+
+/* Whether a share is the part of codeword q. */
+static int is_part(const uint8_t *alone, const uint8_t *of, size_t count, size_t q)
+{
+    for (size_t i = 0; i < count; i++)
+        if (of[i * MANY + q] != alone[i])
+            return 0;
+    return 1;
+}
+
+/* Fills the batch by the call for one codeword. */
+static void fill_batch(void)
+{
+    for (size_t i = 0; i < MANY * DATA_LENGTH; i++)
+        batch_data[i] = (uint8_t)(i * i / 5 + 3 * i);
+    for (size_t q = 0; q < MANY; q++) {
+        part(one_data, batch_data, DATA_LENGTH, q);
+        must(gesarumbo_store(layout, one_data, DATA_LENGTH, one, CODEWORD_LENGTH) == 0,
+             "a part of the data is stored");
+        for (size_t i = 0; i < CODEWORD_LENGTH; i++)
+            batch[i * MANY + q] = one[i];
+    }
+}
+
+/* Over the same data the batch is what it was, whatever it held. */
+static void store_batch(void)
+{
+    enum { DATA_OF_ALL = MANY * DATA_LENGTH, ALL = MANY * CODEWORD_LENGTH };
+    static uint8_t kept[ALL];
+    memcpy(kept, batch, ALL);
+    memset(batch, 0xEE, ALL);
+    must(gesarumbo_store_batch(layout, MANY, batch_data, DATA_OF_ALL, batch, ALL) == 0,
+         "a batch is stored");
+    must(memcmp(batch, kept, ALL) == 0, "each part is stored as it is alone");
+    part(one, batch, CODEWORD_LENGTH, MANY - 1);
+    print_bytes("codeword 16, tray 11:", one + 11 * LAYERS, LAYERS);
+    printf("batch: a codeword too few: refused %u, no codeword: %u, 2^63 of none: refused %u\n",
+           gesarumbo_store_batch(layout, MANY + 1, batch_data, DATA_OF_ALL, batch, ALL),
+           gesarumbo_store_batch(layout, 0, NULL, 0, NULL, 0),
+           gesarumbo_store_batch(layout, SIZE_MAX / 2 + 1, NULL, 0, NULL, 0));
+    must(memcmp(batch, kept, ALL) == 0, "a refusal changes nothing");
+}
+
+/* Racks 0, 2 and 3 each send a share of all codewords for rack 1. */
+static void share_batch(void)
+{
+    enum { RACK = MANY * RACK_LENGTH, SHARE = MANY * GROUPS };
+    for (size_t i = 0; i < HELPERS; i++) {
+        const uint8_t *from = batch + helpers[i] * RACK;
+        uint8_t *share = batch_shares + i * SHARE;
+        must(gesarumbo_share_batch(layout, MANY, 1, helpers[i], from, RACK, share, SHARE) == 0,
+             "a share of a batch is worked out");
+        for (size_t q = 0; q < MANY; q++) {
+            part(one, from, RACK_LENGTH, q);
+            must(gesarumbo_share(layout, 1, helpers[i], one, RACK_LENGTH, one_share, GROUPS) == 0,
+                 "a part's share is worked out");
+            must(is_part(one_share, share, GROUPS, q), "each part's share is as it is alone");
+        }
+    }
+    print_bytes("share of rack 3, codeword 16:", one_share, GROUPS);
+    printf("batch of none: share %u, refused %u for a rack, %u for its own, %u for its length\n",
+           gesarumbo_share_batch(layout, 0, 1, 0, NULL, 0, NULL, 0),
+           gesarumbo_share_batch(layout, 0, 1, RACKS, NULL, 0, NULL, 0),
+           gesarumbo_share_batch(layout, 0, 1, 1, NULL, 0, NULL, 0),
+           gesarumbo_share_batch(layout, 0, 1, 0, batch, RACK, batch_shares, SHARE));
+}
+
+static gesarumbo_repaired repair_batch_piece(size_t many, uint64_t first, uint64_t budget)
+{
+    enum { RACK = MANY * RACK_LENGTH };
+    return gesarumbo_repair_batch(layout, many, 5, helpers, HELPERS, batch_shares,
+                                  MANY * SHARES_LENGTH, batch + RACK, RACK, batch_spare,
+                                  MANY * LAYERS, first, budget);
+}
+
+/* Tray 5 of all codewords is lost, and comes back in pieces of three groups. */
+static void repair_batch(void)
+{
+    enum { TRAY = MANY * LAYERS };
+    static uint8_t kept[TRAY];
+    uint8_t *tray = batch + 5 * TRAY;
+    memcpy(kept, tray, TRAY);
+    memset(tray, 0xFF, TRAY);
+    memset(batch_spare, 0xEE, TRAY);
+    for (uint64_t done = 0; done < GROUPS; done += 3) {
+        gesarumbo_repaired piece = repair_batch_piece(MANY, done, 3);
+        must(piece.refusal == 0, "a piece of a batch is done");
+        printf("batch, groups %u: crossed %u, still to come %u\n", (unsigned)piece.groups,
+               (unsigned)piece.crossed, (unsigned)piece.remaining);
+        for (size_t j = 0; done == 0 && j < LAYERS; j++)
+            for (size_t q = 0; q < MANY; q++)
+                must(batch_spare[j * MANY + q] == (j < 5 || j == 6 ? kept[j * MANY + q] : 0xEE),
+                     "a piece writes the layers of its groups in every part");
+    }
+    printf("batch: from group %u: refused %u; a codeword too few: refused %u\n", GROUPS + 1,
+           repair_batch_piece(MANY, GROUPS + 1, 0).refusal,
+           repair_batch_piece(MANY + 1, 0, 1).refusal);
+    gesarumbo_repaired none = gesarumbo_repair_batch(layout, 0, 5, helpers, HELPERS, NULL, 0, NULL,
+                                                     0, NULL, 0, 2, 4);
+    must(none.refusal == 0 && none.crossed == 0 && none.remaining == 0, "of none nothing crosses");
+    printf("batch of none: groups %u, no helpers: refused %u\n", (unsigned)none.groups,
+           gesarumbo_repair_batch(layout, 0, 5, NULL, 0, NULL, 0, NULL, 0, NULL, 0, 0, 1).refusal);
+    printf("tray 5 of every codeword is %s\n",
+           memcmp(batch_spare, kept, TRAY) == 0 ? "as it was" : "wrong");
+    memcpy(tray, kept, TRAY);
+}
+
 int main(void)
 {
     lend_all();
@@ -592,6 +720,10 @@ int main(void)
     gather();
     gather_racks();
     checksum();
+    fill_batch();
+    store_batch();
+    share_batch();
+    repair_batch();
     must(guards_untouched(), "no byte beside a buffer is written");
     return 0;
 }

@@ -3,7 +3,8 @@
  * tested, whole and some layers at a time; a lost tray is repaired in pieces and by a card, and read
  * meanwhile; two erased trays are recovered, a wrong one beside them too; trays are imaged and
  * gathered. In a cabinet with less data, two lost trays of one rack are repaired; in one that allows
- * for a wrong share, a lost tray although one rack's share is stale.
+ * for a wrong share, a lost tray although one rack's share is stale. Then seventeen codewords are
+ * worked on in one call each, and every part is as the call for one leaves it.
  *
  * No byte beside a buffer may be written: see guards.h.
  */
@@ -19,6 +20,9 @@ enum { LESS_DATA = 14, LOST = 2 };
 /* With so much data one helper's share may be wrong; layers and groups are the same. */
 enum { WARY_DATA = 6 };
 
+/* So many codewords in a batch. */
+enum { MANY = 17 };
+
 enum { LIVE = 1, DEMONSTRATION = 2, VOLUME = 7, LARGE = 0xFFFF };
 
 static const gesarumbo_layout layout = { RACKS, SIZE, DATA, HELPERS, 0 };
@@ -30,6 +34,10 @@ static uint16_t *data, *codeword, *shares, *spare, *shares_of_two, *two_spares, 
 static uint8_t *images, *states;
 static gesarumbo_scrub_record *record;
 static uint32_t *helpers, *trays, *missing;
+/* A batch, and one codeword of it. */
+static uint16_t *batch_data, *batch, *one_data, *one;
+/* Its shares and one of one codeword, and the spare. */
+static uint16_t *batch_shares, *one_share, *batch_spare;
 
 static uint16_t *lend_symbols(size_t count)
 {
@@ -53,6 +61,13 @@ static void lend_all(void)
     helpers = lend(HELPERS * sizeof *helpers);
     trays = lend(2 * sizeof *trays);
     missing = lend(TRAYS * sizeof *missing);
+    batch_data = lend_symbols(MANY * DATA * LAYERS);
+    batch = lend_symbols(MANY * CODEWORD);
+    one_data = lend_symbols(DATA * LAYERS);
+    one = lend_symbols(CODEWORD);
+    batch_shares = lend_symbols(MANY * SHARES);
+    one_share = lend_symbols(GROUPS);
+    batch_spare = lend_symbols(MANY * LAYERS);
 }
 
 static uint16_t *tray_at(size_t tray)
@@ -396,6 +411,119 @@ static void lend_nothing(void)
     printf(", scrub %u\n", gesarumbo257_scrub(layout, NULL, 0, nothing_seen, 1).refusal);
 }
 
+/* Takes the part of codeword q, so many symbols, out of a batch. */
+static void part(uint16_t *taken, const uint16_t *from, size_t count, size_t q)
+{
+    for (size_t i = 0; i < count; i++)
+        taken[i] = from[i * MANY + q];
+}
+
+/* Whether a share is the part of codeword q. */
+static int is_part(const uint16_t *alone, const uint16_t *of, size_t count, size_t q)
+{
+    for (size_t i = 0; i < count; i++)
+        if (of[i * MANY + q] != alone[i])
+            return 0;
+    return 1;
+}
+
+/* Fills the batch by the call for one codeword. */
+static void fill_batch(void)
+{
+    for (size_t i = 0; i < MANY * DATA * LAYERS; i++)
+        batch_data[i] = (uint16_t)((i * i / 5 + 3 * i) % 257);
+    for (size_t q = 0; q < MANY; q++) {
+        part(one_data, batch_data, DATA * LAYERS, q);
+        must(gesarumbo257_store(layout, one_data, DATA * LAYERS, one, CODEWORD) == 0,
+             "a part of the data is stored");
+        for (size_t i = 0; i < CODEWORD; i++)
+            batch[i * MANY + q] = one[i];
+    }
+}
+
+/* Over the same data the batch is what it was, whatever it held. */
+static void store_batch(void)
+{
+    enum { DATA_OF_ALL = MANY * DATA * LAYERS, ALL = MANY * CODEWORD };
+    static uint16_t kept[ALL];
+    memcpy(kept, batch, sizeof kept);
+    fill(batch, ALL, LARGE);
+    must(gesarumbo257_store_batch(layout, MANY, batch_data, DATA_OF_ALL, batch, ALL) == 0,
+         "a batch is stored");
+    must(alike(batch, kept, ALL), "each part is stored as it is alone");
+    part(one, batch, CODEWORD, MANY - 1);
+    print_symbols("codeword 16, tray 19:", one + 19 * LAYERS, 8);
+    batch_data[DATA_OF_ALL - 1] += 257;
+    printf("batch: a number above 256: refused %u, a codeword too few: refused %u, "
+           "no codeword: %u, 2^63 of none: refused %u\n",
+           gesarumbo257_store_batch(layout, MANY, batch_data, DATA_OF_ALL, batch, ALL),
+           gesarumbo257_store_batch(layout, MANY + 1, batch_data, DATA_OF_ALL, batch, ALL),
+           gesarumbo257_store_batch(layout, 0, NULL, 0, NULL, 0),
+           gesarumbo257_store_batch(layout, SIZE_MAX / 2 + 1, NULL, 0, NULL, 0));
+    must(alike(batch, kept, ALL), "a refusal changes nothing");
+}
+
+/* The racks but rack 1 each send a share of all codewords for it. */
+static void share_batch(void)
+{
+    enum { LENGTH = MANY * RACK, SHARE = MANY * GROUPS };
+    for (size_t i = 0; i < HELPERS; i++) {
+        const uint16_t *from = batch + helpers[i] * LENGTH;
+        uint16_t *share = batch_shares + i * SHARE;
+        must(gesarumbo257_share_batch(layout, MANY, 1, helpers[i], from, LENGTH, share, SHARE) == 0,
+             "a share of a batch is worked out");
+        for (size_t q = 0; q < MANY; q++) {
+            part(one, from, RACK, q);
+            must(gesarumbo257_share(layout, 1, helpers[i], one, RACK, one_share, GROUPS) == 0,
+                 "a part's share is worked out");
+            must(is_part(one_share, share, GROUPS, q), "each part's share is as it is alone");
+        }
+    }
+    print_symbols("share of rack 4, codeword 16:", one_share, 8);
+    batch[MANY * CODEWORD - 1] += 257;
+    printf("batch with a number above 256: refused %u\n",
+           gesarumbo257_share_batch(layout, MANY, 1, 4, batch + 4 * LENGTH, LENGTH, batch_shares,
+                                    SHARE));
+    batch[MANY * CODEWORD - 1] -= 257;
+    printf("batch of none: share %u, refused %u for a rack, %u for its own\n",
+           gesarumbo257_share_batch(layout, 0, 1, 0, NULL, 0, NULL, 0),
+           gesarumbo257_share_batch(layout, 0, 1, RACKS, NULL, 0, NULL, 0),
+           gesarumbo257_share_batch(layout, 0, 1, 1, NULL, 0, NULL, 0));
+}
+
+static gesarumbo_repaired repair_batch_piece(uint64_t first, uint64_t budget)
+{
+    return gesarumbo257_repair_batch(layout, MANY, 6, helpers, HELPERS, batch_shares, MANY * SHARES,
+                                     batch + MANY * RACK, MANY * RACK, batch_spare, MANY * LAYERS,
+                                     first, budget);
+}
+
+/* Tray 6 of all codewords is lost, and comes back in pieces; a share is no symbol in group 15. */
+static void repair_batch(void)
+{
+    enum { TRAY = MANY * LAYERS, LAST = MANY * SHARES - 1 };
+    static uint16_t kept[TRAY];
+    uint16_t *tray = batch + 6 * TRAY;
+    memcpy(kept, tray, sizeof kept);
+    fill(tray, TRAY, LARGE);
+    fill(batch_spare, TRAY, LARGE);
+    uint16_t last = batch_shares[LAST];
+    batch_shares[LAST] = LARGE;
+    printf("batch with a share above 256: refused %u, and in its other groups %u\n",
+           repair_batch_piece(0, GROUPS).refusal, repair_batch_piece(0, GROUPS - 1).refusal);
+    batch_shares[LAST] = last;
+    fill(batch_spare, TRAY, LARGE);
+    for (uint64_t done = 0; done < GROUPS; done += 10) {
+        must(repair_batch_piece(GROUPS + 1, 1).refusal == 7, "no such group");
+        gesarumbo_repaired piece = repair_batch_piece(done, 10);
+        must(piece.refusal == 0, "a piece of a batch is done");
+        printf("batch, groups %u: crossed %u, still to come %u\n", (unsigned)piece.groups,
+               (unsigned)piece.crossed, (unsigned)piece.remaining);
+    }
+    printf("tray 6 of each codeword is %s\n", as_it_was(alike(batch_spare, kept, TRAY)));
+    memcpy(tray, kept, sizeof kept);
+}
+
 int main(void)
 {
     lend_all();
@@ -410,6 +538,10 @@ int main(void)
     repair_two();
     correct_a_share();
     lend_nothing();
+    fill_batch();
+    store_batch();
+    share_batch();
+    repair_batch();
     must(guards_untouched(), "no byte beside a buffer is written");
     return 0;
 }

@@ -243,9 +243,9 @@ _ANSWERS = {
     "box_repaired": _numbers(ctypes.c_uint32, "crossed"),
 }
 
-# The calls: what each gives, and its parameters in order. L a layout, n a 32-bit and N a 64-bit number, r symbols that are
-# read and w symbols that are written, b and B the same of bytes, l a list that is read and m one that is written, s a
-# scrub record by value and S one in its place.
+# The calls: what each gives, and its parameters in order. L a layout, n a 32-bit and N a 64-bit number, z a number of
+# codewords, r symbols that are read and w symbols that are written, b and B the same of bytes, l a list that is read and m
+# one that is written, s a scrub record by value and S one in its place.
 _BOTH = {
     "measure": ("measured", "L"),
     "test": ("tested", "Lr"),
@@ -273,6 +273,9 @@ _BOTH = {
     "scrub": ("scrubbed", "LrsN"),
     "scrub_reset_in_place": ("reported", "LS"),
     "scrub_in_place": ("reported", "LrSN"),
+    "store_batch": ("", "Lzrw"),
+    "share_batch": ("", "Lznnrw"),
+    "repair_batch": ("repaired", "LznlrrwNN"),
 }
 _CALLS: Dict[str, Tuple[str, str]] = {
     **{"gesarumbo_" + name: call for name, call in _BOTH.items()},
@@ -288,7 +291,14 @@ _CALLS: Dict[str, Tuple[str, str]] = {
 }
 
 # What a parameter is in C, by its letter; symbols are put in by the field.
-_SINGLE = {"L": _Layout, "n": ctypes.c_uint32, "N": ctypes.c_uint64, "s": ScrubRecord, "S": ctypes.POINTER(ScrubRecord)}
+_SINGLE = {
+    "L": _Layout,
+    "n": ctypes.c_uint32,
+    "N": ctypes.c_uint64,
+    "z": ctypes.c_size_t,
+    "s": ScrubRecord,
+    "S": ctypes.POINTER(ScrubRecord),
+}
 
 
 def _element(name: str, letter: str) -> Any:
@@ -365,7 +375,7 @@ def raw(name: str, *given: Any) -> Any:
     for letter, value in zip(letters, given):
         if letter == "L":
             words.append(_Layout(*(_number(number, ctypes.c_uint32) for number in Layout(*value))))
-        elif letter in "nN":
+        elif letter in "nNz":
             words.append(_number(value, _SINGLE[letter]))
         elif letter == "s":
             words.append(value)
@@ -509,6 +519,36 @@ class _Field:
         """Repairs a lost tray though one helper's share may be wrong: E is 1. Grounds: 1 to 6, 14."""
         answer = self._call("repair_correcting", layout, lost, helpers, shares, host, spare)
         return Corrected(answer.rack, answer.crossed)
+
+    def store_batch(self, layout: Layout, many: int, data: Buffer, codewords: Optional[Buffer] = None) -> Buffer:
+        """Stores the data of many codewords, interleaved, as codewords, which are returned. Grounds: 1, 2."""
+        codewords = self._made(codewords, layout, lambda sizes: many * sizes.codeword)
+        self._call("store_batch", layout, many, data, codewords)
+        return codewords
+
+    def share_batch(
+        self, layout: Layout, many: int, host: int, helper: int, rack: Buffer, share: Optional[Buffer] = None
+    ) -> Buffer:
+        """Works out a helper rack's share of many codewords for a host rack. Grounds: 1, 2, 3, 6."""
+        share = self._made(share, layout, lambda sizes: many * sizes.groups)
+        self._call("share_batch", layout, many, host, helper, rack, share)
+        return share
+
+    def repair_batch(
+        self,
+        layout: Layout,
+        many: int,
+        lost: int,
+        helpers: Sequence[int],
+        shares: Buffer,
+        host: Buffer,
+        spare: Buffer,
+        first: int = 0,
+        budget: int = ALL,
+    ) -> Repaired:
+        """Repairs a lost tray of many codewords into spare, or so many groups of it. Grounds: 1 to 7."""
+        answer = self._call("repair_batch", layout, many, lost, helpers, shares, host, spare, first, budget)
+        return Repaired(answer.groups, answer.crossed, answer.remaining)
 
     def card(self, layout: Layout, lost: int, helpers: Sequence[int], group: int, card: Optional[Buffer] = None) -> Buffer:
         """Prints the right repair card of d*s multipliers for a group. Grounds: 1 to 6."""

@@ -32,7 +32,9 @@ class Header(unittest.TestCase):
         """A call's parameters in the letters of the table, lengths left out."""
         out = ''
         for kind, name in call.parameters:
-            if kind == 'size_t':
+            if kind == 'size_t' and name == 'many':
+                out += 'z'
+            elif kind == 'size_t':
                 self.assertRegex(name, 'length$|count$')
             elif kind in self.LETTERS:
                 out += self.LETTERS[kind]
@@ -231,6 +233,9 @@ def replies(field):
         ],
         'recover_correcting': lambda *given: [*field.recover_correcting(*given), shown(given[1])],
         'test_kept': lambda *given: [*field.test_kept(*given)],
+        'store_batch': lambda *given: [shown(field.store_batch(*given))],
+        'share_batch': lambda *given: [shown(field.share_batch(*given))],
+        'repair_batch': lambda *given: [*field.repair_batch(*given), shown(given[6])],
         'states': lambda *given: [shown(field.states(*given))],
         'gather': gather,
         'gather_rack': lambda *given: [shown(field.gather_rack(*given))],

@@ -104,7 +104,7 @@ def function(call):
             if not kind.startswith('const '):
                 after.append('    show(%d);' % buffers)
             buffers += 1
-        elif kind != 'size_t':
+        elif kind != 'size_t' or name == 'many':
             out.append('    %s %s = (%s)number();' % (kind, name, kind))
             words.append(name)
     out.append('    %s answer = %s(%s);' % (call.gives, call.name, ', '.join(words)))
@@ -139,7 +139,7 @@ class Recorder:
         for letter, value in zip(module._CALLS[name][1], given):
             if letter == 'L':
                 yield from (str(module._number(number, ctypes.c_uint32)) for number in module.Layout(*value))
-            elif letter in 'nN':
+            elif letter in 'nNz':
                 yield str(module._number(value, module._SINGLE[letter]))
             elif letter in 'sS':
                 yield from map(str, value.numbers())
@@ -153,8 +153,10 @@ class Recorder:
         try:
             return self.call(name, *given)
         finally:
-            # not what Python refuses before the library is asked
-            if not isinstance(sys.exc_info()[1], (TypeError, ValueError, OverflowError)):
+            # not what Python refuses before the library is asked, nor more codewords than a processor of 32 bits can be asked for
+            letters = self.gesarumbo._CALLS[name][1]
+            fits = all(value < 2**32 for letter, value in zip(letters, given) if letter == 'z')
+            if fits and not isinstance(sys.exc_info()[1], (TypeError, ValueError, OverflowError)):
                 self.out.write(line + '\n')
 
 

@@ -102,7 +102,7 @@ impl<S: Symbol> Filled<S> {
 }
 
 /// The same symbols in every run, by a xorshift.
-fn symbols<S: Symbol>(count: usize) -> Vec<S> {
+pub fn symbols<S: Symbol>(count: usize) -> Vec<S> {
     let mut state = 0x2545_F491_4F6C_DD1D_u64;
     let mut next = || {
         state ^= state << 13;

@@ -1,6 +1,6 @@
 //! Instructions of one call, counted by valgrind over this program itself.
 
-use crate::options::{layout_words, COUNT, FIELD};
+use crate::options::{layout_words, BATCH, COUNT, FIELD};
 use gesarumbo::Layout;
 use std::ffi::OsStr;
 use std::process::Command;
@@ -9,6 +9,13 @@ use std::process::Command;
 pub fn of(field: u32, layout: Layout, call: &str, version: &str) -> Result<u64, String> {
     let field = field.to_string();
     let words = [COUNT, call, version, "--rounds", "1", FIELD, &field].map(String::from);
+    counted(&[&words[..], &layout_words(layout)].concat())
+}
+
+/// Counts a call for many codewords, or for one, by a version.
+pub fn of_batch(field: u32, layout: Layout, call: &str, version: &str) -> Result<u64, String> {
+    let field = field.to_string();
+    let words = [BATCH, COUNT, call, version, FIELD, &field].map(String::from);
     counted(&[&words[..], &layout_words(layout)].concat())
 }
 

@@ -1,5 +1,7 @@
-//! The library's calls timed against ordinary Rust by tables over the same data, and storing against ISA-L.
+//! The library's calls timed against ordinary Rust by tables over the same data, storing against ISA-L, and calls for many
+//! codewords against as many for one.
 
+mod batch;
 mod calls;
 mod checksum;
 mod filled;
@@ -13,6 +15,7 @@ mod table;
 mod timing;
 mod version;
 
+use batch::Batched;
 use calls::{Call, CORRECTING, REPAIR};
 use filled::Filled;
 use gesarumbo::Layout;
@@ -57,9 +60,28 @@ fn answer(asked: &Options) -> Result<(), String> {
     for field in [u8::COUNT, u16::COUNT] {
         if asked.field.is_none_or(|only| only == field) {
             match field {
+                u8::COUNT if asked.batch => batches_in::<u8>(asked)?,
                 u8::COUNT => answer_in::<u8>(asked)?,
+                _ if asked.batch => batches_in::<u16>(asked)?,
                 _ => answer_in::<u16>(asked)?,
             }
+        }
+    }
+    Ok(())
+}
+
+/// Does what is asked for of the calls for many codewords, in one field.
+fn batches_in<S: Batched>(asked: &Options) -> Result<(), String> {
+    let layouts = match &asked.layout {
+        Some(layout) => std::slice::from_ref(layout),
+        None => S::LAYOUTS_OF_BATCHES,
+    };
+    match &asked.what {
+        What::Times => batch::print_times::<S>(layouts, asked.rounds),
+        What::Instructions => batch::print_instructions::<S>(layouts)?,
+        What::Count(call, version) => {
+            let done = batch::count::<S>(layouts[0], call, version);
+            return done.ok_or(options::USAGE.to_string());
         }
     }
     Ok(())

@@ -13,22 +13,28 @@ usage: bench [--rounds N] [--quick]
        bench --isal [--instructions] [--rounds N]
            the same for storing in the field of 256 by the library and by Intel's ISA-L, where that
            is installed: plain Reed-Solomon, another code of as many trays and bytes
+       bench --batch [--instructions] [--rounds N]
+           the same for the calls for many codewords, each against as many calls for one
        bench --checksum [--instructions] [--rounds N]
            the same for the checksum of 64 bytes to 1 MB
-       bench --count CALL VERSION [--rounds N]
-           does one call N times and prints nothing
+       bench [--batch] --count CALL VERSION [--rounds N]
+           does one call N times, with --batch once, and prints nothing
 each for one field only: --field 256 or --field 257
 and for one layout only, in the field of 256 if none is named: --layout B u k d, and --errors 1
 where one share may be wrong
 calls: store, test, walk, recover-1, recover-r, share-first, share-middle, share-last, repair; with
 --errors 1 correct-right and correct-wrong in place of repair; checksum-N of N bytes
+calls for many codewords: store-batch, share-batch, repair-batch
 versions in the field of 256: library, log-exp, product-table; isal-portable and isal-dispatched of
 store alone
 versions in the field of 257: library, remainder, delayed
+versions of the calls for many codewords: batch, single (which does one codeword)
 versions of checksum-N: library, nibble-tables, one-table, eight-tables";
 
 /// The word that asks for one call only.
 pub const COUNT: &str = "--count";
+/// The word that asks for the calls for many codewords.
+pub const BATCH: &str = "--batch";
 /// The word that asks for one field only.
 pub const FIELD: &str = "--field";
 const LAYOUT: &str = "--layout";
@@ -44,6 +50,8 @@ pub struct Options {
     pub quick: bool,
     /// ISA-L in place of ordinary Rust.
     pub isal: bool,
+    /// The calls for many codewords in place of those for one.
+    pub batch: bool,
     /// The checksum in place of the calls of a layout.
     pub checksum: bool,
     pub what: What,
@@ -64,12 +72,13 @@ const COUNT_ROUNDS: usize = 10;
 pub fn read(mut words: impl Iterator<Item = String>) -> Option<Options> {
     let (mut field, mut layout, mut errors) = (None, None, 0);
     let (mut rounds, mut quick, mut isal, mut what) = (None, false, false, What::Times);
-    let mut checksum = false;
+    let (mut batch, mut checksum) = (false, false);
     while let Some(word) = words.next() {
         match word.as_str() {
             "--rounds" => rounds = Some(words.next()?.parse().ok().filter(|&n| n > 0)?),
             "--quick" => quick = true,
             "--isal" => isal = true,
+            BATCH => batch = true,
             "--checksum" => checksum = true,
             "--instructions" => what = What::Instructions,
             COUNT => what = What::Count(words.next()?, words.next()?),
@@ -95,6 +104,7 @@ pub fn read(mut words: impl Iterator<Item = String>) -> Option<Options> {
         rounds: rounds.unwrap_or(usual),
         quick,
         isal,
+        batch,
         checksum,
         what,
     })

@@ -36,6 +36,13 @@ pub fn counts(of: impl Display, call: &str, all: &[u64]) {
     line(&of.to_string(), call, &Vec::from_iter(counts.chain(ratios)));
 }
 
+/// Prints figures of one call that are no times.
+pub fn figures(of: impl Display, call: &str, all: &[f64]) {
+    let ratios = all[1..].iter().map(|figure| all[0] / figure);
+    let cells = all.iter().copied().chain(ratios).map(short);
+    line(&of.to_string(), call, &Vec::from_iter(cells));
+}
+
 fn pair(least: f64, median: f64) -> String {
     format!("{} / {}", short(least), short(median))
 }

@@ -169,11 +169,23 @@ impl Answer {
     /// buffer than the call has is a mistake of its own file, and panics; here and
     /// below.
     pub fn symbols(&self) -> &[Symbol] {
-        let held = self.held().find_map(|held| match held {
-            Buffer::Symbols(_, held) => Some(held),
+        self.any_symbols().expect("the answer has symbols")
+    }
+
+    /// The same where some final buffer has symbols.
+    pub fn any_symbols(&self) -> Option<&[Symbol]> {
+        self.held().find_map(|held| match held {
+            Buffer::Symbols(_, held) => Some(&held[..]),
             _ => None,
-        });
-        held.expect("the answer has symbols")
+        })
+    }
+
+    /// Whether every buffer that was lent to be written is as it was.
+    pub fn unwritten(&self) -> bool {
+        self.buffers.iter().all(|buffer| match buffer {
+            Final::Lent(before, after) => before == after,
+            Final::Part(_) => true,
+        })
     }
 
     /// The bytes of the final buffer that has some.

@@ -59,6 +59,13 @@ impl Field {
     pub fn add(self, a: Symbol, b: Symbol) -> Symbol {
         in_field!(self, Symbol::from(F::add(symbol::<F>(a), symbol::<F>(b))))
     }
+
+    pub fn multiply(self, a: Symbol, b: Symbol) -> Symbol {
+        in_field!(
+            self,
+            Symbol::from(F::multiply(symbol::<F>(a), symbol::<F>(b)))
+        )
+    }
 }
 
 /// A number as a field's symbols are lent.
@@ -84,5 +91,6 @@ mod tests {
         assert_eq!(FIELDS.map(Field::bytes), [1, 2]);
         assert_eq!(FIELDS.map(|field| field.rack_sizes()[1]), [3, 2]);
         assert_eq!(FIELDS.map(|field| field.add(3, 255)), [252, 1]);
+        assert_eq!(FIELDS.map(|field| field.multiply(2, 200)), [141, 143]);
     }
 }

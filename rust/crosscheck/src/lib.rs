@@ -16,6 +16,7 @@
 #![forbid(unsafe_code)]
 
 pub mod answer;
+pub mod batches;
 pub mod cabinet;
 pub mod calls;
 pub mod crosscheck;

@@ -25,8 +25,6 @@ pub const OUTSIDE: [&str; 4] = [
 const DRAWN: &str = "drawn-";
 /// The cases of a call are drawn in so many draws at most.
 const MOST_DRAWS: usize = 1_000_000;
-/// Cases with longer inputs are left out.
-const LONGEST: usize = 1_500;
 
 /// The text of each file, by its name.
 pub type Texts = BTreeMap<String, String>;
@@ -107,7 +105,7 @@ fn cases(source: &mut Source, file: &Drawn, call: &Call) -> Vec<String> {
         }
         let inputs = source.inputs(group.field, call);
         let words = inputs.to_string();
-        if words.len() > LONGEST {
+        if words.len() > file.longest {
             continue;
         }
         let answer = (call.reference)(&inputs);

@@ -70,7 +70,7 @@ fn grounds_left_untried_are_seen() {
 fn each_call_is_of_one_group() {
     let names = groups().map(|group| group.calls.iter().map(|call| call.name).collect());
     let [of_256, of_257, of_box, checksum]: [Vec<&str>; 4] = names;
-    assert_eq!([of_256.len(), of_257.len(), of_box.len()], [25, 25, 5]);
+    assert_eq!([of_256.len(), of_257.len(), of_box.len()], [28, 28, 5]);
     assert_eq!(checksum, ["checksum"]);
     let shared = |name: &&str| of_256.contains(name) || of_257.contains(name);
     assert!(!of_box.iter().chain(&checksum).any(shared));

@@ -5,6 +5,9 @@
 //! keeps no pointer. What it writes is lent `&mut`, so a buffer that is written overlaps no other
 //! one of the call. Structs and kinds have the layout of the header `c/gesarumbo.h`.
 
+#[macro_use]
+mod batch;
+
 use crate::{Layout, Rack, ScrubRecord, Tray};
 
 /// The answer to a measuring; `refusal` is 0 where the call was done, here and below.
@@ -842,6 +845,9 @@ pub mod field256 {
     use super::*;
 
     calls!("gesarumbo", u8);
+    store_batch!("gesarumbo", u8);
+    share_batch!("gesarumbo", u8);
+    repair_batch!("gesarumbo", u8);
 
     extern "C" {
         fn gesarumbo_read_image(
@@ -863,6 +869,9 @@ pub mod field257 {
     use super::*;
 
     calls!("gesarumbo257", u16);
+    store_batch!("gesarumbo257", u16);
+    share_batch!("gesarumbo257", u16);
+    repair_batch!("gesarumbo257", u16);
 
     extern "C" {
         fn gesarumbo257_read_image(

@@ -48,6 +48,18 @@
 //! right one tray that is wrong, and both say how many checks were left to find it with.
 //! [`gather_rack()`] does this for one rack, for a share or a repair.
 //!
+//! # Many codewords a call
+//!
+//! A batch is `many` codewords of one layout, interleaved: symbol j of tray x of codeword q stands at
+//! (x·L + j)·many + q. Data, racks, shares and spares lie likewise: what stands at i in the call for
+//! one codeword stands at i·many + q, and codeword q has every many-th symbol from q on, its part. A
+//! call for a batch does to each part what the call for one codeword does, with the same layout,
+//! numbers and lists for all. It is refused on that call's grounds, in that order, with lengths
+//! times `many`, which may be any number: a ground applies where it does to one of the parts, and a
+//! refused call has changed none of them. With `many` 0 all buffers are empty, and layout, numbers
+//! and lists are judged all the same; with `many` 1 answer and symbols are those of the call for
+//! one. The calls are [`store_batch`], [`share_batch`] and [`repair_batch`].
+//!
 //! A second field, in which racks of two, four, eight and sixteen trays can be had, has the same
 //! calls in [`field257`].
 //!
@@ -64,6 +76,7 @@
 #[allow(unsafe_code)]
 mod ffi;
 
+mod batch;
 mod card;
 mod checksum;
 mod correcting;
@@ -88,6 +101,7 @@ mod store;
 mod test;
 mod test_kept;
 
+pub use batch::{repair_batch, share_batch, store_batch};
 pub use card::{card, card_repair, card_test};
 pub use checksum::checksum;
 pub use correcting::{repair_correcting, Corrected};

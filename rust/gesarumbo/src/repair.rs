@@ -8,7 +8,7 @@ use crate::{Layout, Rack, Refusal, Tray};
 pub struct Repaired {
     /// Groups done: the smaller of the budget and the groups left.
     pub groups: u64,
-    /// Symbols crossed: d for each lost tray and group done.
+    /// Symbols crossed: d for each lost tray, codeword and group done.
     pub crossed: u64,
     /// Symbols still to come: as many for each group after the last one done.
     pub remaining: u64,

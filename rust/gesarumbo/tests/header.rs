@@ -1,8 +1,13 @@
-//! The C header names a refusal, and says its words, as the crate does.
+//! The C header names a refusal, and says its words, as the crate does, and declares what it links.
 
 use gesarumbo::Refusal;
 
 const HEADER: &str = include_str!("../../../c/gesarumbo.h");
+/// What the crate links.
+const LINKED: [&str; 2] = [
+    include_str!("../src/ffi.rs"),
+    include_str!("../src/ffi/batch.rs"),
+];
 
 /// What stands in the header between two texts.
 fn between(begin: &str, end: &str) -> &'static str {
@@ -68,4 +73,20 @@ fn header_and_crate_have_one_version() {
     let number = |part: &str| between(&format!("#define GESARUMBO_VERSION_{part} "), "\n");
     let numbers = ["MAJOR", "MINOR", "PATCH"].map(number);
     assert_eq!(version, numbers.join("."));
+}
+
+#[test]
+fn every_call_of_both_fields_is_declared() {
+    let mut calls = 0;
+    for text in LINKED {
+        for linked in text.split("concat!($prefix, \"").skip(1) {
+            let (name, _) = linked.split_once('"').expect("a name ends");
+            for field in ["gesarumbo", "gesarumbo257"] {
+                let declared = HEADER.contains(&format!(" {field}{name}("));
+                assert!(declared, "{field}{name}");
+            }
+            calls += 1;
+        }
+    }
+    assert!(calls > 20);
 }

@@ -12,6 +12,7 @@
 
 #![forbid(unsafe_code)]
 
+pub mod batch;
 pub mod card;
 pub mod checks;
 pub mod checksum;
@@ -36,6 +37,11 @@ pub mod sixteen;
 pub mod store;
 pub mod test;
 
+pub use batch::recover::recover_batch;
+pub use batch::repair::repair_batch;
+pub use batch::share::share_batch;
+pub use batch::store::store_batch;
+pub use batch::test::test_batch;
 pub use card::{card, card_repair, card_test};
 pub use checksum::checksum;
 pub use correcting::{repair_correcting, Corrected};

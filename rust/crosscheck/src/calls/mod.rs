@@ -1,6 +1,8 @@
-//! The calls: those over either field, one file and one entry of [`COMMON`] or
-//! [`TRAYS`] each, and those of the box and the checksum, which belong to neither.
+//! The calls: those over either field, one file and one entry of [`COMMON`],
+//! [`TRAYS`] or [`batch::batches`] each, and those of the box and the checksum, which
+//! belong to neither.
 
+pub mod batch;
 pub mod card_print;
 pub mod card_repair;
 pub mod card_test;
@@ -137,6 +139,7 @@ impl Call {
 pub fn calls(field: Field) -> Vec<&'static Call> {
     let mut calls = documents(field);
     calls.extend(TRAYS);
+    calls.extend(batch::calls(field));
     calls
 }
 
@@ -163,14 +166,19 @@ pub fn groups() -> [Group; 4] {
     [of_256, of_257, of_box(), of_checksum()]
 }
 
-/// A file of drawn vectors: its name, its calls, and how many cases it has for each
-/// ground of a call and where it is done.
+/// A file of drawn vectors: its name, its calls, how many cases it has for each
+/// ground of a call and where it is done, and how long the inputs of one may be.
 pub struct Drawn {
     pub name: String,
     pub group: Group,
     pub refused: usize,
     pub done: usize,
+    pub longest: usize,
 }
+
+/// The longest inputs of a case, in most files and in those for many codewords.
+const LONGEST: usize = 1_500;
+const LONGEST_OF_MANY: usize = 2_500;
 
 /// The files of drawn vectors: those of the documents' calls, and, with more cases,
 /// those of the calls that came after them.
@@ -180,6 +188,7 @@ pub fn drawn() -> Vec<Drawn> {
         group,
         refused,
         done,
+        longest: LONGEST,
     };
     let mut files = vec![];
     for field in FIELDS {
@@ -188,6 +197,11 @@ pub fn drawn() -> Vec<Drawn> {
         files.push(file(&format!("{symbols}"), documents, [2, 2]));
         let trays = group_of(field, trays);
         files.push(file(&format!("trays-{symbols}"), trays, [10, 60]));
+        let batches = group_of(field, batch::calls(field));
+        files.push(Drawn {
+            longest: LONGEST_OF_MANY,
+            ..file(&format!("batches-{symbols}"), batches, [4, 24])
+        });
     }
     files.push(file("box", of_box(), [2, 2]));
     files.push(file("checksum", of_checksum(), [0, 300]));

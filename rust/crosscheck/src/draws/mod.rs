@@ -1,6 +1,7 @@
 //! Random cases, one file and one entry of [`DRAWS`] each.
 
 mod any_call;
+mod batches;
 mod box_calls;
 mod checksums;
 mod cutting;
@@ -24,7 +25,7 @@ pub struct Draw {
     pub case: fn(&mut Crosscheck),
 }
 
-pub const DRAWS: [&Draw; 12] = [
+pub const DRAWS: [&Draw; 13] = [
     &any_call::DRAW,
     &cutting::DRAW,
     &feeds::DRAW,
@@ -35,6 +36,7 @@ pub const DRAWS: [&Draw; 12] = [
     &wrong_share::DRAW,
     &erased_and_wrong::DRAW,
     &trays_to_records::DRAW,
+    &batches::DRAW,
     &box_calls::DRAW,
     &checksums::DRAW,
 ];

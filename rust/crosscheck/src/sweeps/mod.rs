@@ -1,6 +1,7 @@
 //! Cases gone through one after another, one file and one entry of [`SWEEPS`]
 //! each.
 
+mod batches;
 mod box_losses;
 mod box_trays;
 mod cards;
@@ -26,7 +27,7 @@ pub struct Sweep {
     pub item: fn(&mut Crosscheck, usize),
 }
 
-pub const SWEEPS: [&Sweep; 12] = [
+pub const SWEEPS: [&Sweep; 13] = [
     &every_layout::SWEEP,
     &small_layouts::SWEEP,
     &least_check::SWEEP,
@@ -37,6 +38,7 @@ pub const SWEEPS: [&Sweep; 12] = [
     &wrong_shares::SWEEP,
     &wrong_trays::SWEEP,
     &cards::SWEEP,
+    &batches::SWEEP,
     &box_losses::SWEEP,
     &box_trays::SWEEP,
 ];

@@ -17,7 +17,7 @@
 //!   [`write_image`] at the symbols, [`scrub`] at the layers it tests. This holds where the call
 //!   would be refused on a later ground too. No call looks at what it only writes, at lost and
 //!   erased trays, or at other groups and layers; [`read_part`] and a call for no lost tray look at
-//!   no symbol at all.
+//!   no symbol at all. A call for many codewords looks where the call for one does.
 //! - **Signs.** Nothing cancels: a tray fed twice to a share counts twice.
 //! - **Images** have edition 2 and two bytes a symbol, low byte first: 24 + 2·L bytes. A reader of
 //!   one edition takes an image of the other for malformed, and one with a symbol above 256 is
@@ -52,6 +52,7 @@
 //! # Ok::<(), gesarumbo::Refusal>(())
 //! ```
 
+mod batch;
 mod card;
 mod correcting;
 mod gather;
@@ -69,6 +70,7 @@ mod store;
 mod test;
 mod test_kept;
 
+pub use batch::{repair_batch, share_batch, store_batch};
 pub use card::{card, card_repair, card_test};
 pub use correcting::repair_correcting;
 pub use gather::{gather, gather_rack, states};
