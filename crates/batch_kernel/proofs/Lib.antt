@@ -1,0 +1,4 @@
+pub mod Spots
+pub mod Picks
+pub mod Weights
+pub mod Told
