@@ -47,13 +47,16 @@ TWINS = {
     'test_kept': [],
     'gather': [],
     'store': [],
+    'batch_factors': [],
+    'batch_restore': [],
+    'batch_store': [],
     'scrub': [],
     'points': ['point_power', 'place_power'],
 }
 # crates without a twin, and those whose functions a twin calls in their place: the names and the contracts are the same
 PLAIN = {'rack_checks': 'syndrome', 'rack_solving': 'solving'}
 # crates that the other field has its own of, written by hand
-OWN = ['symbol', 'planes', 'image']
+OWN = ['symbol', 'planes', 'image', 'batch_kernel']
 # what both fields take from the first field's crate: types, and of images the header and the grounds
 TAKEN = {
     'repair': ['Repaired', 'RepairNumbers'],
@@ -88,7 +91,7 @@ def symbols(text, returning):
 
 def field(text):
     """The definitions of the other field, and the edition of its images."""
-    text = text.replace('gf256', 'gf257').replace('Rattle.symbol.', 'Rattle.symbol257.')
+    text = text.replace('gf256', 'gf257').replace('Rattle.symbol.', 'Rattle.symbol257.').replace('Rattle.batch_kernel.specs.Ready.', 'Rattle.batch_kernel257.specs.Ready.')
     return re.sub(r'\bFIRST\b', 'SECOND', text).replace('edition1', 'edition2').replace('proper1', 'proper2')
 
 

@@ -109,9 +109,6 @@ module _ (l : Layout) (es ks : List ℕ) (s : Lists l es ks) where
   few : length es + length ks ≤ 60
   few = let a = s .adm in let b = s .total in omega arith
 
-  pub es-few : length es ≤ trayLimit
-  es-few = let a = few in omega arith
-
   pub ks-few : length ks ≤ trayLimit
   ks-few = let a = few in omega arith
 
