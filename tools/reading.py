@@ -20,13 +20,14 @@ BOUNDARY = ('field256', 'field257', 'images', 'checksums', 'sixteen')
 LISTED = re.compile(r'^\| (\S+/specs/\S+\.antt) \| (.*) \| \d+ \| \d+ \|$')
 
 # the calls of the boundary by request: the first whose pattern a function's name has
-CALLS = [('records', r'^gesarumbo_(recover_correcting|test_kept|states|gather|gather_rack|checksum)$'), ('W11', r'_box_'), ('W10', r'257'), ('W12', r'correct'), ('W13', r'card'), ('W9', r'')]
+CALLS = [('batches', r'^gesarumbo_store_batch$'), ('records', r'^gesarumbo_(recover_correcting|test_kept|states|gather|gather_rack|checksum)$'), ('W11', r'_box_'), ('W10', r'257'), ('W12', r'correct'), ('W13', r'card'), ('W9', r'')]
 # rows of READING.md in their order: what is added to the rows before, the calls' request, and the records of the pages with the field that they are read over
 ROWS = [
     ('contracts', 'document 01 and W1 to W9', 'W9'),
     ('contracts', 'W12, the correcting repair', 'W12'),
     ('contracts', 'W13, cards', 'W13'),
     ('contracts', 'from trays to records', 'records'),
+    ('contracts', 'many codewords a call', 'batches'),
     ('contracts', 'W10, all of these over the second field', 'W10'),
     ('contracts', 'W11, the box', 'W11'),
     ('claims', 'document 01 and W1 to W9', 'Demand1 Demand2 EachRepair Demand3 Document01 Requests'),
@@ -36,6 +37,7 @@ ROWS = [
     ('claims', 'W10, what a call looks at', 'Looks'),
     ('claims', 'what C is handed', 'Handed Handed256'),
     ('claims', 'from trays to records', 'TraysToRecords'),
+    ('claims', 'many codewords a call', 'Batches'),
     ('claims', 'one lost tray and one share by themselves, which follow', 'OneTray'),
     ('claims', 'the field of 256 and the bench book', 'Claims256'),
     ('claims', 'W10, the second field', 'Claims257'),

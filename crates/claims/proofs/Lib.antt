@@ -9,5 +9,6 @@ pub mod Corrected
 pub mod Looks
 pub mod Handed
 pub mod TraysToRecords
+pub mod Batches
 pub mod Claims
 pub mod Box
