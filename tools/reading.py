@@ -39,7 +39,7 @@ ROWS = [
     ('claims', 'W10, what a call looks at', 'Looks'),
     ('claims', 'what C is handed', 'Handed Handed256'),
     ('claims', 'from trays to records', 'TraysToRecords'),
-    ('claims', 'many codewords a call', 'BatchRepairs'),
+    ('claims', 'many codewords a call', 'BatchStoring BatchRepairs'),
     ('claims', 'one lost tray and one share by themselves, which follow', 'OneTray'),
     ('claims', 'the field of 256 and the bench book', 'Claims256'),
     ('claims', 'W10, the second field', 'Claims257'),

@@ -1,4 +1,4 @@
--- Many codewords a call: shares and repair. Over any field.
+-- Many codewords a call: storing, shares and repair. Over any field.
 -- Assumes nothing.
 use mathlib.Core.Path.{_≡_, refl, sym, ap, _∙_}
 use mathlib.Core.List.{List}
@@ -11,13 +11,24 @@ use Rattle.repair.specs.declared.Repaired.{Repaired}
 use Rattle.repair.specs.declared.Repaired.the-variants.{Done, Refused}
 use Rattle.repair.specs.declared.RepairNumbers.{RepairNumbers}
 use Rattle.repair.specs.Repair.{report}
+use Rattle.batch_store.proofs.Claims.{batch-store-claims}
 use Rattle.batch_share.proofs.Single.{one-codeword as one-share, each-codeword, share-unique}
 use Rattle.batch_repair.specs.RepairBatch.{repairBatchRefusal, RepairBatchAnswer}
 use Rattle.batch_repair.proofs.Single.{one-codeword as one-repair, repaired-batch-unique}
 use Rattle.batch_repair.proofs.Cutting.{cutting-batch}
 use lib.ListN.{length}
 use Rattle.claims.specs.Words.{Refuses}
-use Rattle.claims.specs.Batches.{BatchRepairs}
+use Rattle.claims.specs.Batches.{BatchStoring, BatchRepairs}
+
+pub batch-storing : {A : Type 0} {f : Field A} (W : Working f) (l : Layout) → BatchStoring f l
+batch-storing W l =
+    let C = batch-store-claims W in
+    record {
+      store-grounds = λ m given c d n a. (a .answer, λ r. a .unchanged (λ z. r (sym (a .answer) ∙ z)));
+      store-each = C .0;
+      store-settled = C .1;
+      store-one = C .2;
+    }
 
 module _ {A : Type 0} (f : Field A) (l : Layout) (many x : ℕ) (helpers shares host : List ℕ) (first budget : ℕ) (old new : List ℕ) where
   abbrev ground : ℕ

@@ -71,7 +71,7 @@ use Rattle.claims.proofs.Corrected.{correcting-grounds, fourteen-exactl
 use Rattle.claims.proofs.Fields.{adds-256, multiplies-256, low-powers-256, eighth-256, exactly-256, adds-257, multiplies-257, exactly-257}
 use Rattle.claims.proofs.Looks.{piece-looks, others-groups, card-looks, correcting-looks, walk-looks, test-looks, share-room, print-room, none-shared, none-fed, none-lost}
 use Rattle.claims.proofs.TraysToRecords.{trays-to-records}
-use Rattle.claims.proofs.Batches.{batch-repairs}
+use Rattle.claims.proofs.Batches.{batch-storing, batch-repairs}
 use Rattle.claims.proofs.Handed.{handed, handed-256}
 
 module _ {A : Type 0} {f : Field A} (W : Working f) (ed : Edition) (fit : Proper ed) (l : Layout) where
@@ -281,6 +281,7 @@ module _ {A : Type 0} {f : Field A} (W : Working f) (ed : Edition) (fit : Proper
     looks = looks;
     handed = handed W l;
     trays-to-records = trays-to-records W ed (record { order-is = same .0; size-is = same .1; proper = fit }) l looks;
+    batch-storing = batch-storing W l;
     batch-repairs = batch-repairs W l;
   }
 

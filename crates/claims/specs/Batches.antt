@@ -1,4 +1,4 @@
--- MANY CODEWORDS A CALL, over any field f: shares and repair. A batch is `many` codewords of one layout, interleaved; `part` is the one of them that is numbered q (crate
+-- MANY CODEWORDS A CALL, over any field f: storing, shares and repair. A batch is `many` codewords of one layout, interleaved; `part` is the one of them that is numbered q (crate
 -- batch_parts). What a call leaves in each part is what the call of one codeword leaves, in that call's own definitions.
 -- Assumes nothing.
 use mathlib.Core.Path.{_≡_}
@@ -15,11 +15,22 @@ use Rattle.repair.specs.declared.Repaired.{Repaired}
 use Rattle.repair.specs.declared.RepairNumbers.{RepairNumbers}
 use Rattle.repair.specs.Repair.{report, RepairAnswer}
 use Rattle.batch_parts.specs.Parts.{part}
+use Rattle.batch_store.specs.Store.{batchStoreRefusal, BatchStoreAnswer}
+use Rattle.batch_store.specs.Claims.{BatchStores, BatchStoreSettled, BatchStoreOne}
 use Rattle.batch_share.specs.ShareBatch.{shareBatchRefusal, ShareBatchAnswer}
 use Rattle.batch_repair.specs.RepairBatch.{repairBatchRefusal, RepairBatchAnswer}
 use Rattle.batch_repair.specs.BatchCalls.{BatchCalls, CutBatch}
 use Rattle.gesarumbo.specs.Boundary.{Shown}
 use Rattle.claims.specs.Words.{Refuses, Grounded}
+
+-- What is claimed of storing is spelled out in batch_store/specs/Claims.antt.
+pub record BatchStoring {A : Type 0} (f : Field A) (l : Layout) : Type 0 where
+  -- the answer is the first ground that applies, and a refusal changes nothing that was lent
+  pub store-grounds : (m : ℕ) (given c d : List ℕ) (n : ℕ) → BatchStoreAnswer f l m given c d n → Grounded (batchStoreRefusal f l m given (length c)) n c d
+  -- each codeword is the one that begins with its own data; no contract allows two answers; one codeword is stored as by the call for one
+  pub store-each : BatchStores f
+  pub store-settled : BatchStoreSettled f
+  pub store-one : BatchStoreOne f
 
 pub record BatchRepairs {A : Type 0} (f : Field A) (l : Layout) : Type 0 where
   -- the first ground that applies, and a refusal changes nothing that was lent

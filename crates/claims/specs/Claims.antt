@@ -65,7 +65,7 @@ use Rattle.bench_book.specs.Table.{AllHold, benchBook}
 use Rattle.claims.specs.Words.{Refuses, Grounded, LayerAlike, OthersAlike}
 use Rattle.claims.specs.Looks.{Looks}
 use Rattle.claims.specs.TraysToRecords.{TraysToRecords}
-use Rattle.claims.specs.Batches.{BatchRepairs}
+use Rattle.claims.specs.Batches.{BatchStoring, BatchRepairs}
 use Rattle.claims.specs.Boundary.{Handed, Handed256}
 
 -- DEMAND 1. "Whatever layout, list, image or buffer arrives, every call ends with an answer": the checker proves it of each function, and no public call has a
@@ -361,6 +361,7 @@ pub record Claims {A : Type 0} (f : Field A) (ed : Edition) (l : Layout) : Type 
   pub handed : Handed f l
   pub trays-to-records : TraysToRecords f ed l
   -- many codewords a call
+  pub batch-storing : BatchStoring f l
   pub batch-repairs : BatchRepairs f l
 
 -- THE FIELD OF 256

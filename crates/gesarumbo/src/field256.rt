@@ -23,6 +23,7 @@ ghost use Rattle.symbol.specs.Elem.{gf256};
 ghost use Rattle.layout.specs.Layout.{measured};
 ghost use Rattle.recover.specs.Recover.{RecoverAnswer};
 ghost use Rattle.store.specs.Store.{StoreAnswer};
+ghost use Rattle.batch_store.specs.Store.{BatchStoreAnswer};
 ghost use Rattle.margin.specs.Margin.{marginAnswer};
 ghost use Rattle.share.specs.Many.{sharesRefusal, sharesBuffer, fedRefusal, fedBuffer, manyRefusal, manyBuffer, addManyRefusal, addManyBuffer};
 ghost use Rattle.scrub.specs.Scrub.{scrubbed, begun};
@@ -320,6 +321,18 @@ pub extern "C" fn gesarumbo_store(l: Layout, words: &[u8], codeword: &mut [u8]) 
     ensures { λ r. ⌜ StoreAnswer gf256 l (now (words .entry)) (now (codeword .entry)) (now (codeword .exit)) r ⌝ }
 {
     store::store(l, words, codeword) as u32
+}
+
+#[no_mangle]
+pub extern "C" fn gesarumbo_store_batch(
+    l: Layout,
+    many: usize,
+    words: &[u8],
+    codewords: &mut [u8],
+) -> u32
+    ensures { λ r. ⌜ BatchStoreAnswer gf256 l many (now (words .entry)) (now (codewords .entry)) (now (codewords .exit)) r ⌝ }
+{
+    batch_store::store_batch(l, many, words, codewords) as u32
 }
 
 #[no_mangle]

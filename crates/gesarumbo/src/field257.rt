@@ -24,6 +24,7 @@ ghost use Rattle.symbol257.specs.Elem.{gf257};
 ghost use Rattle.layout.specs.Layout.{measured};
 ghost use Rattle.recover.specs.Recover.{RecoverAnswer};
 ghost use Rattle.store.specs.Store.{StoreAnswer};
+ghost use Rattle.batch_store.specs.Store.{BatchStoreAnswer};
 ghost use Rattle.margin.specs.Margin.{marginAnswer};
 ghost use Rattle.share.specs.Many.{sharesRefusal, sharesBuffer, fedRefusal, fedBuffer, manyRefusal, manyBuffer, addManyRefusal, addManyBuffer};
 ghost use Rattle.scrub.specs.Scrub.{scrubbed, begun};
@@ -321,6 +322,18 @@ pub extern "C" fn gesarumbo257_store(l: Layout, words: &[u16], codeword: &mut [u
     ensures { λ r. ⌜ StoreAnswer gf257 l (now (words .entry)) (now (codeword .entry)) (now (codeword .exit)) r ⌝ }
 {
     store257::store(l, words, codeword) as u32
+}
+
+#[no_mangle]
+pub extern "C" fn gesarumbo257_store_batch(
+    l: Layout,
+    many: usize,
+    words: &[u16],
+    codewords: &mut [u16],
+) -> u32
+    ensures { λ r. ⌜ BatchStoreAnswer gf257 l many (now (words .entry)) (now (codewords .entry)) (now (codewords .exit)) r ⌝ }
+{
+    batch_store257::store_batch(l, many, words, codewords) as u32
 }
 
 #[no_mangle]
