@@ -1,10 +1,13 @@
 /*
  * Prints how much stack each call takes, "name bytes" a line: by painting a stack, running the call on
- * it and looking how deep the paint is gone. Every call is made in every admissible layout with at
- * least two layers whose codeword has at most as many symbols as the first word of the command line
- * says, in a part of those with one layer, and in some large ones, with the lists, wrong trays and wrong
- * shares of stack_calls.h; the most is printed. Both fields' calls are run by the same text.
- * tools/needs.py holds it against the header's figures.
+ * it and looking how deep the paint is gone. Every call is made in a fifth of the admissible layouts
+ * whose codeword has at most as many symbols as the first word of the command line says, or, without
+ * such a word, 300, and in some large ones, with the lists, wrong trays and wrong shares of
+ * stack_calls.h; the most is printed. Both fields' calls are run by the same text. tools/needs.py holds
+ * it against the header's figures, and refuses where it stays far below them.
+ *
+ * With the words FIELD CALL TIMES B u k d E it makes one call so many times instead, for a count of its
+ * instructions (tools/cost.py).
  */
 #include <stdio.h>
 #include <stdlib.h>
@@ -13,7 +16,7 @@
 
 #include "gesarumbo.h"
 
-enum { STACK = 192 * 1024, PAGE = 2048, PAINT = 0xA7, TRAYS = 60, LAYERS = 4096, SYMBOLS = TRAYS * LAYERS, CARD = 60 * 60 };
+enum { STACK = 128 * 1024, PAGE = 2048, PAINT = 0xA7, TRAYS = 60, LAYERS = 4096, SYMBOLS = TRAYS * LAYERS, CARD = 60 * 60 };
 enum { FEW = 64, LIVE = 1, VOLUME = 7, CALLS = 128 };
 
 /* The layout at hand and its numbers, and what a call is lent. */
@@ -137,10 +140,9 @@ static void in_layout(unsigned long most)
 {
     gesarumbo_measured first = gesarumbo_measure(layout), second = gesarumbo257_measure(layout);
     unsigned long all = layout.racks * layout.size;
-    int sampled = layout.dimension % 5 == 0;
-    if (first.refusal == 0 && all * first.layers <= most && (first.layers > 1 || sampled))
+    if (first.refusal == 0 && all * first.layers <= most)
         f256_in_layout();
-    if (second.refusal == 0 && all * second.layers <= most && (second.layers > 1 || sampled))
+    if (second.refusal == 0 && all * second.layers <= most)
         f257_in_layout();
 }
 
@@ -150,6 +152,15 @@ int main(int count, char **words)
         { 10, 3, 24, 9, 0 }, { 7, 5, 24, 6, 0 }, { 10, 3, 18, 9, 1 }, { 12, 5, 50, 11, 0 },
         { 10, 4, 32, 9, 0 }, { 10, 4, 24, 9, 1 }, { 12, 4, 40, 11, 0 }, { 4, 15, 15, 3, 1 },
     };
+    if (count == 9) {
+        uint32_t numbers[5];
+        for (int i = 0; i < 5; i++)
+            numbers[i] = (uint32_t)strtoul(words[4 + i], NULL, 10);
+        layout = (gesarumbo_layout){ numbers[0], numbers[1], numbers[2], numbers[3], numbers[4] };
+        int second = strcmp(words[1], "257") == 0;
+        unsigned long times = strtoul(words[3], NULL, 10);
+        return !(second ? f257_repeat(words[2], times) : f256_repeat(words[2], times));
+    }
     unsigned long most = count > 1 ? strtoul(words[1], NULL, 10) : 300;
     memset(stack, PAINT, STACK);
     memset(paint, PAINT, PAGE);
@@ -160,9 +171,10 @@ int main(int count, char **words)
                 for (uint32_t d = 1; d < racks; d++)
                     for (uint32_t wrong = 0; wrong < 2; wrong++) {
                         layout = (gesarumbo_layout){ racks, size, k, d, wrong };
-                        in_layout(most);
+                        if ((racks + 3 * k + d) % 5 == 0)
+                            in_layout(most);
                     }
-    for (size_t i = 0; i < sizeof large / sizeof *large; i++) {
+    for (size_t i = 0; count == 1 && i < sizeof large / sizeof *large; i++) {
         layout = large[i];
         in_layout(SYMBOLS);
     }

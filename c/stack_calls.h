@@ -225,3 +225,38 @@ static void OWN(in_layout)(void)
         OWN(with_host)(layout.racks - 1, 0);
     }
 }
+
+/* Makes one call so many times in the layout at hand: data are stored, tray 0 is lost or, for recover-r,
+ * r trays are, and the racks after it help. */
+static int OWN(repeat)(const char *name, unsigned long times)
+{
+    static const struct { const char *name; void (*call)(void); } all[] = {
+        { "store", OWN(do_store) },           { "test", OWN(do_test) },
+        { "recover-1", OWN(do_recover) },     { "recover-r", OWN(do_recover) },
+        { "share", OWN(do_share) },           { "repair", OWN(do_repair) },
+        { "correct", OWN(do_repair_correcting) },
+    };
+    gesarumbo_measured measured = CALL(measure)(layout);
+    if (measured.refusal != 0)
+        return 0;
+    set_numbers(measured, sizeof(SYMBOL));
+    for (size_t i = 0; i < length; i++)
+        OWN(kept)[i] = (SYMBOL)((i * 7 + i / 11 + 5) % 251);
+    if (strcmp(name, "store") != 0)
+        OWN(do_store)();
+    host = 0;
+    lost_count = 1;
+    helper = 1;
+    erased_count = strcmp(name, "recover-r") == 0 ? checks : 1;
+    for (uint32_t i = 0; i < erased_count; i++)
+        erased[i] = i;
+    for (uint32_t i = 0; i < layout.helpers; i++) {
+        helpers[i] = i + 1;
+        if (name[0] == 'r' || name[0] == 'c')
+            CALL(share)(layout, 0, i + 1, OWN(rack_at)(i + 1), rack_length, OWN(shares) + i * groups, groups);
+    }
+    for (size_t i = 0; i < sizeof all / sizeof *all; i++)
+        for (unsigned long done = 0; strcmp(name, all[i].name) == 0 && done < times; done++)
+            all[i].call();
+    return answer == 0;
+}

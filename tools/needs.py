@@ -89,12 +89,12 @@ def stacks():
     return {call.name: up(deepest(known, call.name) + RED_ZONE) for call in header.calls()}
 
 
-def code(names, folder, linker='ld', archive=ARCHIVE):
+def code(names, folder, linker='ld', archive=ARCHIVE, size='size'):
     """The bytes of code and constants in a program that has these calls alone."""
     out = os.path.join(folder, 'linked')
     wanted = [word for name in names for word in ('-u', name)]
     run(linker, '--gc-sections', '-e', names[0], *wanted, '--unresolved-symbols=ignore-all', archive, '-o', out)
-    sizes = re.findall(r'^\.(?:text|rodata)\S*\s+(\d+)', run('size', '-A', out), flags=re.M)
+    sizes = re.findall(r'^\.(?:text|rodata)\S*\s+(\d+)', run(size, '-A', out), flags=re.M)
     return sum(map(int, sizes))
 
 
