@@ -1,10 +1,10 @@
 /*
  * Prints how much stack each call takes, "name bytes" a line: by painting a stack, running the call on
  * it and looking how deep the paint is gone. Every call is made in a fifth of the admissible layouts
- * whose codeword has at most as many symbols as the first word of the command line says, or, without
- * such a word, 300, and in some large ones, with the lists, wrong trays and wrong shares of
- * stack_calls.h; the most is printed. Both fields' calls are run by the same text. tools/needs.py holds
- * it against the header's figures, and refuses where it stays far below them.
+ * whose codeword has at most 300 symbols and in some small and large ones, with the lists, wrong trays
+ * and wrong shares of stack_calls.h; the most is printed. Both fields' calls are run by the same text.
+ * With the word few only the small ones are taken. tools/needs.py holds it against the header's figures,
+ * and refuses where it stays far below them.
  *
  * With the words FIELD CALL TIMES B u k d E it makes one call so many times instead, for a count of its
  * instructions (tools/cost.py).
@@ -148,10 +148,14 @@ static void in_layout(unsigned long most)
 
 int main(int count, char **words)
 {
-    static const gesarumbo_layout large[] = {
-        { 10, 3, 24, 9, 0 }, { 7, 5, 24, 6, 0 }, { 10, 3, 18, 9, 1 }, { 12, 5, 50, 11, 0 },
-        { 10, 4, 32, 9, 0 }, { 10, 4, 24, 9, 1 }, { 12, 4, 40, 11, 0 }, { 4, 15, 15, 3, 1 },
+    static const gesarumbo_layout chosen[] = {
+        { 4, 3, 8, 3, 0 },   { 5, 3, 4, 3, 0 },   { 5, 3, 4, 4, 1 },   { 4, 3, 6, 3, 0 },
+        { 5, 4, 15, 4, 0 },  { 4, 4, 8, 3, 0 },   { 5, 4, 4, 4, 1 },   { 4, 15, 15, 3, 1 },
+        { 10, 3, 24, 9, 0 }, { 7, 5, 24, 6, 0 },  { 10, 3, 18, 9, 1 }, { 12, 5, 50, 11, 0 },
+        { 10, 4, 32, 9, 0 }, { 10, 4, 24, 9, 1 }, { 12, 4, 40, 11, 0 },
     };
+    enum { SMALL = 8 };
+    size_t last = count == 2 ? SMALL : sizeof chosen / sizeof *chosen;
     if (count == 9) {
         uint32_t numbers[5];
         for (int i = 0; i < 5; i++)
@@ -161,21 +165,20 @@ int main(int count, char **words)
         unsigned long times = strtoul(words[3], NULL, 10);
         return !(second ? f257_repeat(words[2], times) : f256_repeat(words[2], times));
     }
-    unsigned long most = count > 1 ? strtoul(words[1], NULL, 10) : 300;
     memset(stack, PAINT, STACK);
     memset(paint, PAINT, PAGE);
     in_box();
-    for (uint32_t racks = 2; racks <= TRAYS; racks++)
+    for (uint32_t racks = 2; racks <= TRAYS && count == 1; racks++)
         for (uint32_t size = 1; size <= 17 && racks * size <= TRAYS; size++)
             for (uint32_t k = size; k < racks * size; k++)
                 for (uint32_t d = 1; d < racks; d++)
                     for (uint32_t wrong = 0; wrong < 2; wrong++) {
                         layout = (gesarumbo_layout){ racks, size, k, d, wrong };
                         if ((racks + 3 * k + d) % 5 == 0)
-                            in_layout(most);
+                            in_layout(300);
                     }
-    for (size_t i = 0; count == 1 && i < sizeof large / sizeof *large; i++) {
-        layout = large[i];
+    for (size_t i = 0; i < last; i++) {
+        layout = chosen[i];
         in_layout(SYMBOLS);
     }
     for (size_t i = 0; taken[i].name != NULL; i++)
