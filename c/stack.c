@@ -146,6 +146,46 @@ static void in_layout(unsigned long most)
         f257_in_layout();
 }
 
+/* Goes on to the next numbers of a layout, E first; 0 after the last. */
+static int next_layout(void)
+{
+    if (++layout.errors < 2)
+        return 1;
+    layout.errors = 0;
+    if (++layout.helpers < layout.racks)
+        return 1;
+    layout.helpers = 1;
+    if (++layout.dimension < layout.racks * layout.size)
+        return 1;
+    if (++layout.size > 17 || layout.racks * layout.size > TRAYS) {
+        layout.size = 1;
+        layout.racks++;
+    }
+    layout.dimension = layout.size;
+    return layout.racks <= TRAYS;
+}
+
+/* Makes one call, by the words FIELD CALL TIMES B u k d E; whether it was done. */
+static int repeat(char **words)
+{
+    uint32_t numbers[5];
+    unsigned long times = strtoul(words[2], NULL, 10);
+    for (int i = 0; i < 5; i++)
+        numbers[i] = (uint32_t)strtoul(words[3 + i], NULL, 10);
+    layout = (gesarumbo_layout){ numbers[0], numbers[1], numbers[2], numbers[3], numbers[4] };
+    return strcmp(words[0], "257") == 0 ? f257_repeat(words[1], times) : f256_repeat(words[1], times);
+}
+
+/* A fifth of the small layouts. */
+static void in_many(void)
+{
+    layout = (gesarumbo_layout){ 2, 1, 1, 1, 0 };
+    do {
+        if ((layout.racks + 3 * layout.dimension + layout.helpers) % 5 == 0)
+            in_layout(300);
+    } while (next_layout());
+}
+
 int main(int count, char **words)
 {
     static const gesarumbo_layout chosen[] = {
@@ -156,27 +196,13 @@ int main(int count, char **words)
     };
     enum { SMALL = 8 };
     size_t last = count == 2 ? SMALL : sizeof chosen / sizeof *chosen;
-    if (count == 9) {
-        uint32_t numbers[5];
-        for (int i = 0; i < 5; i++)
-            numbers[i] = (uint32_t)strtoul(words[4 + i], NULL, 10);
-        layout = (gesarumbo_layout){ numbers[0], numbers[1], numbers[2], numbers[3], numbers[4] };
-        int second = strcmp(words[1], "257") == 0;
-        unsigned long times = strtoul(words[3], NULL, 10);
-        return !(second ? f257_repeat(words[2], times) : f256_repeat(words[2], times));
-    }
+    if (count == 9)
+        return !repeat(words + 1);
     memset(stack, PAINT, STACK);
     memset(paint, PAINT, PAGE);
     in_box();
-    for (uint32_t racks = 2; racks <= TRAYS && count == 1; racks++)
-        for (uint32_t size = 1; size <= 17 && racks * size <= TRAYS; size++)
-            for (uint32_t k = size; k < racks * size; k++)
-                for (uint32_t d = 1; d < racks; d++)
-                    for (uint32_t wrong = 0; wrong < 2; wrong++) {
-                        layout = (gesarumbo_layout){ racks, size, k, d, wrong };
-                        if ((racks + 3 * k + d) % 5 == 0)
-                            in_layout(300);
-                    }
+    if (count == 1)
+        in_many();
     for (size_t i = 0; i < last; i++) {
         layout = chosen[i];
         in_layout(SYMBOLS);
