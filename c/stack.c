@@ -16,7 +16,7 @@
 
 #include "gesarumbo.h"
 
-enum { STACK = 128 * 1024, PAGE = 2048, PAINT = 0xA7, TRAYS = 60, LAYERS = 4096, SYMBOLS = TRAYS * LAYERS, CARD = 60 * 60 };
+enum { STACK = 192 * 1024, PAGE = 2048, PAINT = 0xA7, TRAYS = 60, LAYERS = 4096, SYMBOLS = TRAYS * LAYERS, CARD = 60 * 60 };
 enum { FEW = 64, LIVE = 1, VOLUME = 7, CALLS = 128 };
 
 /* The layout at hand and its numbers, and what a call is lent. */
