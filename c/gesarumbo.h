@@ -55,7 +55,8 @@
  *
  * Stack and code. What each call takes at most on x86-64, in bytes. Stack: below the caller's own
  * frame, whatever the call is given, by the compiled code; each call was also run on a painted stack.
- * Code: of a program that links this call alone with --gc-sections, constants included.
+ * Code: of a program that links this call alone with --gc-sections, constants included. What other
+ * processors take is in docs/PERFORMANCE.md.
  *
  *                                       field of 256      field of 257
  *     call                            stack     code    stack     code

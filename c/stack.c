@@ -1,10 +1,10 @@
 /*
  * Prints how much stack each call takes, "name bytes" a line: by painting a stack, running the call on
  * it and looking how deep the paint is gone. Every call is made in a fifth of the admissible layouts
- * whose codeword has at most as many symbols as the first word of the command line says, or, without
- * such a word, 300, and in some large ones, with the lists, wrong trays and wrong shares of
- * stack_calls.h; the most is printed. Both fields' calls are run by the same text. tools/needs.py holds
- * it against the header's figures, and refuses where it stays far below them.
+ * whose codeword has at most 300 symbols and in some small and large ones, with the lists, wrong trays
+ * and wrong shares of stack_calls.h; the most is printed. Both fields' calls are run by the same text.
+ * With the word few only the small ones are taken. tools/needs.py holds it against the header's figures,
+ * and refuses where it stays far below them.
  *
  * With the words FIELD CALL TIMES B u k d E it makes one call so many times instead, for a count of its
  * instructions (tools/cost.py).
@@ -16,7 +16,7 @@
 
 #include "gesarumbo.h"
 
-enum { STACK = 128 * 1024, PAGE = 2048, PAINT = 0xA7, TRAYS = 60, LAYERS = 4096, SYMBOLS = TRAYS * LAYERS, CARD = 60 * 60 };
+enum { STACK = 192 * 1024, PAGE = 2048, PAINT = 0xA7, TRAYS = 60, LAYERS = 4096, SYMBOLS = TRAYS * LAYERS, CARD = 60 * 60 };
 enum { FEW = 64, LIVE = 1, VOLUME = 7, CALLS = 128, SOME = 17, BATCH = 257 };
 
 /* The layout at hand and its numbers, and what a call is lent. */
@@ -146,36 +146,65 @@ static void in_layout(unsigned long most)
         f257_in_layout();
 }
 
+/* Goes on to the next numbers of a layout, E first; 0 after the last. */
+static int next_layout(void)
+{
+    if (++layout.errors < 2)
+        return 1;
+    layout.errors = 0;
+    if (++layout.helpers < layout.racks)
+        return 1;
+    layout.helpers = 1;
+    if (++layout.dimension < layout.racks * layout.size)
+        return 1;
+    if (++layout.size > 17 || layout.racks * layout.size > TRAYS) {
+        layout.size = 1;
+        layout.racks++;
+    }
+    layout.dimension = layout.size;
+    return layout.racks <= TRAYS;
+}
+
+/* Makes one call, by the words FIELD CALL TIMES B u k d E; whether it was done. */
+static int repeat(char **words)
+{
+    uint32_t numbers[5];
+    unsigned long times = strtoul(words[2], NULL, 10);
+    for (int i = 0; i < 5; i++)
+        numbers[i] = (uint32_t)strtoul(words[3 + i], NULL, 10);
+    layout = (gesarumbo_layout){ numbers[0], numbers[1], numbers[2], numbers[3], numbers[4] };
+    return strcmp(words[0], "257") == 0 ? f257_repeat(words[1], times) : f256_repeat(words[1], times);
+}
+
+/* A fifth of the small layouts. */
+static void in_many(void)
+{
+    layout = (gesarumbo_layout){ 2, 1, 1, 1, 0 };
+    do {
+        if ((layout.racks + 3 * layout.dimension + layout.helpers) % 5 == 0)
+            in_layout(300);
+    } while (next_layout());
+}
+
 int main(int count, char **words)
 {
-    static const gesarumbo_layout large[] = {
-        { 10, 3, 24, 9, 0 }, { 7, 5, 24, 6, 0 }, { 10, 3, 18, 9, 1 }, { 12, 5, 50, 11, 0 },
-        { 10, 4, 32, 9, 0 }, { 10, 4, 24, 9, 1 }, { 12, 4, 40, 11, 0 }, { 4, 15, 15, 3, 1 },
+    static const gesarumbo_layout chosen[] = {
+        { 4, 3, 8, 3, 0 },   { 5, 3, 4, 3, 0 },   { 5, 3, 4, 4, 1 },   { 4, 3, 6, 3, 0 },
+        { 5, 4, 15, 4, 0 },  { 4, 4, 8, 3, 0 },   { 5, 4, 4, 4, 1 },   { 4, 15, 15, 3, 1 },
+        { 10, 3, 24, 9, 0 }, { 7, 5, 24, 6, 0 },  { 10, 3, 18, 9, 1 }, { 12, 5, 50, 11, 0 },
+        { 10, 4, 32, 9, 0 }, { 10, 4, 24, 9, 1 }, { 12, 4, 40, 11, 0 },
     };
-    if (count == 9) {
-        uint32_t numbers[5];
-        for (int i = 0; i < 5; i++)
-            numbers[i] = (uint32_t)strtoul(words[4 + i], NULL, 10);
-        layout = (gesarumbo_layout){ numbers[0], numbers[1], numbers[2], numbers[3], numbers[4] };
-        int second = strcmp(words[1], "257") == 0;
-        unsigned long times = strtoul(words[3], NULL, 10);
-        return !(second ? f257_repeat(words[2], times) : f256_repeat(words[2], times));
-    }
-    unsigned long most = count > 1 ? strtoul(words[1], NULL, 10) : 300;
+    enum { SMALL = 8 };
+    size_t last = count == 2 ? SMALL : sizeof chosen / sizeof *chosen;
+    if (count == 9)
+        return !repeat(words + 1);
     memset(stack, PAINT, STACK);
     memset(paint, PAINT, PAGE);
     in_box();
-    for (uint32_t racks = 2; racks <= TRAYS; racks++)
-        for (uint32_t size = 1; size <= 17 && racks * size <= TRAYS; size++)
-            for (uint32_t k = size; k < racks * size; k++)
-                for (uint32_t d = 1; d < racks; d++)
-                    for (uint32_t wrong = 0; wrong < 2; wrong++) {
-                        layout = (gesarumbo_layout){ racks, size, k, d, wrong };
-                        if ((racks + 3 * k + d) % 5 == 0)
-                            in_layout(most);
-                    }
-    for (size_t i = 0; count == 1 && i < sizeof large / sizeof *large; i++) {
-        layout = large[i];
+    if (count == 1)
+        in_many();
+    for (size_t i = 0; i < last; i++) {
+        layout = chosen[i];
         in_layout(SYMBOLS);
     }
     for (size_t i = 0; taken[i].name != NULL; i++)

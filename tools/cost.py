@@ -5,7 +5,7 @@
                                 (tools/port-test TARGET makes the latter and installs what is needed)
 
 Instructions: qemu-user counts them (tools/count.c), of a program that makes the call twice less those of one that makes it once,
-memcpy and memset of Debian's C library included. Stack: by painting (c/stack.c, fewer layouts than in the gate). Code: of a
+memcpy and memset of Debian's C library included. Stack: by painting (c/stack.c, in a few small layouts). Code: of a
 program that links these calls alone with --gc-sections, without what it takes from the C library.
 """
 import os
@@ -61,7 +61,7 @@ class Target:
         return self.executed(field, call, 2, layout) - self.executed(field, call, 1, layout)
 
     def stacks(self):
-        lines = needs.run(*([] if self.name == 'x86_64' else [self.qemu]), self.program, '60').splitlines()
+        lines = needs.run(*([] if self.name == 'x86_64' else [self.qemu]), self.program, 'few').splitlines()
         return {name: int(most) for name, most in (line.split() for line in lines)}
 
     def code(self, names):

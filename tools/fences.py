@@ -3,6 +3,7 @@
 
     tools/fences.py compile FILE.. -- WORDS..   compiles each block of C in the files as it stands, with these words after it
                                                 (flags, libraries), for C and C++, and runs it: it must end with 0
+    tools/fences.py python FILE..               runs each block of Python in the files
     tools/fences.py links FILE..                each link to a file leads to one, and none out of the folder
 """
 import os
@@ -40,6 +41,15 @@ def compile_all(files, words):
         sys.exit('there is no block of C in %s' % ' '.join(files))
 
 
+def run_python(files):
+    found = [(path, line, text) for path in files for line, text in blocks(path, 'python')]
+    for path, line, text in found:
+        print('%s:%d: python' % (path, line), flush=True)
+        subprocess.run([sys.executable, '-W', 'error', '-c', text], check=True)
+    if not found:
+        sys.exit('there is no block of Python in %s' % ' '.join(files))
+
+
 def links(files):
     dead = []
     for path in files:
@@ -58,6 +68,8 @@ def main():
     if asked[:1] == ['compile'] and '--' in asked:
         end = asked.index('--')
         compile_all(asked[1:end], asked[end + 1 :])
+    elif asked[:1] == ['python']:
+        run_python(asked[1:])
     elif asked[:1] == ['links']:
         links(asked[1:])
     else:

@@ -141,7 +141,8 @@ def table(stack, bytes_of_code):
                   comma(max(stack[name] for name in kinds()['257'])), comma(bytes_of_code['257']))
     text = '''Stack and code. What each call takes at most on x86-64, in bytes. Stack: below the caller's own
 frame, whatever the call is given, by the compiled code; each call was also run on a painted stack.
-Code: of a program that links this call alone with --gc-sections, constants included.
+Code: of a program that links this call alone with --gc-sections, constants included. What other
+processors take is in docs/PERFORMANCE.md.
 
 ''' + '    %-28s%18s%18s\n' % ('', 'field of 256', 'field of 257') + row % ('call', 'stack', 'code', 'stack', 'code') + ''.join(shared) + both + '\n' + ''.join(alone)
     return ''.join(' *' + (' ' + line if line else '').rstrip() + '\n' for line in text.rstrip('\n').split('\n'))
