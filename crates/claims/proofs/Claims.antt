@@ -10,9 +10,10 @@ use Rattle.algebra.specs.Shape.{Field}
 use Rattle.algebra.specs.Plain.{Working}
 use Rattle.algebra.specs.Layers.{groupOf}
 use Rattle.algebra.proofs.Points.{powers-apart}
-use Rattle.symbol.specs.Elem.{elem as elem-256, ops as ops-256, gf256}
+use Rattle.algebra.specs.Below.{below}
+use Rattle.symbol.specs.Elem.{gf256}
 use Rattle.symbol.proofs.Working.{working as working-256}
-use Rattle.symbol257.specs.Elem.{elem as elem-257, gf257}
+use Rattle.symbol257.specs.Elem.{gf257}
 use Rattle.symbol257.proofs.Working.{working as working-257}
 use Rattle.layout.specs.declared.Layout.{Layout}
 use Rattle.layout.specs.Layout.{digits, admissible, admissibleWith, Admissible, AdmissibleWith}
@@ -286,7 +287,7 @@ module _ {A : Type 0} {f : Field A} (W : Working f) (ed : Edition) (fit : Proper
   }
 
 pub claims-256 : (l : Layout) → Claims256 l
-unfolding elem-256
+unfolding below
 claims-256 l = record {
   claims = claims-at working-256 edition1 proper1 l (refl, refl);
   adds = adds-256;
@@ -304,7 +305,7 @@ claims-256 l = record {
 }
 
 pub claims-257 : (l : Layout) → Claims257 l
-unfolding elem-257
+unfolding below
 claims-257 l = record {
   claims = claims-at working-257 edition2 proper2 l (refl, refl);
   adds = adds-257;

@@ -10,6 +10,7 @@ use mir.Val.{Fits}
 use mir.Syntax.{w8, w64}
 use lib.Arith.{digits-mod}
 use lib.ListN.{length, getD}
+use Rattle.algebra.specs.Below.{below}
 use Rattle.algebra.specs.Field.{Ops}
 use Rattle.algebra.specs.Sum.{sum, pow}
 use Rattle.algebra.specs.Layers.{digit}
@@ -309,7 +310,7 @@ module _ {A : Type 0} {f : Field A} (W : Working f) (l : Layout) (w first : ℕ)
 
 -- among bytes an odd number of ones is one
 ones-small : (u : ℕ) → Small u → sum (gf256 .ops) u (λ m. gf256 .ops .one) ≡ gf256 .ops .one
-unfolding sum byteOps _⊕_
+unfolding sum byteOps _⊕_ below
 ones-small u s = go (ℕ-discrete u 3)
   where
     three : sum (gf256 .ops) 3 (λ m. gf256 .ops .one) ≡ gf256 .ops .one
