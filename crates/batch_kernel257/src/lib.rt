@@ -1,7 +1,6 @@
 // Sums of rows, each times a factor: many output rows from the same input rows, in the field modulo 257, by the names that the first field's kernel has. A row
 // is taken to an output row in one pass, with a product and a reduction a symbol.
-use symbol257::plain::ORDER;
-use symbol257::plain::power;
+use symbol257::Symbol;
 ghost use mathlib.Core.Path.{_≡_};
 ghost use Prim.Native.Nat.{ℕ, _+_, _*_, _/_, _<_, _≤_};
 ghost use lib.ListN.{length, getD};
@@ -70,5 +69,5 @@ pub fn prepare(picks: &mut [u16], g: &[u16], wide: usize, n: usize)
 pub fn inverse(x: u16) -> u16
     ensures { λ r. ⌜ gf257 .coding .elem r ≡ gf257 .ops .inv (gf257 .coding .elem x) ⌝ }
 {
-    power(x, ORDER as u32 - 1)
+    Symbol(x).inverse().0
 }

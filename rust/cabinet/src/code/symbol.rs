@@ -49,6 +49,7 @@ type Answer<T> = Result<T, Refusal>;
 pub struct Calls<S: 'static> {
     pub numbers: fn(Layout) -> Answer<Numbers>,
     pub store: fn(Layout, &[S], &mut [S]) -> Answer<()>,
+    pub store_batch: fn(Layout, usize, &[S], &mut [S]) -> Answer<()>,
     pub recover: fn(Layout, &mut [S], &[Tray]) -> Answer<()>,
     pub recover_correcting: fn(Layout, &mut [S], &[Tray]) -> Answer<Recovered>,
     pub test_kept: fn(Layout, &[S], &[Tray]) -> Answer<Kept>,
@@ -75,6 +76,7 @@ macro_rules! calls {
         Calls {
             numbers: $module::numbers,
             store: $module::store,
+            store_batch: $module::store_batch,
             recover: $module::recover,
             recover_correcting: $module::recover_correcting,
             test_kept: $module::test_kept,

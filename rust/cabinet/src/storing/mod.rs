@@ -20,7 +20,7 @@ use crate::scrub;
 use crate::terminal::progress;
 use crate::terminal::screen::{Paint, Screen};
 use crate::terminal::words::hanging;
-use gesarumbo::{checksum, Tray};
+use gesarumbo::{checksum, Numbers, Refusal, Tray};
 use std::io::Read;
 use std::path::Path;
 
@@ -233,23 +233,51 @@ fn read_segment(
     Ok(bytes)
 }
 
+/// From so many stripes on a segment is stored by one call: below, the numbers that a batch works out
+/// once for all its codewords cost more than they save.
+const BATCH: usize = 32;
+
 /// A segment of every tray, of the data of its stripes.
 fn encode<S: Symbol>(shape: &Shape, segment: u32, data: &[u8]) -> Result<Vec<Vec<u8>>, Failure> {
     let numbers = &shape.numbers;
-    let (layers, stripes) = (numbers.layers, shape.geometry.stripes_of(segment).len());
-    let mut parts = vec![vec![S::default(); layers * stripes]; numbers.trays];
-    let mut codeword = vec![S::default(); numbers.codeword()];
-    for (place, data) in data.chunks(numbers.data()).enumerate() {
-        (S::CALLS.store)(numbers.layout, &from_data(data), &mut codeword)
-            .map_err(Failure::refused("store"))?;
-        for (part, symbols) in parts.iter_mut().zip(codeword.chunks(layers)) {
-            together(symbols, stripes, place, part);
-        }
+    let stripes = shape.geometry.stripes_of(segment).len();
+    let codewords: Vec<S> = match stripes {
+        BATCH.. => at_once(numbers, stripes, data),
+        _ => one_by_one(numbers, stripes, data),
     }
-    let trays = (0..).map(Tray::new).zip(&parts);
+    .map_err(Failure::refused("store"))?;
+    let trays = (0..)
+        .map(Tray::new)
+        .zip(codewords.chunks(numbers.layers * stripes));
     trays
         .map(|(tray, part)| shape.segment_bytes(segment, tray, part))
         .collect()
+}
+
+/// The codewords of so many stripes, interleaved, by one call.
+fn at_once<S: Symbol>(numbers: &Numbers, stripes: usize, data: &[u8]) -> Result<Vec<S>, Refusal> {
+    let mut batch = vec![S::default(); numbers.data() * stripes];
+    for (place, data) in data.chunks(numbers.data()).enumerate() {
+        together(&from_data(data), stripes, place, &mut batch);
+    }
+    let mut codewords = vec![S::default(); numbers.codeword() * stripes];
+    (S::CALLS.store_batch)(numbers.layout, stripes, &batch, &mut codewords)?;
+    Ok(codewords)
+}
+
+/// The same codewords, each by a call of its own.
+fn one_by_one<S: Symbol>(
+    numbers: &Numbers,
+    stripes: usize,
+    data: &[u8],
+) -> Result<Vec<S>, Refusal> {
+    let mut codeword = vec![S::default(); numbers.codeword()];
+    let mut codewords = vec![S::default(); numbers.codeword() * stripes];
+    for (place, data) in data.chunks(numbers.data()).enumerate() {
+        (S::CALLS.store)(numbers.layout, &from_data(data), &mut codeword)?;
+        together(&codeword, stripes, place, &mut codewords);
+    }
+    Ok(codewords)
 }
 
 fn write_labels(cabinet: &Cabinet, drafts: &mut [Draft]) -> Result<(), Failure> {
@@ -280,4 +308,30 @@ fn forget_cut_tasks(disk: &dyn Disk, folder: &Path) -> Result<(), Failure> {
         }
     }
     Ok(())
+}
+
+#[cfg(test)]
+mod tests {
+    use super::{at_once, one_by_one};
+    use crate::code::symbol::Symbol;
+    use gesarumbo::Layout;
+
+    /// The same codewords, by one call and by single calls.
+    fn alike<S: Symbol>(layout: Layout, stripes: usize) {
+        let numbers = (S::CALLS.numbers)(layout).expect("an admissible layout");
+        let bytes = (0..numbers.data() * stripes).map(|place| (place * 167 % 251) as u8);
+        let data: Vec<u8> = bytes.collect();
+        let batch: Vec<S> = at_once(&numbers, stripes, &data).expect("it is stored");
+        let single: Vec<S> = one_by_one(&numbers, stripes, &data).expect("it is stored");
+        assert!(batch == single, "{layout:?}, {stripes} stripes");
+    }
+
+    #[test]
+    fn one_call_stores_what_single_calls_do() {
+        for stripes in [1, 2, 33, 256] {
+            alike::<u8>(Layout::new(4, 3, 8, 3), stripes);
+            alike::<u8>(Layout::new(5, 3, 4, 3), stripes);
+            alike::<u16>(Layout::new(5, 4, 15, 4), stripes);
+        }
+    }
 }
