@@ -1,7 +1,7 @@
 #!/usr/bin/env python3
 """Prints the tables of docs/PERFORMANCE.md on other processors: instructions of a call, stack and code, for each target.
 
-    tools/cost.py TARGET..      as x86_64 aarch64 riscv64 armv7; the libraries are those of target/staticlib and target/port
+    tools/cost.py TARGET..      as x86_64 aarch64 riscv64 armv7 armv7-neon; the libraries are those of target/staticlib and target/port
                                 (tools/port-test TARGET makes the latter and installs what is needed)
 
 Instructions: qemu-user counts them (tools/count.c), of a program that makes the call twice less those of one that makes it once,
@@ -16,8 +16,8 @@ import tempfile
 import header
 import needs
 
-GNU = {'x86_64': '', 'aarch64': 'aarch64-linux-gnu-', 'riscv64': 'riscv64-linux-gnu-', 'armv7': 'arm-linux-gnueabihf-'}
-QEMU = {'armv7': 'qemu-arm'}
+GNU = {'x86_64': '', 'aarch64': 'aarch64-linux-gnu-', 'riscv64': 'riscv64-linux-gnu-', 'armv7': 'arm-linux-gnueabihf-', 'armv7-neon': 'arm-linux-gnueabihf-'}
+QEMU = {'armv7': 'qemu-arm', 'armv7-neon': 'qemu-arm'}
 ROWS = [
     ('256', layout, call)
     for layout, calls in (
