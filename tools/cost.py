@@ -16,7 +16,8 @@ import tempfile
 import header
 import needs
 
-GNU = {'x86_64': '', 'aarch64': 'aarch64-linux-gnu-', 'riscv64': 'riscv64-linux-gnu-', 'armv7': 'arm-linux-gnueabihf-', 'armv7-neon': 'arm-linux-gnueabihf-'}
+ARM = 'arm-linux-gnueabihf-'
+GNU = {'x86_64': '', 'aarch64': 'aarch64-linux-gnu-', 'riscv64': 'riscv64-linux-gnu-', 'armv7': ARM, 'armv7-neon': ARM}
 QEMU = {'armv7': 'qemu-arm', 'armv7-neon': 'qemu-arm'}
 ROWS = [
     ('256', layout, call)
@@ -35,7 +36,10 @@ ROWS = [
     )
     for call in calls
 ]
-STACKS = ('store', 'test', 'recover', 'recover_correcting', 'test_kept', 'share', 'repair', 'repair_correcting', 'card', 'scrub', 'gather', 'read_image')
+STACKS = (
+    'store', 'test', 'recover', 'recover_correcting', 'test_kept', 'share', 'repair', 'repair_correcting', 'card', 'scrub', 'gather',
+    'read_image',
+)
 
 
 def archive(target):
@@ -86,10 +90,12 @@ def main():
         targets = [Target(name, folder) for name in chosen]
         shown = lambda layout: '(%s)' % ', '.join(map(str, layout if layout[4] else layout[:4]))
         table(['field, layout, call'] + chosen,
-              (['%s, %s, %s' % (field, shown(layout), call)] + [comma(target.instructions(field, layout, call)) for target in targets] for field, layout, call in ROWS))
+              (['%s, %s, %s' % (field, shown(layout), call)] + [comma(target.instructions(field, layout, call)) for target in targets]
+               for field, layout, call in ROWS))
         stacks = [target.stacks() for target in targets]
         table(['stack, 256 / 257'] + chosen,
-              ([call] + ['%s / %s' % (comma(stack['gesarumbo_' + call]), comma(stack['gesarumbo257_' + call])) for stack in stacks] for call in STACKS))
+              ([call] + ['%s / %s' % (comma(stack['gesarumbo_' + call]), comma(stack['gesarumbo257_' + call])) for stack in stacks]
+               for call in STACKS))
         kinds = needs.kinds()
         some = lambda prefix: [prefix + call for call in ('store', 'recover', 'share', 'repair', 'read_image', 'write_image')]
         table(['code'] + chosen,

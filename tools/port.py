@@ -123,7 +123,8 @@ def plain(call):
             own.append('%s %%%s' % (types[0].split(' ')[0], name))
             words.append('%s %%%s' % (types[0], name))
     call_it = '  %%given = call %s @"boundary %s"(%s)' % (gives, call.name, ', '.join(words))
-    text = 'define void @%s(%s) #0 {\n%s\n  ret void\n}\n' % (plain_name(call), ', '.join(own), '\n'.join(loads + [call_it] + stores(gives)))
+    body = '\n'.join(loads + [call_it] + stores(gives))
+    text = 'define void @%s(%s) #0 {\n%s\n  ret void\n}\n' % (plain_name(call), ', '.join(own), body)
     return text, gives, wanted
 
 
@@ -173,7 +174,8 @@ def spaced(kind, name):
 
 def shim():
     """The C functions of the header's names."""
-    out = ['/* Made by tools/port.py from gesarumbo.h: its calls over functions that take pointers and numbers alone. */', '#include "gesarumbo.h"', '']
+    out = ['/* Made by tools/port.py from gesarumbo.h: its calls over functions that take pointers and numbers alone. */']
+    out += ['#include "gesarumbo.h"', '']
     for call in header.calls():
         number = call.gives in ('uint32_t', 'uint64_t')
         parts = [] if number else header.structs()[call.gives]
