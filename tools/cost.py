@@ -1,7 +1,7 @@
 #!/usr/bin/env python3
 """Prints the tables of docs/PERFORMANCE.md on other processors: instructions of a call, stack and code, for each target.
 
-    tools/cost.py TARGET..      as x86_64 aarch64 riscv64 armv7; the libraries are those of target/staticlib and target/port
+    tools/cost.py TARGET..      as x86_64 aarch64 riscv64 armv7 armv7-neon; the libraries are those of target/staticlib and target/port
                                 (tools/port-test TARGET makes the latter and installs what is needed)
 
 Instructions: qemu-user counts them (tools/count.c), of a program that makes the call twice less those of one that makes it once,
@@ -16,8 +16,9 @@ import tempfile
 import header
 import needs
 
-GNU = {'x86_64': '', 'aarch64': 'aarch64-linux-gnu-', 'riscv64': 'riscv64-linux-gnu-', 'armv7': 'arm-linux-gnueabihf-'}
-QEMU = {'armv7': 'qemu-arm'}
+ARM = 'arm-linux-gnueabihf-'
+GNU = {'x86_64': '', 'aarch64': 'aarch64-linux-gnu-', 'riscv64': 'riscv64-linux-gnu-', 'armv7': ARM, 'armv7-neon': ARM}
+QEMU = {'armv7': 'qemu-arm', 'armv7-neon': 'qemu-arm'}
 ROWS = [
     ('256', layout, call)
     for layout, calls in (
@@ -35,7 +36,10 @@ ROWS = [
     )
     for call in calls
 ]
-STACKS = ('store', 'test', 'recover', 'recover_correcting', 'test_kept', 'share', 'repair', 'repair_correcting', 'card', 'scrub', 'gather', 'read_image')
+STACKS = (
+    'store', 'test', 'recover', 'recover_correcting', 'test_kept', 'share', 'repair', 'repair_correcting', 'card', 'scrub', 'gather',
+    'read_image',
+)
 
 
 def archive(target):
@@ -86,10 +90,12 @@ def main():
         targets = [Target(name, folder) for name in chosen]
         shown = lambda layout: '(%s)' % ', '.join(map(str, layout if layout[4] else layout[:4]))
         table(['field, layout, call'] + chosen,
-              (['%s, %s, %s' % (field, shown(layout), call)] + [comma(target.instructions(field, layout, call)) for target in targets] for field, layout, call in ROWS))
+              (['%s, %s, %s' % (field, shown(layout), call)] + [comma(target.instructions(field, layout, call)) for target in targets]
+               for field, layout, call in ROWS))
         stacks = [target.stacks() for target in targets]
         table(['stack, 256 / 257'] + chosen,
-              ([call] + ['%s / %s' % (comma(stack['gesarumbo_' + call]), comma(stack['gesarumbo257_' + call])) for stack in stacks] for call in STACKS))
+              ([call] + ['%s / %s' % (comma(stack['gesarumbo_' + call]), comma(stack['gesarumbo257_' + call])) for stack in stacks]
+               for call in STACKS))
         kinds = needs.kinds()
         some = lambda prefix: [prefix + call for call in ('store', 'recover', 'share', 'repair', 'read_image', 'write_image')]
         table(['code'] + chosen,

@@ -117,7 +117,8 @@ def kinds():
 def painted():
     with tempfile.TemporaryDirectory() as folder:
         program = os.path.join(folder, 'stack')
-        words = ['-O2', '-std=c11', '-Wall', '-Wextra', '-Werror', '-I' + os.path.join(header.ROOT, 'c'), os.path.join(header.ROOT, 'c/stack.c'), ARCHIVE]
+        sources = os.path.join(header.ROOT, 'c')
+        words = ['-O2', '-std=c11', '-Wall', '-Wextra', '-Werror', '-I' + sources, os.path.join(sources, 'stack.c'), ARCHIVE]
         run('cc', *words, '-o', program)
         return {name: int(most) for name, most in (line.split() for line in run(program).splitlines())}
 
@@ -144,7 +145,9 @@ frame, whatever the call is given, by the compiled code; each call was also run 
 Code: of a program that links this call alone with --gc-sections, constants included. What other
 processors take is in docs/PERFORMANCE.md.
 
-''' + '    %-28s%18s%18s\n' % ('', 'field of 256', 'field of 257') + row % ('call', 'stack', 'code', 'stack', 'code') + ''.join(shared) + both + '\n' + ''.join(alone)
+'''
+    text += '    %-28s%18s%18s\n' % ('', 'field of 256', 'field of 257') + row % ('call', 'stack', 'code', 'stack', 'code')
+    text += ''.join(shared) + both + '\n' + ''.join(alone)
     return ''.join(' *' + (' ' + line if line else '').rstrip() + '\n' for line in text.rstrip('\n').split('\n'))
 
 

@@ -1,7 +1,7 @@
 #!/usr/bin/env python3
 """Makes target/port/TARGET/libgesarumbo.a, the library for another processor, from the LLVM module of the proved one.
 
-    tools/port.py aarch64|riscv64|armv7|x86_64
+    tools/port.py aarch64|riscv64|armv7|armv7-neon|x86_64
 
 The module, target/port/module.bc, is what the kit hands to its compiler after the proof (tools/module, which is run where
 the module is missing or older than a source). It was made for x86-64, and its exported functions take and give structs by
@@ -29,6 +29,7 @@ import header
 PORT = os.path.join(header.ROOT, 'target/port')
 MODULE = os.path.join(PORT, 'module.bc')
 
+ARM = 'e-m:e-p:32:32-Fi8-i64:64-v128:64:128-a:0:32-n32-S64'
 # For each target its LLVM name, layout of data and flags of the compiler.
 TARGETS = {
     'aarch64': (
@@ -37,11 +38,8 @@ TARGETS = {
         [],
     ),
     'riscv64': ('riscv64-unknown-linux-gnu', 'e-m:e-p:64:64-i64:64-i128:128-n32:64-S128', ['-march=rv64gc', '-mabi=lp64d']),
-    'armv7': (
-        'armv7-unknown-linux-gnueabihf',
-        'e-m:e-p:32:32-Fi8-i64:64-v128:64:128-a:0:32-n32-S64',
-        ['-march=armv7-a', '-mfpu=vfpv3-d16', '-mfloat-abi=hard'],
-    ),
+    'armv7': ('armv7-unknown-linux-gnueabihf', ARM, ['-march=armv7-a', '-mfpu=vfpv3-d16', '-mfloat-abi=hard']),
+    'armv7-neon': ('armv7-unknown-linux-gnueabihf', ARM, ['-march=armv7-a', '-mfpu=neon', '-mfloat-abi=hard']),
     'x86_64': ('x86_64-unknown-linux-gnu', None, ['-march=x86-64']),
 }
 # As the kit compiles the module.
@@ -125,7 +123,8 @@ def plain(call):
             own.append('%s %%%s' % (types[0].split(' ')[0], name))
             words.append('%s %%%s' % (types[0], name))
     call_it = '  %%given = call %s @"boundary %s"(%s)' % (gives, call.name, ', '.join(words))
-    text = 'define void @%s(%s) #0 {\n%s\n  ret void\n}\n' % (plain_name(call), ', '.join(own), '\n'.join(loads + [call_it] + stores(gives)))
+    body = '\n'.join(loads + [call_it] + stores(gives))
+    text = 'define void @%s(%s) #0 {\n%s\n  ret void\n}\n' % (plain_name(call), ', '.join(own), body)
     return text, gives, wanted
 
 
@@ -175,7 +174,8 @@ def spaced(kind, name):
 
 def shim():
     """The C functions of the header's names."""
-    out = ['/* Made by tools/port.py from gesarumbo.h: its calls over functions that take pointers and numbers alone. */', '#include "gesarumbo.h"', '']
+    out = ['/* Made by tools/port.py from gesarumbo.h: its calls over functions that take pointers and numbers alone. */']
+    out += ['#include "gesarumbo.h"', '']
     for call in header.calls():
         number = call.gives in ('uint32_t', 'uint64_t')
         parts = [] if number else header.structs()[call.gives]

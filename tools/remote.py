@@ -79,7 +79,8 @@ static void give_back(void)
 
 
 def record_lines(name):
-    return ['    gesarumbo_scrub_record %s;' % name] + ['    %s.%s = (uint32_t)number();' % (name, part) for part in ('next', 'bad', 'first')]
+    parts = ['    %s.%s = (uint32_t)number();' % (name, part) for part in ('next', 'bad', 'first')]
+    return ['    gesarumbo_scrub_record %s;' % name] + parts
 
 
 def function(call):
@@ -122,8 +123,10 @@ def function(call):
 
 def source():
     calls = header.calls()
-    lines = ['    %sif (strcmp(name, "%s") == 0)\n            do_%s();' % ('    else ' if i else '    ', call.name, call.name) for i, call in enumerate(calls)]
-    main = ['int main(void)', '{', '    while (fgets(line, ROOM, stdin) != NULL) {', '        const char *name = strtok(line, " \\n");', *lines,
+    one = '    %sif (strcmp(name, "%s") == 0)\n            do_%s();'
+    lines = [one % ('    else ' if i else '    ', call.name, call.name) for i, call in enumerate(calls)]
+    main = ['int main(void)', '{', '    while (fgets(line, ROOM, stdin) != NULL) {',
+            '        const char *name = strtok(line, " \\n");', *lines,
             '        else\n            return 2;', '        give_back();', '    }', '    return 0;', '}', '']
     return HEAD + '\n'.join(map(function, calls)) + '\n' + '\n'.join(main)
 
