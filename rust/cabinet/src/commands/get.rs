@@ -250,7 +250,7 @@ fn get<'d, S: Symbol>(
     };
     let mut unused = None;
     let mend = with_segment(|segment: &Segment<S>| mend_as(segment, &asked.named));
-    cabinet.over(cabinet.from_segment(0), mend, |(segment, mended)| {
+    cabinet.over(cabinet.segments_from(0), mend, |(segment, mended)| {
         Unused::begin_or_say(&mut unused, &segment, screen);
         let mended = mended?;
         getting.doubt = getting.doubt.take().or(mended.doubt);

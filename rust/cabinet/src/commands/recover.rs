@@ -183,7 +183,7 @@ impl<'a> Recovery<'a> {
         let mut doubt = None;
         let (cabinet, named) = (self.cabinet, self.named.clone());
         let mend = with_segment(|segment: &Segment<S>| mend_as(segment, &named));
-        cabinet.over(cabinet.from_segment(0), mend, |(segment, mended)| {
+        cabinet.over(cabinet.segments_from(0), mend, |(segment, mended)| {
             let mended = mended?;
             self.ways = self.ways.max(mended.ways);
             let stripes = mended.stripes;
@@ -230,7 +230,7 @@ impl<'a> Recovery<'a> {
         let first = cabinet.geometry.segment_of(rebuild.next);
         let named = &self.named;
         let mend = with_segment(|segment: &Segment<S>| mend_as(segment, named));
-        cabinet.over(cabinet.from_segment(first), mend, |(segment, mended)| {
+        cabinet.over(cabinet.segments_from(first), mend, |(segment, mended)| {
             let Mending { stripes, doubt, .. } = mended?;
             if let Some(doubt) = doubt {
                 let seen = self.doubted.get(&segment.number);

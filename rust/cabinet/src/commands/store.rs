@@ -112,7 +112,7 @@ impl Asked {
     /// Lets the library's rule judge the length, where only whole stripes are taken.
     fn judge(&self, input: &Path, length: u64) -> Result<(), Failure> {
         let room = self.numbers.data() as u64;
-        match self.is_exact && (length == 0 || length % room != 0) {
+        match self.is_exact && (length == 0 || !length.is_multiple_of(room)) {
             false => Ok(()),
             true => {
                 let (input, bytes) = (input.display(), count(length as usize, "byte"));

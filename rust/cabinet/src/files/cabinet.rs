@@ -185,7 +185,7 @@ impl<'d> Cabinet<'d> {
     }
 
     /// All segments from one on.
-    pub fn from_segment(&self, first: u32) -> Range<u32> {
+    pub fn segments_from(&self, first: u32) -> Range<u32> {
         first..self.geometry.segments()
     }
 

@@ -114,7 +114,7 @@ impl Survey {
     /// Looks at all segments, and says why each tray that is not live is not used.
     pub fn of<S: Symbol>(cabinet: &Cabinet, screen: &mut Screen) -> Result<Survey, Failure> {
         let (mut survey, mut unused) = (None, None);
-        cabinet.over(cabinet.from_segment(0), Ok, |segment: Segment<S>| {
+        cabinet.over(cabinet.segments_from(0), Ok, |segment: Segment<S>| {
             Unused::begin_or_say(&mut unused, &segment, screen);
             match &mut survey {
                 None => survey = Some(Survey::first(&segment)?),

@@ -149,7 +149,7 @@ impl<'a> Scrub<'a> {
         let mut unused = None;
         let (cabinet, layers) = (self.cabinet, self.cabinet.numbers.layers);
         let look = examine::<S>(0);
-        cabinet.over(cabinet.from_segment(0), look, |mut examined| {
+        cabinet.over(cabinet.segments_from(0), look, |mut examined| {
             Unused::begin_or_say(&mut unused, &examined.segment, screen);
             let stripes = examined.segment.stripes.clone();
             for number in stripes.clone() {

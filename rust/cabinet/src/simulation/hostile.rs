@@ -449,8 +449,15 @@ fn judge_parts(world: &World, damaged: &Damaged, dice: &mut Dice, told: bool, wo
     }
 }
 
+/// The tray files among these.
+fn trays(mut files: BTreeMap<String, Vec<u8>>) -> BTreeMap<String, Vec<u8>> {
+    files.retain(|name, _| name.starts_with("c/tray") && name.ends_with(".img"));
+    files
+}
+
 /// What a recovery and a repair write is right, and where they refuse, nothing is written.
 fn judge_writers(world: &World, damaged: &Damaged, told: bool, is_own: bool, words: &str) {
+    let truth = trays(world.truth.clone());
     for line in [
         "recover c".to_string(),
         format!("repair c {}", world.repair),
@@ -459,10 +466,6 @@ fn judge_writers(world: &World, damaged: &Damaged, told: bool, is_own: bool, wor
         let before = in_folder(&disk);
         let ended = run(&disk, &line);
         let trial = format!("{words}: {line}: {ended:?}");
-        let trays = |mut files: BTreeMap<String, Vec<u8>>| {
-            files.retain(|name, _| name.starts_with("c/tray") && name.ends_with(".img"));
-            files
-        };
         let after = trays(in_folder(&disk));
         if !is_done(ended.status) {
             assert!(trays(before) == after, "{trial}: a tray is changed");
@@ -475,7 +478,6 @@ fn judge_writers(world: &World, damaged: &Damaged, told: bool, is_own: bool, wor
         if !told {
             continue;
         }
-        let truth = trays(world.truth.clone());
         match line.starts_with("recover") {
             true => assert!(after == truth, "{trial}: a tray is wrong"),
             false => assert!(
@@ -483,6 +485,24 @@ fn judge_writers(world: &World, damaged: &Damaged, told: bool, is_own: bool, wor
                 "{trial}: the tray is wrong"
             ),
         }
+    }
+    judge_fix(damaged, &truth, told, words);
+}
+
+/// What `fix` leaves is as it was or as it should be, and all of it where it is done.
+fn judge_fix(damaged: &Damaged, truth: &BTreeMap<String, Vec<u8>>, told: bool, words: &str) {
+    let disk = damaged.disk.copy();
+    let before = trays(in_folder(&disk));
+    let ended = run(&disk, "fix c");
+    let trial = format!("{words}: fix c: {ended:?}");
+    let after = trays(in_folder(&disk));
+    if is_done(ended.status) && told {
+        assert!(after == *truth, "{trial}: a tray is wrong");
+    }
+    for (name, bytes) in &after {
+        let is_right = truth.get(name) == Some(bytes);
+        let is_kept = before.get(name) == Some(bytes);
+        assert!(is_right || is_kept || !told, "{trial}: {name} is wrong");
     }
 }
 
