@@ -142,7 +142,8 @@ impl<'f> Fixing<'f> {
         broken: &[Tray],
         screen: &mut Screen,
     ) {
-        let wrong = union(&survey.rotten, &cabinet.unlabelled());
+        let in_files = union(&cabinet.unlabelled(), &cabinet.too_long());
+        let wrong = union(&survey.rotten, &in_files);
         if self.named.is_empty() && broken.iter().any(|tray| wrong.contains(tray)) {
             self.outcome = Outcome::Healed;
         }
@@ -167,12 +168,13 @@ impl<'f> Fixing<'f> {
     }
 
     /// The trays to write anew: those that are named, else all that are not live and are not only
-    /// closed to this command, or have a label that cannot be read.
+    /// closed to this command, or have a label that cannot be read or a file that is too long.
     fn broken(&self, cabinet: &Cabinet, survey: &Survey) -> Vec<Tray> {
         if !self.named.is_empty() {
             return self.named.clone();
         }
-        let mut broken = union(&survey.damaged(), &cabinet.unlabelled());
+        let in_files = union(&cabinet.unlabelled(), &cabinet.too_long());
+        let mut broken = union(&survey.damaged(), &in_files);
         broken.retain(|tray| survey.closed.iter().all(|(closed, _)| closed != tray));
         broken
     }
