@@ -2,7 +2,8 @@
 //!
 //! Trays with a wrong checksum are erased first, and the library says whether the others fit, and
 //! which one is wrong where one is. Where too many have a wrong checksum to erase them all, each
-//! stripe is corrected with those erased that must be. Then the checksums must bear it out: with the
+//! stripe is corrected with those erased that must be, or layer by layer, each of which has checks of
+//! its own. Then the checksums must bear it out: with the
 //! trays put right, k of them or more have the checksum that was written, so that the codewords are
 //! theirs. Where they do not, other sets are tried in the stripes that no check has settled; what is
 //! still not borne out only the checksum of all data can decide.
@@ -15,6 +16,7 @@ use super::stripe::Stripe;
 use crate::code::symbol::Symbol;
 use crate::failure::Failure;
 use gesarumbo::{Kept, Refusal, Tray};
+use std::ops::Range;
 
 /// A stripe put right.
 #[derive(Clone)]
@@ -183,11 +185,15 @@ impl Doubt {
             Err(Failure::Refused { refusal, .. }) if refusal != Refusal::Survivors => return found,
             _ => {}
         }
+        if let Some(found) = self.tries(stripe, 1).next() {
+            return found;
+        }
+        if let Some(found) = self.by_layers(stripe) {
+            return Ok(found);
+        }
         // Where no check is left to test by, the checksums have to tell.
-        for least in [1, 0] {
-            if let Some(found) = self.tries(stripe, least).next() {
-                return found;
-            }
+        if let Some(found) = self.tries(stripe, 0).next() {
+            return found;
         }
         let about = format!(
             "{} trays are missing and {} have a wrong checksum",
@@ -226,6 +232,37 @@ impl Doubt {
         sets.filter_map(move |set| one(set).transpose())
     }
 
+    /// The stripe put right layer by layer, in each of which another tray may be wrong; nothing where
+    /// the library cannot, or no check is left over.
+    fn by_layers<S: Symbol>(&self, stripe: &Stripe<S>) -> Option<Mended<S>> {
+        let layers = stripe.cabinet.numbers.layers;
+        let (mut codeword, mut checks) = (stripe.codeword.clone(), usize::MAX);
+        let mut open = vec![0..layers];
+        while let Some(run) = open.pop() {
+            // Zeros in all other layers meet every check.
+            let part = Stripe {
+                cabinet: stripe.cabinet,
+                number: stripe.number,
+                found: stripe.found,
+                codeword: only(&stripe.codeword, layers, &run),
+            };
+            let found = correct(&part, &self.erased).ok();
+            let found = found.filter(|found| found.wrong.iter().all(|tray| self.is_doubted(tray)));
+            match found.filter(|found| found.checks > 0) {
+                Some(found) => {
+                    checks = checks.min(found.checks);
+                    take_over(&mut codeword, &found.codeword, layers, &run);
+                }
+                None if run.len() == 1 => return None,
+                None => {
+                    let middle = run.start + run.len() / 2;
+                    open.extend([run.start..middle, middle..run.end]);
+                }
+            }
+        }
+        Some(finished(stripe, codeword, Held::Checksums, checks))
+    }
+
     /// All that a stripe may be: what the library finds, where a check is left over that it meets,
     /// and else any with some of these trays erased, wherever the others fit.
     fn all<S: Symbol>(&self, stripe: &Stripe<S>) -> Result<Vec<Mended<S>>, Failure> {
@@ -238,6 +275,10 @@ impl Doubt {
         if all.first().is_some_and(|found| found.checks > 0) {
             return Ok(all);
         }
+        match self.by_layers(stripe) {
+            Some(found) if found.checks > 1 => return Ok(vec![found]),
+            found => all.extend(found),
+        }
         for one in self.tries(stripe, 0) {
             let one = one?;
             if all.iter().all(|other| other.codeword != one.codeword) {
@@ -246,6 +287,19 @@ impl Doubt {
         }
         Ok(all)
     }
+}
+
+/// A codeword with zeros in all layers but these.
+fn only<S: Symbol>(codeword: &[S], layers: usize, run: &Range<usize>) -> Vec<S> {
+    let mut part = vec![S::default(); codeword.len()];
+    take_over(&mut part, codeword, layers, run);
+    part
+}
+
+/// Puts these layers of one codeword into another.
+fn take_over<S: Symbol>(codeword: &mut [S], other: &[S], layers: usize, run: &Range<usize>) {
+    let trays = codeword.chunks_mut(layers).zip(other.chunks(layers));
+    trays.for_each(|(tray, other)| tray[run.clone()].copy_from_slice(&other[run.clone()]));
 }
 
 /// No more sets of trays are taken as wrong in a whole segment.
