@@ -64,7 +64,7 @@ pub const STATUSES: [(u8, &str); 6] = [
     (USAGE, "the command line makes no sense"),
     (
         CONTENTS,
-        "a file's contents cannot be used, or test or scrub found something wrong",
+        "a file's contents cannot be used, or a test found something wrong",
     ),
     (INTERNAL, "building failed, or command and library disagree"),
     (FILE, "a file or folder cannot be read or written"),

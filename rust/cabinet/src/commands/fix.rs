@@ -28,8 +28,8 @@ repair); else all are recovered from the trays that are left (see cabinet
 recover). A repair or recovery that was cut goes on where it ended. Then all
 trays are tested; what shares did not put right, and what only the test finds,
 a recovery puts right, and the test is made once more. At the end what tasks
-that were cut have left is cleared away, and a record of the test kept as by a
-scrub.
+that were cut have left is cleared away, cabinet.txt is written anew if it is
+not as the labels say (17), and a record of the test is kept as by a scrub.
 
 It ends with 0 where all trays are there and meet all checks, with 17 where
 trays that were there held something wrong, which is named, and with 16 where

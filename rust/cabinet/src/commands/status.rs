@@ -47,7 +47,8 @@ Looks at every tray of DIR and says how each stands:
   demonstration  it was reset, and holds no records
   absent         there is no such file
   stale          its label is of another generation or cabinet
-  bad            damaged, or of another place, layout or volume
+  bad            damaged, of another place, layout or volume, with a label that
+                 cannot be read or a file that is too long
   closed         this command may not read it
 
 Then the loss margin, the last scrub that came to its end and what it found,
@@ -96,6 +97,9 @@ pub fn print(status: &Status, screen: &mut Screen) {
         _ => screen.paint(Paint::Good, &status.margin()),
     };
     screen.line(format!("  margin      {margin}"));
+    if !status.has_text {
+        screen.line("  cabinet.txt is not as the labels say");
+    }
     screen.line(hanging("  last scrub  ", &status.last_scrub()));
     match &status.work[..] {
         [] => screen.line("  open work   none"),

@@ -58,6 +58,10 @@ fn verdict(status: &Status) -> String {
     let (class, words) = match (status.survey.margin, broken.count()) {
         (..=-1, _) => ("danger", "Too few trays are live.".to_string()),
         (0, _) => ("danger", "No tray more may be lost.".to_string()),
+        (_, 0) if !status.has_text => (
+            "attention",
+            "cabinet.txt is not as the labels say.".to_string(),
+        ),
         (_, 0) if status.is_broken() => (
             "attention",
             "The last scrub found something wrong.".to_string(),

@@ -104,18 +104,22 @@ impl<'d> Cabinet<'d> {
         }
     }
 
-    /// Fails where a tray may be of a newer cabinet than this one: nothing is written over it unless
-    /// a person names it.
-    pub fn guard_newer(&self, named: &[Tray]) -> Result<(), Failure> {
+    /// The files that may be of a newer cabinet than this one, and why they are not used.
+    pub fn newer(&self) -> impl Iterator<Item = (&TrayFile, String)> {
         let generation = self.stored.map_or(0, |stored| stored.generation);
-        let is_newer = |file: &&TrayFile| match file.cabinet() {
+        let is_newer = move |file: &&TrayFile| match file.cabinet() {
             Some(other) => other.generation > generation,
             None => true,
         };
-        let not_named = |file: &&TrayFile| !named.contains(&file.tray);
-        let files = self.trays.iter().flatten().filter(not_named);
-        let mut newer = files.filter(is_newer);
-        match newer.find_map(|file| Some((file, self.is_other(file)?))) {
+        let files = self.trays.iter().flatten().filter(is_newer);
+        files.filter_map(|file| Some((file, self.is_other(file)?)))
+    }
+
+    /// Fails where a tray may be of a newer cabinet than this one: nothing is written over it unless
+    /// a person names it.
+    pub fn guard_newer(&self, named: &[Tray]) -> Result<(), Failure> {
+        let mut newer = self.newer();
+        match newer.find(|(file, _)| !named.contains(&file.tray)) {
             None => Ok(()),
             Some((file, words)) => Err(Failure::Contents(format!(
                 "{}: {words}: it may be newer, and is not written over unless it is named (see \
@@ -198,6 +202,13 @@ impl<'d> Cabinet<'d> {
                 "stripe {stripe}: there are only {count}"
             ))),
         }
+    }
+
+    /// What `cabinet.txt` should say and does not, in the second format, where it is a copy.
+    pub fn other_text(&self) -> Option<Description> {
+        let stored = self.stored.filter(|stored| stored.format == Format::Second);
+        let text = Description::of(self.disk, self.folder()).unwrap_or_default();
+        stored.filter(|_| text != stored)
     }
 
     /// Takes the lock alone, once all readers are done, and makes sure that the folder still holds

@@ -282,9 +282,7 @@ impl Census {
         }
         if moved {
             draft::sync_folder(disk, folder)?;
-            let description = folder.join(NAME);
-            output::write_own(disk, &description, &cabinet.bytes())?;
-            remove(disk, &work_name(&description, STORE)?)?;
+            write_text(disk, folder, cabinet)?;
         }
         Ok(())
     }
@@ -313,6 +311,13 @@ impl Census {
 
 fn newer_words(newer: &Description) -> String {
     format!("generation {}, which is newer", newer.generation)
+}
+
+/// Writes `cabinet.txt` as the labels say it, whichever store left it so.
+pub fn write_text(disk: &dyn Disk, folder: &Path, cabinet: &Description) -> Result<(), Failure> {
+    let description = folder.join(NAME);
+    output::write_own(disk, &description, &cabinet.bytes())?;
+    remove(disk, &work_name(&description, STORE)?)
 }
 
 /// A tray's file name.

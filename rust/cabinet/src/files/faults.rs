@@ -143,14 +143,19 @@ impl Faults {
         }
     }
 
-    /// The trays whose label cannot be read, which the line does not have.
-    pub fn labels(&self) -> &[Tray] {
-        &self.labels
+    /// The trays whose label cannot be read, and those whose file is too long, which the line does
+    /// not have.
+    pub fn files(&self) -> [&[Tray]; 2] {
+        [&self.labels, &self.long]
     }
 
-    /// The same faults, with these trays' labels.
-    pub fn with_labels(self, labels: Vec<Tray>) -> Faults {
-        Faults { labels, ..self }
+    /// The same faults, with these trays' labels and these files that are too long.
+    pub fn with_files(self, [labels, long]: [Vec<Tray>; 2]) -> Faults {
+        Faults {
+            labels,
+            long,
+            ..self
+        }
     }
 
     /// The faults as a report has them.

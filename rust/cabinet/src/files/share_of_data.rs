@@ -79,10 +79,10 @@ mod tests {
         let numbers = Field::Of256.numbers(Layout::new(4, 3, 8, 3)).expect("one");
         let long = ShareOfData::of_long_files(&numbers, Field::Of256);
         assert_eq!((long.data, long.bytes), (32_768, 12 * 4_128));
-        // As docs/landings/COMMAND.md measures it, but for cabinet.txt.
+        // 3,052 segments; docs/landings/COMMAND.md measures as much, with cabinet.txt and the folder.
         let taken = Taken::by(&numbers, Field::Of256, 100_000_000).expect("few stripes");
         assert_eq!(taken.stripes, 781_250);
-        assert_eq!(taken.tray * 12, 151_182_180);
+        assert_eq!(taken.tray * 12, 151_178_112);
         assert!(taken.share.order(long).is_lt());
         assert!(long.percent() - taken.share.percent() < 0.01);
         assert!(Taken::by(&numbers, Field::Of256, u64::MAX).is_none());

@@ -10,6 +10,7 @@ use crate::disk::Disk;
 use crate::failure::{Failure, Outcome};
 use crate::files;
 use crate::files::cabinet::Cabinet;
+use crate::files::census::write_text;
 use crate::files::description::Description;
 use crate::files::erasures::Erasures;
 use crate::files::mend::union;
@@ -141,7 +142,8 @@ impl<'f> Fixing<'f> {
         broken: &[Tray],
         screen: &mut Screen,
     ) {
-        let wrong = union(&survey.rotten, &cabinet.unlabelled());
+        let in_files = union(&cabinet.unlabelled(), &cabinet.too_long());
+        let wrong = union(&survey.rotten, &in_files);
         if self.named.is_empty() && broken.iter().any(|tray| wrong.contains(tray)) {
             self.outcome = Outcome::Healed;
         }
@@ -166,12 +168,13 @@ impl<'f> Fixing<'f> {
     }
 
     /// The trays to write anew: those that are named, else all that are not live and are not only
-    /// closed to this command, or have a label that cannot be read.
+    /// closed to this command, or have a label that cannot be read or a file that is too long.
     fn broken(&self, cabinet: &Cabinet, survey: &Survey) -> Vec<Tray> {
         if !self.named.is_empty() {
             return self.named.clone();
         }
-        let mut broken = union(&survey.damaged(), &cabinet.unlabelled());
+        let in_files = union(&cabinet.unlabelled(), &cabinet.too_long());
+        let mut broken = union(&survey.damaged(), &in_files);
         broken.retain(|tray| survey.closed.iter().all(|(closed, _)| closed != tray));
         broken
     }
@@ -277,20 +280,32 @@ impl<'f> Fixing<'f> {
         }
     }
 
-    /// Clears away what tasks that were cut have left.
+    /// Clears away what tasks that were cut have left, and writes `cabinet.txt` anew if it is not as
+    /// the labels say.
     fn end(&mut self, tested: Outcome, screen: &mut Screen) -> Result<Outcome, Failure> {
         let cabinet = self.find()?;
-        let left = leftovers(&cabinet)?;
-        if !left.is_empty() && tested == Outcome::Done {
-            cabinet.take_alone()?;
-            for name in leftovers(&cabinet)? {
-                files::remove(cabinet.disk, &cabinet.file(&name))?;
-            }
-            draft::sync_folder(cabinet.disk, cabinet.folder())?;
+        let (left, text) = (leftovers(&cabinet)?, cabinet.other_text());
+        let is_clear = left.is_empty() && text.is_none();
+        let ended = self.outcome.max(tested);
+        if is_clear || tested != Outcome::Done {
+            return Ok(ended);
+        }
+        cabinet.take_alone()?;
+        for name in leftovers(&cabinet)? {
+            files::remove(cabinet.disk, &cabinet.file(&name))?;
+        }
+        draft::sync_folder(cabinet.disk, cabinet.folder())?;
+        if !left.is_empty() {
             screen.line(hanging("  ", &format!("cleared away: {}", left.join(", "))));
             screen.fact("cleared", left);
         }
-        Ok(self.outcome.max(tested))
+        let Some(text) = text else {
+            return Ok(ended);
+        };
+        write_text(cabinet.disk, cabinet.folder(), &text)?;
+        screen.line("  cabinet.txt was not as the labels say, and is written anew");
+        screen.fact("text_written", true);
+        Ok(ended.max(Outcome::Healed))
     }
 }
 

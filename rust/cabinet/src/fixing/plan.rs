@@ -19,8 +19,17 @@ pub enum Way {
 
 /// The way for these trays, with what is sound now.
 pub fn choose(cabinet: &Cabinet, survey: &Survey, broken: &[Tray]) -> Way {
+    let numbers = &cabinet.numbers;
     let sound = sound_racks(cabinet, survey);
-    of_racks(&cabinet.numbers, &sound, broken)
+    let hosts = broken.iter().map(|tray| numbers.rack_of(*tray));
+    let mut beside = hosts.flat_map(|rack| numbers.trays_of(rack));
+    // The other trays of a lost one's rack are used in its repair.
+    let is_broken =
+        |tray: &Tray| !broken.contains(tray) && survey.first[tray.number() as usize].is_some();
+    match beside.find(is_broken) {
+        Some(tray) => Way::Recovery(format!("tray {tray}, of the same rack, is broken too")),
+        None => of_racks(numbers, &sound, broken),
+    }
 }
 
 /// The way with these racks sound. A rack whose trays are back is sound too.

@@ -65,16 +65,15 @@ impl Record {
     /// The record as its file has it.
     fn bytes(&self, task: &str) -> Vec<u8> {
         let (ended, layers, bad, checks) = (self.ended, self.layers, self.bad, self.checks);
-        let unused: String = self.unused.iter().map(|tray| format!(" {tray}")).collect();
-        let labels = self.faults.labels();
-        let labels: String = labels.iter().map(|tray| format!(" {tray}")).collect();
+        let [labels, long] = self.faults.files();
+        let [unused, labels, long] = [&self.unused, labels, long].map(numbers);
         let sums = self.sums.iter();
         let sums: String = sums
             .map(|(tray, sum)| format!(" {tray}:{sum:016x}"))
             .collect();
         with_check(&format!(
             "{task}\nended {ended}\nlayers {layers}\nbad {bad}\nchecks {checks}\nunused{unused}\n\
-             labels{labels}\nfiles{sums}\n{}",
+             labels{labels}\nlong{long}\nfiles{sums}\n{}",
             self.faults.line().trim_end()
         ))
     }
@@ -92,14 +91,14 @@ impl Record {
             faults: Faults::default(),
             sums: BTreeMap::new(),
         };
-        let labels = trays(after("labels")?)?;
+        let in_files = [trays(after("labels")?)?, trays(after("long")?)?];
         let pair = |word: &str| {
             let (tray, sum) = word.split_once(':')?;
             Some((tray.parse().ok()?, u64::from_str_radix(sum, 16).ok()?))
         };
         let sums = after("files")?.split_whitespace();
         record.sums = sums.map(pair).collect::<Option<_>>()?;
-        record.faults = Faults::parse(after("")?)?.with_labels(labels);
+        record.faults = Faults::parse(after("")?)?.with_files(in_files);
         (record.bytes(task) == bytes).then_some(record)
     }
 
@@ -122,6 +121,10 @@ impl Record {
 
 fn task(cabinet: &Cabinet) -> String {
     format!("last scrub of {}", cabinet.description.key())
+}
+
+fn numbers(trays: &[Tray]) -> String {
+    trays.iter().map(|tray| format!(" {tray}")).collect()
 }
 
 fn trays(words: &str) -> Option<Vec<Tray>> {
@@ -176,7 +179,7 @@ mod tests {
             bad: 3,
             checks: 4,
             unused: [1, 2].map(Tray::new).to_vec(),
-            faults: faults.with_labels(vec![Tray::new(7)]),
+            faults: faults.with_files([7, 8].map(|tray| vec![Tray::new(tray)])),
             sums: [(7, 1), (9, u64::MAX)].into(),
         };
         let bytes = record.bytes("last scrub of it");

@@ -168,6 +168,7 @@ fn fixes() -> Vec<Scene> {
     let left = after(left, "recover c");
     let two_racks = poked(one_lost(), "c/tray-07.img", 570);
     let rotten = poked(racks(), "c/tray-07.img", 570);
+    let text = poked(small(), "c/cabinet.txt", 30);
     vec![
         scene("a fix by a recovery", lost(), "fix c", 0),
         scene("a fix by shares", one_lost(), "fix c", 0),
@@ -176,6 +177,7 @@ fn fixes() -> Vec<Scene> {
         scene("a fix of two racks", two_racks, "fix c", 17),
         scene("a fix of a wrong tray by shares", rotten, "fix c", 17),
         scene("a fix of nothing", small(), "fix c", 0),
+        scene("a fix of the description", text, "fix c", 17),
         scene("a tray replaced", racks(), "replace c 4", 0),
         scene("a tray replaced by a recovery", small(), "replace c 1", 0),
     ]

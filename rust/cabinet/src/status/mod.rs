@@ -33,6 +33,8 @@ pub struct Status<'a> {
     pub scrub: LastScrub,
     /// The trays that the last scrub found wrong and that have not been written since.
     pub wrong: Vec<Tray>,
+    /// Whether `cabinet.txt` says what the labels say.
+    pub has_text: bool,
 }
 
 impl<'a> Status<'a> {
@@ -43,6 +45,7 @@ impl<'a> Status<'a> {
         let wrong = record.as_ref().map(|record| record.still_wrong(cabinet));
         Ok(Status {
             cabinet,
+            has_text: cabinet.other_text().is_none(),
             trays: standing::of(cabinet, &survey),
             survey,
             work: work::of(cabinet)?,
@@ -51,14 +54,16 @@ impl<'a> Status<'a> {
         })
     }
 
-    /// Whether a tray is not live, or the last scrub found something that has not been put right.
+    /// Whether a tray is not live, the last scrub found something that has not been put right, or
+    /// `cabinet.txt` is not as the labels say.
     pub fn is_broken(&self) -> bool {
         let unclear = match &self.scrub {
             LastScrub::Of(record) => record.bad > 0 && record.faults.is_empty(),
             LastScrub::None => false,
         };
         let is_bad = |of: &Stands| of.standing != Standing::Live;
-        self.trays.iter().any(is_bad) || !self.wrong.is_empty() || unclear
+        let is_bad = self.trays.iter().any(is_bad) || !self.has_text;
+        is_bad || !self.wrong.is_empty() || unclear
     }
 
     /// What to type next.
@@ -140,6 +145,7 @@ impl<'a> Status<'a> {
         screen.fact("trays", standing::json(self.cabinet, &self.survey));
         screen.fact("margin", self.survey.margin);
         screen.fact("broken", self.is_broken());
+        screen.fact("text_right", self.has_text);
         screen.fact("scrub", self.scrub_json());
         screen.fact("work", Json::list(&self.work, Work::json));
         screen.fact(

@@ -3,7 +3,7 @@
 use super::standing::{Standing, Stands};
 use super::work::{Task, Work};
 use super::{LastScrub, Status};
-use crate::terminal::words::trays;
+use crate::terminal::words::{self, trays};
 use gesarumbo::Tray;
 use std::path::Path;
 
@@ -30,6 +30,7 @@ impl Next {
                     of(status, Standing::Closed)
                 ),
             ),
+            () if status.cabinet.newer().next().is_some() => newer(status, line("replace")),
             () if gone(status) > status.cabinet.numbers.checks => (
                 line("status"),
                 format!(
@@ -77,6 +78,17 @@ fn scrub(status: &Status, line: Option<String>) -> (Option<String>, String) {
             (line, "its checkpoint cannot be gone on with".to_string())
         }
     }
+}
+
+/// Trays that may be newer than all others are written over only where a person names them.
+fn newer(status: &Status, line: Option<String>) -> (Option<String>, String) {
+    let trays: Vec<Tray> = status.cabinet.newer().map(|(file, _)| file.tray).collect();
+    let numbers: Vec<String> = trays.iter().map(Tray::to_string).collect();
+    let words = words::trays(&trays);
+    (
+        line.map(|line| format!("{line} {}", numbers.join(","))),
+        format!("{words} may be of a newer store than the others: only if that is not so"),
+    )
 }
 
 /// How many trays hold nothing of this cabinet.

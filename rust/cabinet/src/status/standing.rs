@@ -18,7 +18,8 @@ pub enum Standing {
     Absent,
     /// Its label is of another generation or cabinet.
     Stale,
-    /// It is damaged, of another place, layout or volume, or its label cannot be read.
+    /// It is damaged, of another place, layout or volume, its label cannot be read or its file is too
+    /// long.
     Bad,
     /// It may not be read by this command.
     Closed,
@@ -89,7 +90,7 @@ impl Stands {
 
 /// All trays of a cabinet.
 pub fn of(cabinet: &Cabinet, survey: &Survey) -> Vec<Stands> {
-    let unlabelled = cabinet.unlabelled();
+    let (unlabelled, long) = (cabinet.unlabelled(), cabinet.too_long());
     let trays = cabinet.numbers.all_trays().zip(&survey.first);
     trays
         .map(|(tray, first)| match first {
@@ -106,6 +107,11 @@ pub fn of(cabinet: &Cabinet, survey: &Survey) -> Vec<Stands> {
                     why: why(found).map(|why| format!("{why}{place}")),
                 }
             }
+            None if long.contains(&tray) => Stands {
+                tray,
+                standing: Standing::Bad,
+                why: Some("its file is too long".to_string()),
+            },
             None if unlabelled.contains(&tray) => Stands {
                 tray,
                 standing: Standing::Bad,

@@ -218,6 +218,27 @@ fn recoveries_are_cut() {
     bench.done("test c");
 }
 
+/// By shares, and by a recovery.
+#[test]
+fn fixes_are_cut() {
+    let bench = cabinet();
+    let lose = |bench: &Bench, lost: &[u32]| {
+        lost.iter().for_each(|tray| {
+            let _ = std::fs::remove_file(bench.path(&image(*tray)));
+        });
+    };
+    for lost in [&[13][..], &[0, 29]] {
+        cut_often(&bench, "fix c", CUTS / 2, 0, |bench| lose(bench, lost));
+    }
+    let cut = (0..10).any(|_| {
+        lose(&bench, &[13]);
+        cut_at(&bench, "fix c", "c/tray-13.spare")
+    });
+    assert!(cut, "it was cut after a checkpoint");
+    let out = bench.done("fix c");
+    assert!(out.contains("goes on with stripe"), "{out}");
+}
+
 #[test]
 fn scrubs_are_cut() {
     let bench = cabinet();

@@ -98,6 +98,29 @@ fn everything_at_once() {
     bench.done("test c");
 }
 
+/// The copy for people is put right too.
+#[test]
+fn the_description_comes_back() {
+    let bench = cabinet("4 3 8 3", 3_000);
+    let whole = bench.snapshot("c");
+    for lose in [true, false] {
+        match lose {
+            true => bench.remove("c/cabinet.txt"),
+            false => bench.poke("c/cabinet.txt", 30, b'9'),
+        }
+        let out = bench.done("status c");
+        assert!(
+            out.contains("cabinet.txt is not as the labels say"),
+            "{out}"
+        );
+        assert!(out.contains("next        cabinet fix c\n"), "{out}");
+        let out = bench.ends(17, "fix c");
+        let words = "cabinet.txt was not as the labels say, and is written anew";
+        assert!(out.contains(words), "{out}");
+        assert_eq!(bench.snapshot("c"), whole);
+    }
+}
+
 /// What no checksum tells is found by the test after the shares, and put right.
 #[test]
 fn a_tray_that_was_written_wrong() {
@@ -210,6 +233,18 @@ fn an_exchanged_tray_beside_others() {
     assert!(message.contains("bad: "), "{message}");
     assert!(!bench.exists(&image(1)));
     bench.ends(17, "fix c");
+    assert_eq!(images(&bench), whole);
+}
+
+/// A broken tray of the same rack comes back with the one that is named.
+#[test]
+fn an_exchanged_tray_beside_one_of_its_rack() {
+    let bench = cabinet("10 3 24 9", 3_000);
+    let whole = images(&bench);
+    bench.remove(&image(12));
+    let out = bench.done("replace c 13");
+    let words = "By a recovery: tray 12, of the same rack, is broken too.";
+    assert!(out.contains(words), "{out}");
     assert_eq!(images(&bench), whole);
 }
 

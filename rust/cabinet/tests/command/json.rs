@@ -254,8 +254,12 @@ fn names(value: &Value, before: &str, found: &mut Vec<String>) {
 fn every_command_that_reports() {
     let page = Path::new(env!("CARGO_MANIFEST_DIR")).join("../../docs/JSON.md");
     let page = fs::read_to_string(page).expect("docs/JSON.md is there");
+    let bench = folders();
+    let kept = "mkdir kept && mv c lost wrong gone kept";
+    assert_eq!(bench.shell(kept).status, 0);
     for (line, status) in LINES {
-        let bench = folders();
+        let anew = "rm -rf c lost wrong gone d back && cp -r kept/. .";
+        assert_eq!(bench.shell(anew).status, 0, "{line}");
         let value = report(&bench, status, line);
         let mut found = Vec::new();
         names(&value, "", &mut found);

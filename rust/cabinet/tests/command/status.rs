@@ -139,6 +139,45 @@ fn too_few_trays_and_labels() {
     assert_eq!(next(&bench), "cabinet status c");
 }
 
+/// A file that goes on after its last segment serves, and is written anew.
+#[test]
+fn a_file_that_is_too_long() {
+    let bench = cabinet();
+    let whole = bench.read(&image(3));
+    bench.write(&image(3), &[&whole[..], b"x"].concat());
+    let out = bench.done("status c");
+    assert!(out.contains("tray 3 is bad: its file is too long"), "{out}");
+    bench.fails(65, "scrub c");
+    let value = report(&bench, 0, "status c");
+    let fault = &value.at("scrub.faults").list()[0];
+    assert_eq!(fault.at("fault").text(), "too_long");
+    assert_eq!(next(&bench), "cabinet fix c");
+    bench.ends(17, "fix c");
+    assert_eq!(bench.read(&image(3)), whole);
+    assert_eq!(next(&bench), "");
+}
+
+/// A tray that may be newer than all others is written over only where a person names it.
+#[test]
+fn a_tray_of_a_newer_store() {
+    let bench = cabinet();
+    let old: Vec<Vec<u8>> = (0..12).map(|tray| bench.read(&image(tray))).collect();
+    let text = bench.read("c/cabinet.txt");
+    bench.write("other", &data(76_801)[1..]);
+    bench.done("store 4 3 8 3 --volume 7 --replace other c");
+    bench.write("c/cabinet.txt", &text);
+    (0..12)
+        .filter(|tray| *tray != 10)
+        .for_each(|tray| bench.write(&image(tray), &old[tray]));
+    let value = report(&bench, 0, "status c");
+    assert_eq!(states(&value), [(10.0, "stale".to_string())]);
+    assert_eq!(next(&bench), "cabinet replace c 10");
+    bench.fails(65, "fix c");
+    bench.done("replace c 10");
+    assert_eq!(bench.read(&image(10)), old[10]);
+    assert_eq!(next(&bench), "");
+}
+
 /// What a scrub finds that no checksum tells is kept until the tray is written anew.
 #[test]
 fn what_the_last_scrub_found() {
@@ -168,7 +207,7 @@ fn the_record_is_harmless() {
     let bench = cabinet();
     bench.done("scrub c");
     let record = bench.read("c/scrubbed.txt");
-    for at in 0..record.len() {
+    for at in (0..record.len()).step_by(7) {
         bench.poke("c/scrubbed.txt", at, record[at] ^ 1);
         let out = bench.done("status c");
         assert!(
