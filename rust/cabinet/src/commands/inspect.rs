@@ -169,22 +169,22 @@ fn look<S: Symbol>(
     };
     screen.line(format!("  answer    {words} as live tray {tray}{stripes}"));
     screen.fact("live_tray", tray.number());
-    let end = cabinet.geometry.end();
-    let wrong = match expected.format {
-        Format::First => None,
-        Format::Second if !is_labelled => Some("its label cannot be read"),
-        Format::Second if length > end => Some("it is too long: bytes follow its last segment"),
-        Format::Second => None,
-    };
-    match wrong {
-        None => Ok(Outcome::Done),
-        Some(words) => {
-            let failure = Failure::Contents(format!("{}: {words}", path.display()));
-            let words = screen.paint(Paint::Warning, words);
-            screen.line(format!("  but       {words}"));
-            Err(failure)
+    let is_long = length > cabinet.geometry.end();
+    match expected.format {
+        Format::Second if !is_labelled => Err(flaw(path, "its label cannot be read", screen)),
+        Format::Second if is_long => {
+            let words = "it is too long: bytes follow its last segment";
+            Err(flaw(path, words, screen))
         }
+        _ => Ok(Outcome::Done),
     }
+}
+
+/// Says what is wrong with a file that is handed out.
+fn flaw(path: &Path, words: &str, screen: &mut Screen) -> Failure {
+    let painted = screen.paint(Paint::Warning, words);
+    screen.line(format!("  but       {painted}"));
+    Failure::Contents(format!("{}: {words}", path.display()))
 }
 
 /// Says why a file is not handed out.

@@ -138,14 +138,9 @@ impl<'a, S: Symbol> GroupRepair<'a, S> {
             _ => self.rebuild.next,
         };
         means.shares.skip_to::<S>(cabinet, repair, from)?;
-        let groups = self.groups();
         let is_of_trays = means.shares.are_of_trays();
-        // Whole stripes by shares of the trays can be done beside others.
-        let whole = match is_of_trays && means.cards.is_empty() && cabinet.description.stripes > 1 {
-            true => run.start.div_ceil(groups) as u32..(run.end / groups) as u32,
-            false => 0..0,
-        };
-        let last = (run.end.max(run.start + 1) - 1) / groups;
+        let whole = self.whole_stripes(means, &run);
+        let last = (run.end.max(run.start + 1) - 1) / self.groups();
         let last = self.rebuild.next.max(last as u32);
         let last = last.min(cabinet.description.stripes - 1);
         let segments = cabinet.geometry.segment_of(from)..cabinet.geometry.segment_of(last) + 1;
@@ -172,6 +167,16 @@ impl<'a, S: Symbol> GroupRepair<'a, S> {
                 Ok(())
             },
         )
+    }
+
+    /// The stripes that a run does whole by shares of the trays: they can be done beside others.
+    fn whole_stripes(&self, means: &Means<S>, run: &Range<u64>) -> Range<u32> {
+        let groups = self.groups();
+        let is_plain = means.shares.are_of_trays() && means.cards.is_empty();
+        match is_plain && self.cabinet.description.stripes > 1 {
+            true => run.start.div_ceil(groups) as u32..(run.end / groups) as u32,
+            false => 0..0,
+        }
     }
 
     /// Does the groups of one stripe, as far as the run goes.
