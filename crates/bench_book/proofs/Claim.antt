@@ -79,7 +79,7 @@ stored = (refl, refl)
 -- THE BENCH BOOK
 pub worked-examples : AllHold benchBook
 unfolding measured admissible sizeAllowed storeRefusal symbolsFrom sharesRefusal lostCountFits sharesOf table shareSymbol groupSum groupOf weightedSum place symbolAt
-    choose sum pow ops elem _⊕_ _⊗_ shiftAdd mulz marginRefusal marginOf live allBelow all
+    choose sum pow ops below _⊕_ _⊗_ shiftAdd mulz marginRefusal marginOf live allBelow all
 worked-examples = (
   refl,
   (
