@@ -27,8 +27,8 @@ use Rattle.layout.proofs.Facts.{size-some, admissible-facts, facts-admissible}
 use Rattle.layout.proofs.Sizes.{listed-255, listed-256, sizes-255, sizes-256}
 
 pub adds-256 : (a b : ℕ) → a < 256 → b < 256 → gf256 .coding .val (gf256 .ops .add (gf256 .coding .elem a) (gf256 .coding .elem b)) ≡ bitXor a b
-unfolding plus
-adds-256 a b h k = sym (plus-is a b h k)
+unfolding plus _⊕_
+adds-256 a b h k = sym (plus-is a b (a ⊕ b) h k refl)
 
 pub multiplies-256 : (a b : ℕ) → a < 256 → b < 256 → gf256 .coding .val (gf256 .ops .mul (gf256 .coding .elem a) (gf256 .coding .elem b)) ≡ a ⊗ b
 multiplies-256 a b h k = val-mul (gf256 .coding .elem a) (gf256 .coding .elem b) ∙ ap₂ _⊗_ (val-elem a h) (val-elem b k)
