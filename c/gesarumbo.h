@@ -640,7 +640,7 @@ gesarumbo_reported gesarumbo_scrub_in_place(gesarumbo_layout layout,
  * A call does to each part what the call for one codeword does, with layout, numbers and lists the
  * same for all. Its grounds are that call's, in that order, with lengths times many, whatever number
  * many is; a ground applies where it does to one of the parts, and a refused call has changed none.
- * With many = 0 all buffers are empty, and layout, numbers and lists are judged as ever. With many =
+ * With many = 0 the right buffers are the empty ones, and layout, numbers and lists are judged as ever. With many =
  * 1 answer and bytes are those of the call for one codeword.
  */
 
