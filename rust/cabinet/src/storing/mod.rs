@@ -233,17 +233,21 @@ fn read_segment(
     Ok(bytes)
 }
 
-/// From so many stripes on a segment is stored by one call: below, the numbers that a batch works out
-/// once for all its codewords cost more than they save.
-const BATCH: usize = 32;
+/// Whether a segment of so many stripes is stored by one call: where there are few, the numbers that a
+/// batch works out once for all its codewords cost more than they save. Single calls are at their best
+/// where layers have binary digits (measured: docs/landings/BATCHES.md).
+fn is_batch(numbers: &Numbers, stripes: usize) -> bool {
+    let least = if numbers.digits > 2 { 32 } else { 128 };
+    stripes >= least
+}
 
 /// A segment of every tray, of the data of its stripes.
 fn encode<S: Symbol>(shape: &Shape, segment: u32, data: &[u8]) -> Result<Vec<Vec<u8>>, Failure> {
     let numbers = &shape.numbers;
     let stripes = shape.geometry.stripes_of(segment).len();
-    let codewords: Vec<S> = match stripes {
-        BATCH.. => at_once(numbers, stripes, data),
-        _ => one_by_one(numbers, stripes, data),
+    let codewords: Vec<S> = match is_batch(numbers, stripes) {
+        true => at_once(numbers, stripes, data),
+        false => one_by_one(numbers, stripes, data),
     }
     .map_err(Failure::refused("store"))?;
     let trays = (0..)
