@@ -58,7 +58,7 @@ module _ {A : Type 0} {f : Field A} (W : Working f) (l : Layout) (m : ℕ) (give
   pub answer_refused : (r : ℕ) → r ≡ batch_store_refusal f l m given (length c) → (r ≡ 0 → ⊥) → BatchStoreAnswer f l m given c c r
   answer_refused r e n = record { answer = e; unchanged = λ q. refl; long = refl; done = λ q. absurd (n q) }
 
-  module _ (ground : ℕ) (eg : ground ≡ batch_store_refusal f l m given (length c)) (z : ground ≡ 0) where
+  module _ (reason : ℕ) (eg : reason ≡ batch_store_refusal f l m given (length c)) (z : reason ≡ 0) where
     s : Storable f l m given (length c)
     s = storable W l m given (length c) (sym eg ∙ z)
 

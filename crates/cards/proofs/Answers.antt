@@ -54,7 +54,7 @@ module _ {A : Type 0} {f : Field A} (W : Working f) (l : Layout) where
   module _ (x n : ℕ) (helpers : List ℕ) (group : ℕ) (old : List ℕ) (en : n ≡ x) (e : ℕ) (q : e ≡ print_ground f l n helpers group (length old)) where
     pub print_earlier : ¬ (e ≡ 0) → PrintAnswer f l x helpers group old old e
     print_earlier d = subst (λ y. PrintAnswer f l y helpers group old old e) en
-        (record { ground = q; kept = λ h. refl; printed = λ z. absurd (d z); right = λ z. absurd (d z) })
+        (record { reason = q; kept = λ h. refl; printed = λ z. absurd (d z); right = λ z. absurd (d z) })
 
     module _ (z : e ≡ 0) where
       printable : Passed f l n helpers group (eqb (length old) (digits l * l.helpers)) true
@@ -79,7 +79,7 @@ module _ {A : Type 0} {f : Field A} (W : Working f) (l : Layout) where
       pub print_done : (new : List ℕ) → length new ≡ length old → Multipliers f l (n / l.size) group helpers new → PrintAnswer f l x helpers group old new 0
       unfolding grouped
       print_done new el m = subst (λ y. PrintAnswer f l y helpers group old new 0) en (record {
-        ground = sym z ∙ q;
+        reason = sym z ∙ q;
         kept = λ h. absurd (omega arith);
         printed = λ _. record { long = el ∙ old_long; symbols = range_of W l (n / l.size) group helpers grouped new (el ∙ old_long) m };
         right = λ _. agrees_right f l (solvable W l printable.adm) n helpers printable.help group printable.inside new (agreeing_of W l (n / l.size) group helpers grouped new m);
@@ -116,7 +116,7 @@ module _ {A : Type 0} {f : Field A} (W : Working f) (l : Layout) where
   -- ---- the repair
   module _ (x n : ℕ) (helpers card shares host : List ℕ) (group : ℕ) (old : List ℕ) (en : n ≡ x) (e : ℕ) (q : e ≡ repair_ground f l n helpers group card shares host (length old)) where
     pub repair_earlier : ¬ (e ≡ 0) → CardRefused f l x helpers card shares host group old old e
-    repair_earlier d = subst (λ y. CardRefused f l y helpers card shares host group old old e) en (record { refused = judged_earlier _ e q d; ground = omega arith; kept = refl })
+    repair_earlier d = subst (λ y. CardRefused f l y helpers card shares host group old old e) en (record { refused = judged_earlier _ e q d; reason = omega arith; kept = refl })
 
     module _ (z : e ≡ 0) where
       made : Repairable f l n helpers group card shares host (length old)
@@ -135,7 +135,7 @@ module _ {A : Type 0} {f : Field A} (W : Working f) (l : Layout) where
         pub repair_wrong : not r ≡ true → CardRefused f l x helpers card shares host group old old 15
         repair_wrong h = subst (λ y. CardRefused f l y helpers card shares host group old old 15) en (record {
           refused = judged_wrong _ (sym q ∙ z) (wrong_of made.adm n helpers card group made.help made.inside r v h);
-          ground = omega arith;
+          reason = omega arith;
           kept = refl;
         })
 

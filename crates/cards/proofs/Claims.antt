@@ -88,23 +88,23 @@ module _ {A : Type 0} {f : Field A} (W : Working f) (l : Layout) (x : ℕ) (help
 
     -- and the test accepts the printed one
     pub printed_tested : TestAnswer f l x helpers new group 0
-    printed_tested = judged_right _ ground (p.right refl)
+    printed_tested = judged_right _ reason (p.right refl)
       where
-        ground : test_ground f l x helpers group new ≡ 0
-        ground = unfold test_ground print_ground in
-            ap₂ (card_ground f l x helpers group) (ap (λ n. eqb n (digits l * l.helpers)) ((p.printed refl).long ∙ sym (eqb-true _ _ (printable (sym p.ground)).long_so)))
+        reason : test_ground f l x helpers group new ≡ 0
+        reason = unfold test_ground print_ground in
+            ap₂ (card_ground f l x helpers group) (ap (λ n. eqb n (digits l * l.helpers)) ((p.printed refl).long ∙ sym (eqb-true _ _ (printable (sym p.reason)).long_so)))
             (symbols_in f new (p.printed refl).symbols.at)
-            ∙ sym p.ground
+            ∙ sym p.reason
 
   -- two answers to one call are the same, and so are the cards they leave
   pub printed_unique : (old new new' : List ℕ) (a b : ℕ) → PrintAnswer f l x helpers group old new a → PrintAnswer f l x helpers group old new' b → (a ≡ b) × (new ≡ new')
-  printed_unique old new new' a b p q = (p.ground ∙ sym q.ground, go (ℕ_discrete a 0))
+  printed_unique old new new' a b p q = (p.reason ∙ sym q.reason, go (ℕ_discrete a 0))
     where
       go : Dec (a ≡ 0) → new ≡ new'
       go (yes z) =
-          let zb : b ≡ 0 = q.ground ∙ sym p.ground ∙ z in
+          let zb : b ≡ 0 = q.reason ∙ sym p.reason ∙ z in
           tested_printed old new' (subst (PrintAnswer f l x helpers group old new') zb q) new (printed_tested old new (subst (PrintAnswer f l x helpers group old new) z p))
-      go (no d) = p.kept (omega arith) ∙ sym (q.kept (omega (arith, p.ground ∙ sym q.ground)))
+      go (no d) = p.kept (omega arith) ∙ sym (q.kept (omega (arith, p.reason ∙ sym q.reason)))
 
   -- ---- the repair
   module _ (card shares host old : List ℕ) where
@@ -147,6 +147,6 @@ module _ {A : Type 0} {f : Field A} (W : Working f) (l : Layout) (x : ℕ) (help
       -- two answers to one call are the same, and so are the spares they leave
       pub carded_unique : (a b : Repaired) → CardAnswer f l x helpers card shares host group old new a → CardAnswer f l x helpers card shares host group old new' b → (a ≡ b) × (new ≡ new')
       carded_unique (Done g c t) (Done g' c' t') p q = repaired_unique W l (x ∷ []) helpers shares host group 1 old new new' (Done g c t) (Done g' c' t') p.piece q.piece
-      carded_unique (Done g c t) (Refused e) p q = done_refused p.accepted e q.refused q.ground
-      carded_unique (Refused e) (Done g c t) p q = done_refused q.accepted e p.refused p.ground
+      carded_unique (Done g c t) (Refused e) p q = done_refused p.accepted e q.refused q.reason
+      carded_unique (Refused e) (Done g c t) p q = done_refused q.accepted e p.refused p.reason
       carded_unique (Refused e) (Refused e') p q = both_refused e e' p q

@@ -30,7 +30,7 @@ module _ {A : Type 0} (f : Field A) (l : Layout) (x : ℕ) (helpers : List ℕ) 
 
   -- the contract of printing: the right card, or a ground and no symbol changed
   pub record PrintAnswer (old new : List ℕ) (e : ℕ) : Type 0 where
-    pub ground : e ≡ print_ground (length old)
+    pub reason : e ≡ print_ground (length old)
     pub kept : 0 < e → new ≡ old
     pub printed : e ≡ 0 → Card f l new
     pub right : e ≡ 0 → Right f l x helpers group new
@@ -58,7 +58,7 @@ module _ {A : Type 0} (f : Field A) (l : Layout) (x : ℕ) (helpers card shares 
   -- one that is refused: no symbol changed
   pub record CardRefused (e : ℕ) : Type 0 where
     pub refused : GroundIs e
-    pub ground : 0 < e
+    pub reason : 0 < e
     pub kept : new ≡ old
 
 -- the contract of the repair by card

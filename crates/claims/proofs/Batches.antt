@@ -31,14 +31,14 @@ batch_storing W l =
     }
 
 module _ {A : Type 0} (f : Field A) (l : Layout) (many x : ℕ) (helpers shares host : List ℕ) (first budget : ℕ) (old new : List ℕ) where
-  abbrev ground : ℕ
-  ground = repair_batch_refusal f l many x helpers shares host (length old) first budget
+  abbrev reason : ℕ
+  reason = repair_batch_refusal f l many x helpers shares host (length old) first budget
 
   abbrev no_groups : ℕ → RepairNumbers
   no_groups n = record { refusal = n; groups = 0; crossed = 0; remaining = 0 }
 
   repair_grounds : (r : Repaired) → RepairBatchAnswer f l many x helpers shares host first budget old new r →
-      (Refuses ground → report r ≡ no_groups ground) × (Refuses (report r).refusal → new ≡ old)
+      (Refuses reason → report r ≡ no_groups reason) × (Refuses (report r).refusal → new ≡ old)
   repair_grounds (Done g c t) a = (λ n. absurd (n a.accepted), λ n. absurd (n refl))
   repair_grounds (Refused e) a = (λ n. ap no_groups a.0, λ n. a.2)
 

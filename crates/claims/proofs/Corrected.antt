@@ -34,15 +34,15 @@ positive n h = elim (ℕ_discrete n 0) [
 ]
 
 module _ {A : Type 0} {f : Field A} (W : Working f) (l : Layout) (x : ℕ) (helpers shares host old new : List ℕ) where
-  abbrev ground : ℕ
-  ground = correcting_refusal f l x helpers shares host (length old)
+  abbrev reason : ℕ
+  reason = correcting_refusal f l x helpers shares host (length old)
 
   pub correcting_grounds : (r : Corrected) → CorrectingAnswer f l x helpers shares host old new r →
-      (Refuses ground → corrected r ≡ record { refusal = ground; rack = 0; crossed = 0 }) × (Refuses (corrected r).refusal → new ≡ old)
+      (Refuses reason → corrected r ≡ record { refusal = reason; rack = 0; crossed = 0 }) × (Refuses (corrected r).refusal → new ≡ old)
   correcting_grounds (Whole rack n) p = (λ h. absurd (h p.accepted), λ h. absurd (h refl))
   correcting_grounds (NotWhole e) p = (λ h i. record { refusal = p.refused h i; rack = 0; crossed = 0 }, λ h. p.kept)
 
-  pub fourteen_exactly : (r : Corrected) → CorrectingAnswer f l x helpers shares host old new r → ground ≡ 0 → ((corrected r).refusal ≡ 14) ↔ NoneHold f l x helpers shares
+  pub fourteen_exactly : (r : Corrected) → CorrectingAnswer f l x helpers shares host old new r → reason ≡ 0 → ((corrected r).refusal ≡ 14) ↔ NoneHold f l x helpers shares
   fourteen_exactly (Whole rack n) p z =
       let acc = accepted_so f l x helpers shares host (length old) z in
       (λ e. absurd (omega (arith, e)), λ none. absurd (settled_not_none W l acc.adm x helpers acc.help shares host rack new p.settled none))
@@ -61,7 +61,7 @@ judged {right} before e p = (
 module _ {A : Type 0} (f : Field A) (l : Layout) (x : ℕ) (helpers : List ℕ) (group : ℕ) where
   pub printed_grounds : (old new : List ℕ) (e : ℕ) → PrintAnswer f l x helpers group old new e →
       Grounded (print_ground f l x helpers group (length old)) e old new × (e ≡ 0 → Right f l x helpers group new)
-  printed_grounds old new e p = ((p.ground, λ h. p.kept (positive e (λ q. h (sym p.ground ∙ q)))), p.right)
+  printed_grounds old new e p = ((p.reason, λ h. p.kept (positive e (λ q. h (sym p.reason ∙ q)))), p.right)
 
   pub tested_exactly : (card : List ℕ) (e : ℕ) → Judged (test_ground f l x helpers group card) (Right f l x helpers group card) e →
       (Refuses (test_ground f l x helpers group card) → e ≡ test_ground f l x helpers group card)
@@ -93,4 +93,4 @@ as_the_repair W l x helpers group card shares host old new (Done g c t) p z =
       λ new' r' q. repaired_unique W l (x ∷ []) helpers shares host group 1 old new new' (Done g c t) r' piece q,
       card_exact W l x helpers group card shares host old new g c t p,
     )
-as_the_repair W l x helpers group card shares host old new (Refused e) p z = absurd (omega (arith, p.ground, z))
+as_the_repair W l x helpers group card shares host old new (Refused e) p z = absurd (omega (arith, p.reason, z))

@@ -47,21 +47,21 @@ handed {f = f} W l = record {
 }
 
 module _ (l : Layout) (volume : ℕ) (image : List ℕ) where
-  abbrev ground : ℕ
-  ground = read_refusal edition1 l volume (layers l) image
+  abbrev reason : ℕ
+  reason = read_refusal edition1 l volume (layers l) image
 
   tray_is : (image_numbers l volume image).tray ≡ read_tray edition1 l volume (layers l) image
   unfolding image_numbers read_tray
-  tray_is = elim (ℕ_discrete ground 0) [
-    | yes z ↦ simp (eq-eqb ground 0 z)
-    | no d ↦ simp (ne_eqb ground 0 d)
+  tray_is = elim (ℕ_discrete reason 0) [
+    | yes z ↦ simp (eq-eqb reason 0 z)
+    | no d ↦ simp (ne_eqb reason 0 d)
   ]
 
-  image_is : ((image_numbers l volume image).refusal ≡ ground) × (Refuses ground → image_numbers l volume image ≡ record { refusal = ground; tray = 0; offset = 0; length = 0 })
+  image_is : ((image_numbers l volume image).refusal ≡ reason) × (Refuses reason → image_numbers l volume image ≡ record { refusal = reason; tray = 0; offset = 0; length = 0 })
   unfolding image_numbers
-  image_is = elim (ℕ_discrete ground 0) [
-    | yes z ↦ (simp (eq-eqb ground 0 z) (sym z), λ h. absurd (h z))
-    | no d ↦ (simp (ne_eqb ground 0 d), λ h. simp (ne_eqb ground 0 d))
+  image_is = elim (ℕ_discrete reason 0) [
+    | yes z ↦ (simp (eq-eqb reason 0 z) (sym z), λ h. absurd (h z))
+    | no d ↦ (simp (ne_eqb reason 0 d), λ h. simp (ne_eqb reason 0 d))
   ]
 
 pub handed_256 : (l : Layout) → Handed256 l

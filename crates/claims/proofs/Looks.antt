@@ -188,8 +188,8 @@ module _ {A : Type 0} {f : Field A} (W : Working f) (l : Layout) (x : ℕ) (help
         (r ≡ r') × (new ≡ new')
     card_looks (Done g c t) (Done g' c' t') p q =
         piece_looks W l (x ∷ []) helpers shares shares' host host' group 1 fewer old new new' (Done g c t) (Done g' c' t') p.piece q.piece
-    card_looks (Done g c t) (Refused e) p q = absurd (omega (arith, one_ground 0 e p.accepted q.refused, q.ground))
-    card_looks (Refused e) (Done g c t) p q = absurd (omega (arith, one_ground e 0 p.refused q.accepted, p.ground))
+    card_looks (Done g c t) (Refused e) p q = absurd (omega (arith, one_ground 0 e p.accepted q.refused, q.reason))
+    card_looks (Refused e) (Done g c t) p q = absurd (omega (arith, one_ground e 0 p.refused q.accepted, p.reason))
     card_looks (Refused e) (Refused e') p q = (ap Refused (one_ground e e' p.refused q.refused), p.kept ∙ sym q.kept)
 
 -- ---- the repair with E = 1
@@ -261,7 +261,7 @@ module _ {A : Type 0} (f : Field A) (l : Layout) (x : ℕ) (helpers shares host 
     };
   }
   as_first old new (NotWhole e) q = record {
-    ground = q.ground;
+    reason = q.reason;
     refused = λ d. q.refused (λ z. d (whole_ground (length old) ∙ z)) ∙ sym (whole_ground (length old));
     last = λ z. q.last (sym (whole_ground (length old)) ∙ z);
     kept = q.kept;
@@ -372,4 +372,4 @@ print_room {f = f} W l x helpers group old old' new new' e e' long p q = (
 )
   where
     same : e ≡ e'
-    same = p.ground ∙ ap (print_ground f l x helpers group) long ∙ sym q.ground
+    same = p.reason ∙ ap (print_ground f l x helpers group) long ∙ sym q.reason

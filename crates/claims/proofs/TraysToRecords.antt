@@ -33,8 +33,8 @@ use Rattle.claims.specs.Looks.{Looks}
 use Rattle.claims.specs.TraysToRecords.{TraysToRecords}
 
 module _ {A : Type 0} (f : Field A) (l : Layout) (es c : List ℕ) where
-  abbrev ground : ℕ
-  ground = recover_refusal f l es c
+  abbrev reason : ℕ
+  reason = recover_refusal f l es c
 
   abbrev no_tray : ℕ → RecoveredNumbers
   no_tray n = record { refusal = n; tray = 0; checks = 0 }
@@ -42,11 +42,11 @@ module _ {A : Type 0} (f : Field A) (l : Layout) (es c : List ℕ) where
   abbrev no_verdict : ℕ → KeptNumbers
   no_verdict n = record { refusal = n; verdict = 0; layer = 0; checks = 0 }
 
-  correct_grounds : (d : List ℕ) (r : Recovered) → CorrectionAnswer f l es c d r → (Refuses ground → recovered r ≡ no_tray ground) × (Refuses (recovered r).refusal → d ≡ c)
+  correct_grounds : (d : List ℕ) (r : Recovered) → CorrectionAnswer f l es c d r → (Refuses reason → recovered r ≡ no_tray reason) × (Refuses (recovered r).refusal → d ≡ c)
   correct_grounds d (Done tray left) a = (λ n. absurd (n a.accepted), λ n. absurd (n refl))
   correct_grounds d (Refused e) a = (λ n. ap no_tray (a.refused n), λ n. a.kept)
 
-  kept_grounds : (r : Kept) → KeptAnswer f l es c r → Refuses ground → kept r ≡ no_verdict ground
+  kept_grounds : (r : Kept) → KeptAnswer f l es c r → Refuses reason → kept r ≡ no_verdict reason
   kept_grounds (Sound left) a n = absurd (n a.0)
   kept_grounds (Bad j left) a n = absurd (n a.0)
   kept_grounds (NotTested e) a n = ap no_verdict a.0

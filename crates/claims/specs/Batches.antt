@@ -34,8 +34,8 @@ pub record BatchRepairs {A : Type 0} (f : Field A) (l : Layout) : Type 0 where
       Grounded (share_batch_refusal f l many host helper rack (length old)) n old new
   pub repair_grounds : (many x : ℕ) (helpers shares host : List ℕ) (first budget : ℕ) (old new : List ℕ) (r : Repaired) →
       RepairBatchAnswer f l many x helpers shares host first budget old new r →
-      let ground = repair_batch_refusal f l many x helpers shares host (length old) first budget in
-      (Refuses ground → report r ≡ record { refusal = ground; groups = 0; crossed = 0; remaining = 0 }) × (Refuses (report r).refusal → new ≡ old)
+      let reason = repair_batch_refusal f l many x helpers shares host (length old) first budget in
+      (Refuses reason → report r ≡ record { refusal = reason; groups = 0; crossed = 0; remaining = 0 }) × (Refuses (report r).refusal → new ≡ old)
   -- each codeword's share is what document 01's call leaves of its rack and its room
   pub share_each : (many host helper : ℕ) (rack old new : List ℕ) → ShareBatchAnswer f l many host helper rack old new 0 → (q : ℕ) → q < many →
       (share_refusal f l host helper (part many q rack) (length (part many q old)) ≡ 0) × (part many q new ≡ share_buffer f l host helper (part many q rack) (part many q old))

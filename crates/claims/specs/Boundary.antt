@@ -35,14 +35,14 @@ pub record Handed {A : Type 0} (f : Field A) (l : Layout) : Type 0 where
   pub part_lies : (codeword spare : List ℕ) (lost done tray first end : ℕ) →
       let n = part_numbers f.order l (length codeword) (length spare) lost done tray first end in
       take n.length (drop n.offset (cond (eqb n.source 2) spare codeword)) ≡ part_given f.order l codeword spare lost done tray first end
-  pub part_refused : (codeword spare lost done tray first end : ℕ) → let ground = part_refusal f.order l codeword spare lost done tray first end in
-      ((part_numbers f.order l codeword spare lost done tray first end).refusal ≡ ground)
-      × (Refuses ground → part_numbers f.order l codeword spare lost done tray first end ≡ record { refusal = ground; source = 0; offset = 0; length = 0 })
+  pub part_refused : (codeword spare lost done tray first end : ℕ) → let reason = part_refusal f.order l codeword spare lost done tray first end in
+      ((part_numbers f.order l codeword spare lost done tray first end).refusal ≡ reason)
+      × (Refuses reason → part_numbers f.order l codeword spare lost done tray first end ≡ record { refusal = reason; source = 0; offset = 0; length = 0 })
 
 -- a read of an image of edition 1 gives C the tray, and the symbols where the numbers say; that of edition 2 copies them
 pub record Handed256 (l : Layout) : Type 0 where
   pub image_lies : (volume : ℕ) (image : List ℕ) →
       let n = image_numbers l volume image in
       (n.tray ≡ read_tray edition1 l volume (layers l) image) × (take n.length (drop n.offset image) ≡ read_symbols edition1 l volume (layers l) [] image)
-  pub image_refused : (volume : ℕ) (image : List ℕ) → let ground = read_refusal edition1 l volume (layers l) image in
-      ((image_numbers l volume image).refusal ≡ ground) × (Refuses ground → image_numbers l volume image ≡ record { refusal = ground; tray = 0; offset = 0; length = 0 })
+  pub image_refused : (volume : ℕ) (image : List ℕ) → let reason = read_refusal edition1 l volume (layers l) image in
+      ((image_numbers l volume image).refusal ≡ reason) × (Refuses reason → image_numbers l volume image ≡ record { refusal = reason; tray = 0; offset = 0; length = 0 })

@@ -44,7 +44,7 @@ pub record BoxGrounds : Type 0 where
       (Refuses (data_refusal es c (length old)) → n ≡ data_refusal es c (length old)) × (Refuses n → new ≡ old)
   pub share : (host helper : ℕ) (vs old new : List ℕ) (n : ℕ) → ShareAnswer host helper vs old new n → Grounded (share_refusal host helper vs (length old)) n old new
   pub repair : (lost : ℕ) (hs shares rack old new : List ℕ) (r : Repaired) → RepairAnswer lost hs shares rack old new r →
-      let ground = repair_refusal lost hs shares rack (length old) in Grounded ground r.refusal old new × (Refuses ground → r ≡ record { refusal = ground; crossed = 0 })
+      let reason = repair_refusal lost hs shares rack (length old) in Grounded reason r.refusal old new × (Refuses reason → r ≡ record { refusal = reason; crossed = 0 })
   pub recover_one : (es c d d' : List ℕ) (n n' : ℕ) → RecoverAnswer es c d n → RecoverAnswer es c d' n' → (n ≡ n') × (d ≡ d')
   pub data_one : (es c old d d' : List ℕ) (n n' : ℕ) → DataAnswer es c old d n → DataAnswer es c old d' n' → (n ≡ n') × (d ≡ d')
   pub share_one : (host helper : ℕ) (vs old new new' : List ℕ) (n n' : ℕ) → ShareAnswer host helper vs old new n → ShareAnswer host helper vs old new' n' → (n ≡ n') × (new ≡ new')

@@ -77,16 +77,16 @@ pub record Demand1 {A : Type 0} (f : Field A) (ed : Edition) (l : Layout) : Type
   pub share_add_many : (e h x : ℕ) (tray held : List ℕ) → Refuses (add_many_refusal f l e h x tray held) → add_many_buffer f l e h x tray held ≡ held
   pub repair : (lost helpers shares host : List ℕ) (first budget : ℕ) (old new : List ℕ) (r : Repaired) →
       RepairAnswer f l lost helpers shares host first budget old new r →
-      let ground = repair_refusal f l lost helpers shares host (length old) first budget in
-      Grounded ground (report r).refusal old new × (Refuses ground → report r ≡ record { refusal = ground; groups = 0; crossed = 0; remaining = 0 })
+      let reason = repair_refusal f l lost helpers shares host (length old) first budget in
+      Grounded reason (report r).refusal old new × (Refuses reason → report r ≡ record { refusal = reason; groups = 0; crossed = 0; remaining = 0 })
   pub write : (tray state volume : ℕ) (symbols image : List ℕ) → Refuses (write_refusal ed l tray state volume symbols (length image)) →
       write_buffer ed l tray state volume symbols image ≡ image
   -- what was refused is an empty part in edition 1, and in edition 2 the lent places as they were
   pub read : (volume places : ℕ) (refused image : List ℕ) → Refuses (read_refusal ed l volume places image) →
       (read_tray ed l volume places image ≡ 0) × (read_symbols ed l volume places refused image ≡ refused)
-  pub margin : (states : List ℕ) → let ground = margin_refusal f.order l states in
-      (Refuses ground → margin_numbers (margin_answer f.order l states) ≡ record { refusal = ground; margin = pos 0 })
-      × (ground ≡ 0 → margin_numbers (margin_answer f.order l states) ≡ record { refusal = 0; margin = margin_of l states })
+  pub margin : (states : List ℕ) → let reason = margin_refusal f.order l states in
+      (Refuses reason → margin_numbers (margin_answer f.order l states) ≡ record { refusal = reason; margin = pos 0 })
+      × (reason ≡ 0 → margin_numbers (margin_answer f.order l states) ≡ record { refusal = 0; margin = margin_of l states })
   pub reset : (w : Walk) → (¬ (admissible f.order l ≡ true) → scrub_numbers (begun f.order l w) ≡ record { refusal = 1; report = 0; walk = w })
       × (admissible f.order l ≡ true → scrub_numbers (begun f.order l w) ≡ record { refusal = 0; report = 0; walk = record { next = 0; bad = 0; first = layers l } })
   pub scrub : (c : List ℕ) (w : Walk) (budget : ℕ) → Refuses (scrub_refusal f l c w budget) →
@@ -277,8 +277,8 @@ pub record OneTray {A : Type 0} (f : Field A) (l : Layout) : Type 0 where
 pub record Correcting {A : Type 0} (f : Field A) (l : Layout) : Type 0 where
   -- a refusal gives its number, every other number zero, and changes no symbol; the contract decides the answer and the whole spare, with two wrong shares too
   pub grounds : (x : ℕ) (helpers shares host old new : List ℕ) (r : Corrected) → CorrectingAnswer f l x helpers shares host old new r →
-      let ground = correcting_refusal f l x helpers shares host (length old) in
-      (Refuses ground → corrected r ≡ record { refusal = ground; rack = 0; crossed = 0 }) × (Refuses (corrected r).refusal → new ≡ old)
+      let reason = correcting_refusal f l x helpers shares host (length old) in
+      (Refuses reason → corrected r ≡ record { refusal = reason; rack = 0; crossed = 0 }) × (Refuses (corrected r).refusal → new ≡ old)
   pub one : (x : ℕ) (helpers shares host old new new' : List ℕ) (r r' : Corrected) →
       CorrectingAnswer f l x helpers shares host old new r → CorrectingAnswer f l x helpers shares host old new' r' → (r ≡ r') × (new ≡ new')
   -- "if at most one helper's share is wrong, in any of its symbols, each still one of the field, the tray is exact, and a rack is named exactly when its share
@@ -313,9 +313,9 @@ pub record Cards {A : Type 0} (f : Field A) (l : Layout) (x : ℕ) (helpers : Li
       × (test_ground f l x helpers group card ≡ 0 → ((e ≡ 0) ↔ Right f l x helpers group card) × ((e ≡ 15) ↔ (¬ (Right f l x helpers group card))))
   -- "it tests the card too": a repair by card is refused likewise, and changes no symbol then
   pub repair_exactly : (card shares host old new : List ℕ) (r : Repaired) → CardAnswer f l x helpers card shares host group old new r →
-      let ground = repair_ground f l x helpers group card shares host (length old) in
-      (Refuses ground → report r ≡ record { refusal = ground; groups = 0; crossed = 0; remaining = 0 }) × (Refuses (report r).refusal → new ≡ old)
-      × (ground ≡ 0 → (((report r).refusal ≡ 0) ↔ Right f l x helpers group card) × (((report r).refusal ≡ 15) ↔ (¬ (Right f l x helpers group card))))
+      let reason = repair_ground f l x helpers group card shares host (length old) in
+      (Refuses reason → report r ≡ record { refusal = reason; groups = 0; crossed = 0; remaining = 0 }) × (Refuses (report r).refusal → new ≡ old)
+      × (reason ≡ 0 → (((report r).refusal ≡ 0) ↔ Right f l x helpers group card) × (((report r).refusal ≡ 15) ↔ (¬ (Right f l x helpers group card))))
   pub repair_one : (card shares host old new new' : List ℕ) (r r' : Repaired) →
       CardAnswer f l x helpers card shares host group old new r → CardAnswer f l x helpers card shares host group old new' r' → (r ≡ r') × (new ≡ new')
   -- "A repair by card .. writes that group only and reports as that piece. A repair by an accepted card, whoever made it, equals the repair of document 01 on true

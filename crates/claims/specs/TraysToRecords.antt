@@ -27,13 +27,13 @@ use Rattle.claims.specs.Words.{Refuses}
 
 pub record TraysToRecords {A : Type 0} (f : Field A) (ed : Edition) (l : Layout) : Type 0 where
   -- a refusal gives the first ground that applies, every other number zero, and changes nothing that was lent
-  pub correct_grounds : (es c d : List ℕ) (r : Recovered) → CorrectionAnswer f l es c d r → let ground = recover_refusal f l es c in
-      (Refuses ground → recovered r ≡ record { refusal = ground; tray = 0; checks = 0 }) × (Refuses (recovered r).refusal → d ≡ c)
-  pub kept_grounds : (es c : List ℕ) (r : Kept) → KeptAnswer f l es c r → let ground = recover_refusal f l es c in
-      Refuses ground → kept r ≡ record { refusal = ground; verdict = 0; layer = 0; checks = 0 }
+  pub correct_grounds : (es c d : List ℕ) (r : Recovered) → CorrectionAnswer f l es c d r → let reason = recover_refusal f l es c in
+      (Refuses reason → recovered r ≡ record { refusal = reason; tray = 0; checks = 0 }) × (Refuses (recovered r).refusal → d ≡ c)
+  pub kept_grounds : (es c : List ℕ) (r : Kept) → KeptAnswer f l es c r → let reason = recover_refusal f l es c in
+      Refuses reason → kept r ≡ record { refusal = reason; verdict = 0; layer = 0; checks = 0 }
   pub gather_grounds : (volume : ℕ) (images c m d k : List ℕ) (r : Gathered) → GatherAnswer ed l volume images c m d k r →
-      let ground = gather_refusal ed l (length images) (length c) (length m) in
-      (r.refusal ≡ ground) × (Refuses ground → (r.count ≡ 0) × (d ≡ c) × (k ≡ m))
+      let reason = gather_refusal ed l (length images) (length c) (length m) in
+      (r.refusal ≡ reason) × (Refuses reason → (r.count ≡ 0) × (d ≡ c) × (k ≡ m))
   pub states_grounds : (volume : ℕ) (images states : List ℕ) → Refuses (states_refusal ed l (length images) (length states)) →
       states_buffer ed l volume images states ≡ states
   pub rack_grounds_lem : (volume rack : ℕ) (lost images out : List ℕ) → Refuses (rack_refusal ed l volume rack lost images (length out)) →

@@ -9,11 +9,11 @@ use Rattle.rule.specs.Lost.{first_lost}
 
 -- a call that is refused: where the first ground that applies is not 0
 abbrev pub Refuses : ℕ → Type 0
-Refuses ground = ¬ (ground ≡ 0)
+Refuses reason = ¬ (reason ≡ 0)
 
 -- a call that answers `number` and turns the buffer old into new: the number is the first ground that applies, 0 for none, and a refusal changes no symbol
 abbrev pub Grounded : ℕ → ℕ → List ℕ → List ℕ → Type 0
-Grounded ground number old new = (number ≡ ground) × (Refuses ground → new ≡ old)
+Grounded reason number old new = (number ≡ reason) × (Refuses reason → new ≡ old)
 
 -- two buffers of the layout are alike in layer i
 abbrev pub LayerAlike : Layout → List ℕ → List ℕ → ℕ → Type 0

@@ -143,7 +143,7 @@ module _ {A : Type 0} (f : Field A) (l : Layout) (a : Cabinet l) (one : l.errors
 -- ---- the answers
 module _ {A : Type 0} {f : Field A} (W : Working f) (l : Layout) (x : ℕ) (helpers shares host old : List ℕ) where
   pub refused_answer : (r : ℕ) → r ≡ correcting_refusal f l x helpers shares host (length old) → ¬ (r ≡ 0) → CorrectingRefused f l x helpers shares host old old (report (Refused r))
-  refused_answer r e d = record { ground = omega arith; refused = λ n. e; last = λ z. absurd (d (e ∙ z)); kept = refl }
+  refused_answer r e d = record { reason = omega arith; refused = λ n. e; last = λ z. absurd (d (e ∙ z)); kept = refl }
 
   module _ (z : correcting_refusal f l x helpers shares host (length old) ≡ 0) where
     acc : Accepted f l x helpers shares host (length old)
@@ -228,7 +228,7 @@ module _ {A : Type 0} {f : Field A} (W : Working f) (l : Layout) (x : ℕ) (help
           let m = acc.help.many in
           let top : r ≡ (plain_layout 2 l).helpers + 1 = (let t = here.high in let d = d_is in omega arith) in
           record {
-            ground = omega arith;
+            reason = omega arith;
             refused = λ n. absurd (n z);
             last = λ w. (
               refl,

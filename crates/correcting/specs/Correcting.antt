@@ -82,7 +82,7 @@ module _ {A : Type 0} (f : Field A) (l : Layout) (x : ℕ) (helpers shares host 
 
   -- a call that is refused: no symbol changed; 14 is tried last
   pub record CorrectingRefused (old new : List ℕ) (n : CorrectedNumbers) : Type 0 where
-    pub ground : 0 < n.refusal
+    pub reason : 0 < n.refusal
     pub refused : ¬ (correcting_refusal f l x helpers shares host (length old) ≡ 0) → n.refusal ≡ correcting_refusal f l x helpers shares host (length old)
     pub last : correcting_refusal f l x helpers shares host (length old) ≡ 0 → (n.refusal ≡ 14) × NoneHold f l x helpers shares
     pub kept : new ≡ old

@@ -86,12 +86,12 @@ lost_inside e l volume rack lost images room z =
 -- images alike but at the lost trays' places: the same answer and the same bytes
 module _ (e : Edition) (l : Layout) (volume rack : ℕ) (lost images images' : List ℕ) (long : length images ≡ length images')
     (alike : (g : ℕ) → g < l.size → absent lost (rack * l.size + g) ≡ true → image_of e l images g ≡ image_of e l images' g) where
-  none_same : (ground : ℕ) → none_with e l volume rack lost images ground ≡ none_with e l volume rack lost images' ground
+  none_same : (reason : ℕ) → none_with e l volume rack lost images reason ≡ none_with e l volume rack lost images' reason
   unfolding none_with
-  none_same ground = all_same _ _ l.size (λ g h. go g h (absent lost (rack * l.size + g)) refl)
+  none_same reason = all_same _ _ l.size (λ g h. go g h (absent lost (rack * l.size + g)) refl)
     where
       test : List ℕ → ℕ → Bool
-      test s g = not (eqb (image_ground e l volume (rack * l.size + g) s) ground)
+      test s g = not (eqb (image_ground e l volume (rack * l.size + g) s) reason)
 
       go : (g : ℕ) → g < l.size → (b : Bool) → absent lost (rack * l.size + g) ≡ b →
           cond (absent lost (rack * l.size + g)) (test (image_of e l images g) g) true ≡ cond (absent lost (rack * l.size + g))

@@ -442,12 +442,12 @@ module _ (e : Edition) (l : Layout) (rack : ℕ) (lost images was : List ℕ) wh
 
 -- ---- the answer
 module _ (e : Edition) (l : Layout) (volume rack : ℕ) (lost images was : List ℕ) where
-  module _ (ground : ℕ) (q : ground ≡ rack_refusal e l volume rack lost images (length was)) where
-    pub rack_kept : ¬ (ground ≡ 0) → was ≡ rack_buffer e l volume rack lost images was
+  module _ (reason : ℕ) (q : reason ≡ rack_refusal e l volume rack lost images (length was)) where
+    pub rack_kept : ¬ (reason ≡ 0) → was ≡ rack_buffer e l volume rack lost images was
     unfolding rack_buffer
     rack_kept n = simp (ne_eqb (rack_refusal e l volume rack lost images (length was)) 0 (λ z. n (q ∙ z)))
 
-    module _ (z : ground ≡ 0) where
+    module _ (z : reason ≡ 0) where
       facts : Gatherable e l volume rack lost images (length was)
       facts = gatherable e l volume rack lost images (length was) (sym q ∙ z)
 
@@ -478,15 +478,15 @@ module _ (e : Edition) (l : Layout) (volume rack : ℕ) (lost images was : List 
               (t.here (i / layers l) (i % layers l) g (mod-lt i pos))
 
 -- the answers, where the rack's number is taken out of its kind
-module _ (e : Edition) (l : Layout) (volume rack : ℕ) (lost images was : List ℕ) (i : ℕ) (n : i ≡ rack) (ground : ℕ)
-    (q : ground ≡ rack_refusal e l volume i lost images (length was)) where
-  pub answer_kept : ¬ (ground ≡ 0) →
-      (ground ≡ rack_refusal e l volume rack lost images (length was)) × (was ≡ rack_buffer e l volume rack lost images was)
-  answer_kept z = subst (λ v. (ground ≡ rack_refusal e l volume v lost images
-      (length was)) × (was ≡ rack_buffer e l volume v lost images was)) n (q, rack_kept e l volume i lost images was ground q z)
+module _ (e : Edition) (l : Layout) (volume rack : ℕ) (lost images was : List ℕ) (i : ℕ) (n : i ≡ rack) (reason : ℕ)
+    (q : reason ≡ rack_refusal e l volume i lost images (length was)) where
+  pub answer_kept : ¬ (reason ≡ 0) →
+      (reason ≡ rack_refusal e l volume rack lost images (length was)) × (was ≡ rack_buffer e l volume rack lost images was)
+  answer_kept z = subst (λ v. (reason ≡ rack_refusal e l volume v lost images
+      (length was)) × (was ≡ rack_buffer e l volume v lost images was)) n (q, rack_kept e l volume i lost images was reason q z)
 
-  pub answer_done : ground ≡ 0 → (is : List ℕ) → RackTaken e l i lost images was is l.size →
+  pub answer_done : reason ≡ 0 → (is : List ℕ) → RackTaken e l i lost images was is l.size →
       (0 ≡ rack_refusal e l volume rack lost images (length was)) × (is ≡ rack_buffer e l volume rack lost images was)
   answer_done z is t = subst (λ v.
       (0 ≡ rack_refusal e l volume v lost images (length was)) × (is ≡ rack_buffer e l volume v lost images was)) n
-      (sym z ∙ q, rack_done e l volume i lost images was ground q z is t)
+      (sym z ∙ q, rack_done e l volume i lost images was reason q z is t)

@@ -85,9 +85,9 @@ of_rack u rack lost = all (λ k. eqb (get_or lost k 0 / u) rack) (length lost)
 
 -- no image of a tray that is not lost has the ground named
 unfoldable pub none_with : Edition → Layout → ℕ → ℕ → List ℕ → List ℕ → ℕ → Bool
-none_with e l volume rack lost images ground =
+none_with e l volume rack lost images reason =
     all
-    (λ g. cond (absent lost (rack * l.size + g)) (not (eqb (image_ground e l volume (rack * l.size + g) (image_of e l images g)) ground)) true)
+    (λ g. cond (absent lost (rack * l.size + g)) (not (eqb (image_ground e l volume (rack * l.size + g) (image_of e l images g)) reason)) true)
     l.size
 
 -- the refusal, given the images of the rack's trays and the length of the room; 0 for none. Trays of a rack of the layout are trays of it

@@ -36,8 +36,8 @@ use Rattle.gesarumbo.specs.Inner.{run_numbers}
 
 -- reading an image of edition 1; n is the refusal that was written
 module _ (l : Layout) (volume : ℕ) (image : List ℕ) where
-  abbrev ground : ℕ
-  ground = read_refusal edition1 l volume (layers l) image
+  abbrev reason : ℕ
+  reason = read_refusal edition1 l volume (layers l) image
 
   abbrev no_image : ℕ → ImageNumbers
   no_image n = record { refusal = n; tray = 0; offset = 0; length = 0 }
@@ -45,47 +45,47 @@ module _ (l : Layout) (volume : ℕ) (image : List ℕ) where
   abbrev an_image : ℕ → ℕ → ImageNumbers
   an_image t n = record { refusal = 0; tray = t; offset = header_length; length = n }
 
-  pub read_refused : (n : ℕ) → n ≡ ground → (n ≡ 0 → ⊥) → no_image n ≡ image_numbers l volume image
+  pub read_refused : (n : ℕ) → n ≡ reason → (n ≡ 0 → ⊥) → no_image n ≡ image_numbers l volume image
   unfolding image_numbers
-  read_refused n e d = simp (ne_eqb ground 0 (λ z. d (e ∙ z))) (ap no_image e)
+  read_refused n e d = simp (ne_eqb reason 0 (λ z. d (e ∙ z))) (ap no_image e)
 
-  module _ (z : ground ≡ 0) where
+  module _ (z : reason ≡ 0) where
     read_long : length (read_symbols edition1 l volume (layers l) [] image) ≡ layers l
     unfolding read_symbols own_symbols
     read_long =
-        simp (eq-eqb ground 0 z) (table_length (symbol_at edition1 image) (layers (own_layout image))
+        simp (eq-eqb reason 0 z) (table_length (symbol_at edition1 image) (layers (own_layout image))
         ∙ ap layers (sym (readable edition1 l volume (layers l) image proper1 z).layout_is))
 
     read_tray_lem : read_tray edition1 l volume (layers l) image ≡ own_tray image
     unfolding read_tray
-    read_tray_lem = simp (eq-eqb ground 0 z)
+    read_tray_lem = simp (eq-eqb reason 0 z)
 
-  pub read_done : (n t : ℕ) (part : List ℕ) → n ≡ ground → n ≡ 0 → t ≡ read_tray edition1 l volume (layers l) image → part ≡ read_symbols edition1 l volume (layers l) [] image →
+  pub read_done : (n t : ℕ) (part : List ℕ) → n ≡ reason → n ≡ 0 → t ≡ read_tray edition1 l volume (layers l) image → part ≡ read_symbols edition1 l volume (layers l) [] image →
       an_image t (length part) ≡ image_numbers l volume image
   unfolding image_numbers
   read_done n t part e z f p =
-      let q : ground ≡ 0 = sym e ∙ z in
-      simp (eq-eqb ground 0 q) (ap₂ an_image (f ∙ read_tray_lem q) (ap length p ∙ read_long q))
+      let q : reason ≡ 0 = sym e ∙ z in
+      simp (eq-eqb reason 0 q) (ap₂ an_image (f ∙ read_tray_lem q) (ap length p ∙ read_long q))
 
   -- the bytes where the symbols are said to lie are the symbols that a read gives
   abbrev Lies : Type 0
   Lies = take (image_numbers l volume image).length (drop (image_numbers l volume image).offset image) ≡ read_symbols edition1 l volume (layers l) [] image
 
-  lies_refused : (ground ≡ 0 → ⊥) → Lies
+  lies_refused : (reason ≡ 0 → ⊥) → Lies
   unfolding image_numbers read_symbols
-  lies_refused d = simp (ne_eqb ground 0 d)
+  lies_refused d = simp (ne_eqb reason 0 d)
 
-  lies_read : ground ≡ 0 → Lies
+  lies_read : reason ≡ 0 → Lies
   unfolding image_numbers
   lies_read z =
-      let g : drop header_length image ≡ read_symbols edition1 l volume (layers l) [] image = given_rest l volume image ground refl z in
+      let g : drop header_length image ≡ read_symbols edition1 l volume (layers l) [] image = given_rest l volume image reason refl z in
       let n : length (drop header_length image) ≡ layers l = ap length g ∙ read_long z in
-      simp (eq-eqb ground 0 z) (take_all (layers l) (drop header_length image) (omega (arith, n)) ∙ g)
+      simp (eq-eqb reason 0 z) (take_all (layers l) (drop header_length image) (omega (arith, n)) ∙ g)
 
   pub image_lies : Lies
-  image_lies = go (ℕ_discrete ground 0)
+  image_lies = go (ℕ_discrete reason 0)
     where
-      go : Dec (ground ≡ 0) → Lies
+      go : Dec (reason ≡ 0) → Lies
       go (yes z) = lies_read z
       go (no d) = lies_refused d
 

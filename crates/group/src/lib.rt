@@ -14,7 +14,7 @@ ghost use Rattle.group.specs.Inner.{DigitRepaired, BlockRepaired, Repairing, Wor
 use layout::Layout;
 
 // Where the layers of a block with one digit lie in a tray: so many runs of consecutive layers, each as far behind the one before.
-#[derive(Drop)]
+#[derive(Clone, Copy)]
 struct Runs {
     start: usize,
     run: usize,

@@ -14,7 +14,7 @@ use header::{byte_at, head, own_layout};
 use layout::{Layout, Tray};
 
 // What the images of a field have of their own: the number of their edition, the order of the field's root, how many symbols it has, and the bytes that one takes.
-#[derive(Drop)]
+#[derive(Clone, Copy)]
 pub struct Edition {
     pub number: u32,
     pub order: u32,
@@ -57,7 +57,7 @@ fn write_symbols(symbols: &[u8], out: &mut [u8])
     requires { (length out.old ≡ edition1.width * length symbols.now) × (all_below symbols.now edition1.size ≡ true) }
     ensures { out.new ≡ symbol_bytes edition1.width symbols.now }
 {
-    bytes::copy(symbols, out);
+    lists::copy_bytes(symbols, out);
 }
 
 // Writes the image of a tray.
@@ -80,7 +80,7 @@ pub fn write(l: Layout, tray: Tray, state: u32, volume: u32, symbols: &[u8], ima
         return refusal;
     }
     let h = head(FIRST, l, tray, state, volume);
-    bytes::copy(&h, image);
+    lists::copy_bytes(&h, image);
     write_symbols(symbols, &mut image[HEADER..]);
     0
 }

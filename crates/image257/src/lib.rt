@@ -74,7 +74,7 @@ pub fn write(
         return refusal;
     }
     let h = head(SECOND, l, tray, state, volume);
-    bytes::copy(&h, image);
+    lists::copy_bytes(&h, image);
     write_symbols(symbols, &mut image[HEADER..]);
     0
 }

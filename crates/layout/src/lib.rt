@@ -16,7 +16,7 @@ pub const LAYERS: u32 = 4096;
 
 // Document 01's B, u, k and d, and document 02's E (W12): any 32-bit values.
 #[repr(C)]
-#[derive(Drop)]
+#[derive(Clone, Copy)]
 pub struct Layout {
     pub racks: u32,
     pub size: u32,
@@ -26,7 +26,7 @@ pub struct Layout {
 }
 
 // The number of a rack.
-#[derive(Drop)]
+#[derive(Clone, Copy)]
 pub struct Rack(u32);
 
 impl Rack {
@@ -44,7 +44,7 @@ impl Rack {
 }
 
 // The number of a tray.
-#[derive(Drop)]
+#[derive(Clone, Copy)]
 pub struct Tray(u32);
 
 impl Tray {
@@ -62,7 +62,7 @@ impl Tray {
 }
 
 // The number of a layer.
-#[derive(Drop)]
+#[derive(Clone, Copy)]
 pub struct Layer(u32);
 
 impl Layer {

@@ -1,6 +1,6 @@
 // Laws on lists and plain numbers that every crate above shares (specs/, proofs/), and the tests of a list of tray or rack numbers that several calls
 // make, the smaller of two numbers, and clearing a buffer. Each test answers exactly what its definition says, for a list of any length and content.
-ghost use Rattle.std.specs.Prelude.{◌≡◌, min};
+ghost use Rattle.std.specs.Prelude.{◌≡◌, ◌≤◌, ◌++◌, min, take, drop, length};
 ghost use Rattle.lists.specs.Lists.{all_below, strictly_rising, absent};
 
 // Whether every number is below n.
@@ -50,4 +50,12 @@ pub fn smaller(a: u64, b: u64) -> u64
     ensures { result ≡ min a b }
 {
     if a < b { a } else { b }
+}
+
+// Copies bytes to the front of a buffer.
+pub fn copy_bytes(from: &[u8], to: &mut [u8])
+    requires { length from.now ≤ length to.old }
+    ensures { to.new ≡ take (length from.now) from.now ++ drop (length from.now) to.old }
+{
+    to[..from.len()].copy_from_slice(from);
 }

@@ -70,10 +70,10 @@ pub record Records {A : Type 0} (f : Field A) (e : Edition) (l : Layout) : Type 
   -- past the grounds 1 to 4 a rack is gathered exactly when every tray that is not lost is live and its own; otherwise the answer is 9, 10
   -- or 11
   pub rack_exactly : (volume i : ℕ) (lost images room : List ℕ) → RackAsked e l i lost images room →
-      let ground = rack_refusal e l volume i lost images (length room) in
-      ((ground ≡ 0)
+      let reason = rack_refusal e l volume i lost images (length room) in
+      ((reason ≡ 0)
       ↔ ((g : ℕ) → g < l.size → absent lost (i * l.size + g) ≡ true → is_live e l volume (i * l.size + g) (image_of e l images g) ≡ true))
-      × ((ground ≡ 0) ⊎ (ground ≡ 9) ⊎ (ground ≡ 10) ⊎ (ground ≡ 11))
+      × ((reason ≡ 0) ⊎ (reason ≡ 9) ⊎ (reason ≡ 10) ⊎ (reason ≡ 11))
   -- THE ACCIDENT. For two cabinets in which the same trays are present and these are alike, whatever stands at the other places: a rack is
   -- gathered from both or from neither (so refused where a tray looked at is not live), and gives the same
   pub rack_same : (volume : ℕ) (images images' : List ℕ) → SamePresent e l volume images images' → (i : ℕ) (lost room : List ℕ) →

@@ -50,7 +50,7 @@ module _ {A : Type 0} {f : Field A} (W : Working f) (l : Layout) (es c : List �
 
     pub answer_refused : ¬ (number ≡ 8) → ¬ (number ≡ 0) → CorrectionRefused f l es c d (record { refusal = number; tray = 0; checks = 0 })
     answer_refused n m = record {
-      ground = omega arith;
+      reason = omega arith;
       refused = p.refused;
       last = λ z. absurd (n (p.answers z m));
       kept = p.unchanged
@@ -75,7 +75,7 @@ module _ {A : Type 0} {f : Field A} (W : Working f) (l : Layout) (es c : List �
     pub answer_few : (left : ℕ) → left ≡ checks l - length es → left < 2 → CorrectionRefused f l es c c
         (record { refusal = 8; tray = 0; checks = 0 })
     answer_few left e h = record {
-      ground = omega arith;
+      reason = omega arith;
       refused = λ z. absurd (z no_ground);
       last = λ z. (refl, record { none = none; without = λ q. absurd (omega arith) });
       kept = refl;
@@ -94,7 +94,7 @@ module _ {A : Type 0} {f : Field A} (W : Working f) (l : Layout) (es c : List �
         answer_none b =
             let all : x ≡ trays l = (let q = r.high in omega arith) in
             record {
-              ground = omega arith;
+              reason = omega arith;
               refused = λ z. absurd (z no_ground);
               last = λ z. (refl, record { none = none; without = λ q y s. fitting q y s (r.none all y) });
               kept = r.kept all;

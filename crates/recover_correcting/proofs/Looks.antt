@@ -63,7 +63,7 @@ module _ {A : Type 0} (f : Field A) (l : Layout) (es c c' : List ℕ) (s : Survi
   refused_moved : (d : List ℕ) (e : ℕ) → CorrectionRefused f l es c' d (report (Refused e)) → CorrectionRefused f l es c c
       (report (Refused e))
   refused_moved d e p = record {
-    ground = p.ground;
+    reason = p.reason;
     refused = λ n. p.refused (λ z. n (refusal_same f l es c c' s ∙ z)) ∙ sym (refusal_same f l es c c' s);
     last = λ z. let q = p.last (sym (refusal_same f l es c c' s) ∙ z) in (q.0, not_correctable_moved q.1);
     kept = refl;
@@ -76,4 +76,4 @@ module _ {A : Type 0} (f : Field A) (l : Layout) (es c c' : List ℕ) (s : Survi
       (q.0, λ h. q.1)
   never_looks W d d' r (Refused e) p p' =
       let q = answer_unique f l W es c d c r (Refused e) p (refused_moved d' e p') in
-      (q.0, λ h. absurd (let z = sym (ap (λ v. (report v).refusal) q.0) ∙ h in let g = p'.ground in omega arith))
+      (q.0, λ h. absurd (let z = sym (ap (λ v. (report v).refusal) q.0) ∙ h in let g = p'.reason in omega arith))

@@ -194,7 +194,7 @@ module _ {A : Type 0} (f : Field A) (l : Layout) where
         Surviving l (with_tray es y) z → (w : List ℕ) → Codeword f l w →
         Survivors l (with_tray (with_tray es y) z) c w → (d : List ℕ) (r : Recovered) → CorrectionAnswer f l es c d r →
         (report r).refusal ≡ 0 → d ≡ w
-    two_wrong_safe no_ground few y z sy sz w good s d (Refused e) p h = absurd (let g = p.ground in omega arith)
+    two_wrong_safe no_ground few y z sy sz w good s d (Refused e) p h = absurd (let g = p.reason in omega arith)
     two_wrong_safe no_ground few y z sy sz w good s d (Done x left) p h = go (ℕ_discrete x (trays l))
       where
         listed_one : Listed l (with_tray es y)

@@ -52,7 +52,7 @@ module _ {A : Type 0} (f : Field A) (l : Layout) where
 
     -- a call that is refused: the grounds of a recovery, 8 last; no symbol changed
     pub record CorrectionRefused (d : List ℕ) (n : RecoveredNumbers) : Type 0 where
-      pub ground : 0 < n.refusal
+      pub reason : 0 < n.refusal
       pub refused : ¬ (recover_refusal f l es c ≡ 0) → n.refusal ≡ recover_refusal f l es c
       pub last : recover_refusal f l es c ≡ 0 → (n.refusal ≡ 8) × NotCorrectable
       pub kept : d ≡ c

@@ -15,7 +15,7 @@ use symbol::plain::ORDER;
 
 // The record of a walk: the next layer, how many layers below it are bad, and the first bad one; L for none.
 #[repr(C)]
-#[derive(Drop)]
+#[derive(Clone, Copy)]
 pub struct Walk {
     pub next: u32,
     pub bad: u32,

@@ -23,7 +23,7 @@ const SHORT: usize = 4;
 const AT_ONCE: u32 = 4;
 
 // The numbers of a layout that a call needs again and again, worked out once.
-#[derive(Drop)]
+#[derive(Clone, Copy)]
 pub struct Counts {
     pub digits: u32,
     pub layers: u32,
@@ -45,7 +45,7 @@ pub fn counts_of(l: Layout) -> Counts
 
 // How a tray's layers lie for a host rack: for each of so many runs of consecutive groups one run of layers for each digit of that rack, one after another; and how
 // many layers there are.
-#[derive(Drop)]
+#[derive(Clone, Copy)]
 pub struct HostRuns {
     pub digits: usize,
     pub length: usize,

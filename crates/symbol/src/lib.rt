@@ -18,7 +18,7 @@ use powers::{all_powers, power_at};
 use shift_add::product;
 
 // A symbol.
-#[derive(Drop)]
+#[derive(Clone, Copy)]
 pub struct Symbol(pub u8);
 
 impl Symbol {

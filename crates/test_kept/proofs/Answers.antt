@@ -23,8 +23,8 @@ use Rattle.test_kept.specs.TestKept.{KeptAnswer}
 use Rattle.test_kept.specs.Inner.{FirstLayer}
 use Rattle.test_kept.proofs.Settled.{answer_sound, answer_bad}
 
-module _ {A : Type 0} {f : Field A} (W : Working f) (l : Layout) (es c : List ℕ) (ground : ℕ) (e : ground ≡ recover_refusal f l es c) where
-  module _ (z : ground ≡ 0) where
+module _ {A : Type 0} {f : Field A} (W : Working f) (l : Layout) (es c : List ℕ) (reason : ℕ) (e : reason ≡ recover_refusal f l es c) where
+  module _ (z : reason ≡ 0) where
     no_ground : recover_refusal f l es c ≡ 0
     no_ground = sym e ∙ z
 

@@ -1,9 +1,9 @@
 // Lists of trays and lists of racks, told apart by their types.
 
 // A list of trays' numbers, as it was lent.
-#[derive(Drop)]
+#[derive(Clone, Copy)]
 pub struct Trays<'a>(pub &'a [u32]);
 
 // A list of racks' numbers, as it was lent.
-#[derive(Drop)]
+#[derive(Clone, Copy)]
 pub struct Racks<'a>(pub &'a [u32]);

@@ -11,15 +11,15 @@ use Rattle.batch_factors.proofs.Steps.{inverted_none, inverted_more, inverted_en
 use Rattle.batch_factors.proofs.invert.Statement.{statement}
 use Rattle.batch_factors.proofs.invert.Tie as tie
 
-abbrev invariant-loop : tie.invariant-loop
-invariant-loop den₀ s o₀ den o = (o ≤ s) × (length den ≡ length den₀) × Inverted gf256 den₀ den o
+abbrev invariant-loop-o : tie.invariant-loop-o
+invariant-loop-o den₀ s o₀ den o = (o ≤ s) × (length den ≡ length den₀) × Inverted gf256 den₀ den o
 
-abbrev decreases-loop : tie.decreases-loop
-decreases-loop den₀ s o₀ den o = s - o
+abbrev decreases-loop-o : tie.decreases-loop-o
+decreases-loop-o den₀ s o₀ den o = s - o
 
 pub invert_spec : {M : Type 1} → statement M
 invert_spec =
-    tie.close (tie.spec invariant-loop decreases-loop
+    tie.close (tie.spec invariant-loop-o decreases-loop-o
     (λ c. (omega arith, refl, inverted_none working _))
     (λ c κs. omega arith)
     (λ c κs. search rules)

@@ -12,15 +12,15 @@ use Rattle.batch_factors.proofs.Steps.{factors_none, factors_more, factors_end, 
 use Rattle.batch_factors257.proofs.factor_rows.Statement.{statement}
 use Rattle.batch_factors257.proofs.factor_rows.Tie as tie
 
-abbrev invariant-loop : tie.invariant-loop
-invariant-loop g₀ wide known n points s den xs₀ t₀ g xs t = (t ≤ n) × (length g ≡ length g₀) × (length xs ≡ length xs₀) × Factored gf257 known points s wide t g₀ g
+abbrev invariant-loop-t : tie.invariant-loop-t
+invariant-loop-t g₀ wide known n points s den xs₀ t₀ g xs t = (t ≤ n) × (length g ≡ length g₀) × (length xs ≡ length xs₀) × Factored gf257 known points s wide t g₀ g
 
-abbrev decreases-loop : tie.decreases-loop
-decreases-loop g₀ wide known n points s den xs₀ t₀ g xs t = n - t
+abbrev decreases-loop-t : tie.decreases-loop-t
+decreases-loop-t g₀ wide known n points s den xs₀ t₀ g xs t = n - t
 
 pub factor_rows_spec : {M : Type 1} → statement M
 factor_rows_spec =
-    tie.close (tie.spec invariant-loop decreases-loop
+    tie.close (tie.spec invariant-loop-t decreases-loop-t
     (λ c. (omega arith, refl, refl, factors_none working _ _ _ _ _))
     (λ c. search solving_fits)
     (λ c κs. search solving_known)

@@ -13,15 +13,15 @@ use Rattle.batch_factors.proofs.Steps.{step_more}
 use Rattle.batch_factors257.proofs.times_step.Statement.{statement}
 use Rattle.batch_factors257.proofs.times_step.Tie as tie
 
-abbrev invariant-loop : tie.invariant-loop
-invariant-loop g₀ to len xs v j₀ g j = (j ≤ len) × (length g ≡ length g₀) × Run (step_at gf257 g₀ to xs v) g₀ g to j
+abbrev invariant-loop-j : tie.invariant-loop-j
+invariant-loop-j g₀ to len xs v j₀ g j = (j ≤ len) × (length g ≡ length g₀) × Run (step_at gf257 g₀ to xs v) g₀ g to j
 
-abbrev decreases-loop : tie.decreases-loop
-decreases-loop g₀ to len xs v j₀ g j = len - j
+abbrev decreases-loop-j : tie.decreases-loop-j
+decreases-loop-j g₀ to len xs v j₀ g j = len - j
 
 pub times_step_spec : {M : Type 1} → statement M
 times_step_spec =
-    tie.close (tie.spec invariant-loop decreases-loop
+    tie.close (tie.spec invariant-loop-j decreases-loop-j
     (λ c. (omega arith, refl, run_none _ _ _))
     (λ c. omega arith)
     (λ c. omega arith)

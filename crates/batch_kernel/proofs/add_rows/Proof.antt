@@ -9,15 +9,15 @@ use Rattle.batch_kernel.proofs.Weights.{rows_none, rows_more, rows_end, row_colu
 use Rattle.batch_kernel.proofs.add_rows.Statement.{statement}
 use Rattle.batch_kernel.proofs.add_rows.Tie as tie
 
-abbrev invariant-loop : tie.invariant-loop
-invariant-loop acc₀ rows w tab picks at wide o₀ acc o = (o ≤ rows) × (length acc ≡ length acc₀) × RowsAdded tab picks at wide w acc₀ acc o
+abbrev invariant-loop-o : tie.invariant-loop-o
+invariant-loop-o acc₀ rows w tab picks at wide o₀ acc o = (o ≤ rows) × (length acc ≡ length acc₀) × RowsAdded tab picks at wide w acc₀ acc o
 
-abbrev decreases-loop : tie.decreases-loop
-decreases-loop acc₀ rows w tab picks at wide o₀ acc o = rows - o
+abbrev decreases-loop-o : tie.decreases-loop-o
+decreases-loop-o acc₀ rows w tab picks at wide o₀ acc o = rows - o
 
 pub add_rows_spec : {M : Type 1} → statement M
 add_rows_spec =
-    tie.close (tie.spec invariant-loop decreases-loop
+    tie.close (tie.spec invariant-loop-o decreases-loop-o
     (λ c. (omega arith, refl, rows_none _ _ _ _ _ _))
     (λ c. omega arith)
     (λ c. row_at_fits _ _ _ _ c.before.before.before.before.before.before.requires.2 _ (omega arith) (search rules))

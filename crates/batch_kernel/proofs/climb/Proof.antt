@@ -12,15 +12,15 @@ use Rattle.batch_kernel.proofs.Weights.{climb_more}
 use Rattle.batch_kernel.proofs.climb.Statement.{statement}
 use Rattle.batch_kernel.proofs.climb.Tie as tie
 
-abbrev invariant-loop : tie.invariant-loop
-invariant-loop cur₀ w tab picks at wide j₀ cur j = (j ≤ w) × (length cur ≡ length cur₀) × Standing gf256 (ladder_at tab picks at wide) cur₀ cur 0 j
+abbrev invariant-loop-j : tie.invariant-loop-j
+invariant-loop-j cur₀ w tab picks at wide j₀ cur j = (j ≤ w) × (length cur ≡ length cur₀) × Standing gf256 (ladder_at tab picks at wide) cur₀ cur 0 j
 
-abbrev decreases-loop : tie.decreases-loop
-decreases-loop cur₀ w tab picks at wide j₀ cur j = w - j
+abbrev decreases-loop-j : tie.decreases-loop-j
+decreases-loop-j cur₀ w tab picks at wide j₀ cur j = w - j
 
 pub climb_spec : {M : Type 1} → statement M
 climb_spec =
-    tie.close (tie.spec invariant-loop decreases-loop
+    tie.close (tie.spec invariant-loop-j decreases-loop-j
     (λ c. (omega arith, refl, standing_none gf256 _ _ _))
     (λ c κs. search rules)
     (λ c. omega arith)

@@ -9,15 +9,15 @@ use Rattle.batch_kernel.proofs.Picks.{four_none, four_more, four_end, four_room,
 use Rattle.batch_kernel.proofs.pick_four.Statement.{statement}
 use Rattle.batch_kernel.proofs.pick_four.Tie as tie
 
-abbrev invariant-loop : tie.invariant-loop
-invariant-loop picks₀ to g at wide k₀ picks k = (k ≤ 8) × (length picks ≡ length picks₀) × PickedFour g at wide to k picks₀ picks
+abbrev invariant-loop-k : tie.invariant-loop-k
+invariant-loop-k picks₀ to g at wide k₀ picks k = (k ≤ 8) × (length picks ≡ length picks₀) × PickedFour g at wide to k picks₀ picks
 
-abbrev decreases-loop : tie.decreases-loop
-decreases-loop picks₀ to g at wide k₀ picks k = 8 - k
+abbrev decreases-loop-k : tie.decreases-loop-k
+decreases-loop-k picks₀ to g at wide k₀ picks k = 8 - k
 
 pub pick_four_spec : {M : Type 1} → statement M
 pick_four_spec =
-    tie.close (tie.spec invariant-loop decreases-loop
+    tie.close (tie.spec invariant-loop-k decreases-loop-k
     (λ c. (omega arith, refl, four_none _ _ _ _ _))
     (λ c. omega arith)
     (λ c. search step_fits)

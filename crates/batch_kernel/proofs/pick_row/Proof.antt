@@ -9,15 +9,15 @@ use Rattle.batch_kernel.proofs.Picks.{row_none, row_more, row_end, reads_in}
 use Rattle.batch_kernel.proofs.pick_row.Statement.{statement}
 use Rattle.batch_kernel.proofs.pick_row.Tie as tie
 
-abbrev invariant-loop : tie.invariant-loop
-invariant-loop picks₀ to g at wide k o₀ picks o = (o ≤ wide) × (length picks ≡ length picks₀) × PickedRow g at wide k to o picks₀ picks
+abbrev invariant-loop-o : tie.invariant-loop-o
+invariant-loop-o picks₀ to g at wide k o₀ picks o = (o ≤ wide) × (length picks ≡ length picks₀) × PickedRow g at wide k to o picks₀ picks
 
-abbrev decreases-loop : tie.decreases-loop
-decreases-loop picks₀ to g at wide k o₀ picks o = wide - o
+abbrev decreases-loop-o : tie.decreases-loop-o
+decreases-loop-o picks₀ to g at wide k o₀ picks o = wide - o
 
 pub pick_row_spec : {M : Type 1} → statement M
 pick_row_spec =
-    tie.close (tie.spec invariant-loop decreases-loop
+    tie.close (tie.spec invariant-loop-o decreases-loop-o
     (λ c. (omega arith, refl, row_none _ _ _ _ _ _))
     (λ c. omega arith)
     (λ c κs. (search reads_in, search rules))

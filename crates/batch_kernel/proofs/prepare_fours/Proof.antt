@@ -9,15 +9,15 @@ use Rattle.batch_kernel.proofs.Picks.{all_none, all_more, all_end, all_room, eig
 use Rattle.batch_kernel.proofs.prepare_fours.Statement.{statement}
 use Rattle.batch_kernel.proofs.prepare_fours.Tie as tie
 
-abbrev invariant-loop : tie.invariant-loop
-invariant-loop picks₀ g wide n q₀ picks q = (q ≤ n) × (length picks ≡ length picks₀) × Prepared g wide q picks₀ picks
+abbrev invariant-loop-q : tie.invariant-loop-q
+invariant-loop-q picks₀ g wide n q₀ picks q = (q ≤ n) × (length picks ≡ length picks₀) × Prepared g wide q picks₀ picks
 
-abbrev decreases-loop : tie.decreases-loop
-decreases-loop picks₀ g wide n q₀ picks q = n - q
+abbrev decreases-loop-q : tie.decreases-loop-q
+decreases-loop-q picks₀ g wide n q₀ picks q = n - q
 
 pub prepare_fours_spec : {M : Type 1} → statement M
 prepare_fours_spec =
-    tie.close (tie.spec invariant-loop decreases-loop
+    tie.close (tie.spec invariant-loop-q decreases-loop-q
     (λ c. (omega arith, refl, all_none _ _ _))
     (λ c. search eight_rows_fit)
     (λ c. search eight_start_fits)

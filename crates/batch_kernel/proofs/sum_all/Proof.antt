@@ -12,19 +12,19 @@ use Rattle.batch_kernel.proofs.Weights.{sums_none, sums_more, sums_end, summing_
 use Rattle.batch_kernel.proofs.sum_all.Statement.{statement}
 use Rattle.batch_kernel.proofs.sum_all.Tie as tie
 
-abbrev invariant-loop : tie.invariant-loop
-invariant-loop tab₀ acc₀ rows w src at picks wide first count q₀ tab acc q = (q ≤ count) × (length tab ≡ length tab₀) × (length acc ≡ length acc₀) × Summed gf256 (weight_at picks wide) src at first w rows q acc₀ acc
+abbrev invariant-loop-q : tie.invariant-loop-q
+invariant-loop-q tab₀ acc₀ rows w src at picks wide first count q₀ tab acc q = (q ≤ count) × (length tab ≡ length tab₀) × (length acc ≡ length acc₀) × Summed gf256 (weight_at picks wide) src at first w rows q acc₀ acc
 
-abbrev decreases-loop : tie.decreases-loop
-decreases-loop tab₀ acc₀ rows w src at picks wide first count q₀ tab acc q = count - q
+abbrev decreases-loop-q : tie.decreases-loop-q
+decreases-loop-q tab₀ acc₀ rows w src at picks wide first count q₀ tab acc q = count - q
 
 pub sum_all_spec : {M : Type 1} → statement M
 sum_all_spec =
-    tie.close (tie.spec invariant-loop decreases-loop
+    tie.close (tie.spec invariant-loop-q decreases-loop-q
     (λ c. omega arith)
     (λ c κs. omega arith)
     (λ c. (omega arith, refl, refl, search (sums_none working)))
-    (λ c κs. (summing_still _ _ _ _ _ _ _ _ _ _ _ _ c.before.before.before.before.before.before.before.before.before.before.before.before.before.requires c.before.before.before.before.before.before.fill.ensures c.before.before.before.loop.invariant.2 c.before.before.before.loop.invariant.1, search rules))
+    (λ c κs. (summing_still _ _ _ _ _ _ _ _ _ _ _ _ c.before.before.before.before.before.before.before.before.before.before.before.before.before.requires c.before.before.before.before.before.before.fill.ensures c.before.before.before.loop-q.invariant.2 c.before.before.before.loop-q.invariant.1, search rules))
     (λ c. omega arith)
     (λ c. omega arith)
     (λ c. (omega arith, search rules, search rules, search (sums_more working)))

@@ -8,13 +8,13 @@ use borrow.Author.Rules.{rules}
 use Rattle.batch_kernel.proofs.sum_rows.Statement.{statement}
 use Rattle.batch_kernel.proofs.sum_rows.Tie as tie
 
-slice_aggregate_sum_all : tie.Need-slice-aggregate-sum-all
+slice_aggregate_sum_all : tie.Need-slice_bounds-sum_all-end
 slice_aggregate_sum_all c = search rules
 
-sum_all_requires : tie.Need-sum-all-requires
+sum_all_requires : tie.Need-sum_all-requires
 sum_all_requires c κs = search summing
 
-same_length : tie.Need-same-length
+same_length : tie.Need-shape_of-acc
 same_length c = search rules
 
 returns : tie.Need-returns

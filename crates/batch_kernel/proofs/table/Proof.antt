@@ -10,15 +10,15 @@ use Rattle.batch_kernel.proofs.Spots.{tabled_none, tabled_more, tabled_end}
 use Rattle.batch_kernel.proofs.table.Statement.{statement}
 use Rattle.batch_kernel.proofs.table.Tie as tie
 
-abbrev invariant-loop : tie.invariant-loop
-invariant-loop tab₀ to w src p0 p1 p2 p3 j₀ tab j = (j ≤ w) × (length tab ≡ length tab₀) × Tabled gf256 src p0 p1 p2 p3 to j tab₀ tab
+abbrev invariant-loop-j : tie.invariant-loop-j
+invariant-loop-j tab₀ to w src p0 p1 p2 p3 j₀ tab j = (j ≤ w) × (length tab ≡ length tab₀) × Tabled gf256 src p0 p1 p2 p3 to j tab₀ tab
 
-abbrev decreases-loop : tie.decreases-loop
-decreases-loop tab₀ to w src p0 p1 p2 p3 j₀ tab j = w - j
+abbrev decreases-loop-j : tie.decreases-loop-j
+decreases-loop-j tab₀ to w src p0 p1 p2 p3 j₀ tab j = w - j
 
 pub table_spec : {M : Type 1} → statement M
 table_spec =
-    tie.close (tie.spec invariant-loop decreases-loop
+    tie.close (tie.spec invariant-loop-j decreases-loop-j
     (λ c. (omega arith, refl, tabled_none gf256 _ _ _ _ _ _ _))
     (λ c. omega arith)
     (λ c. omega arith)
@@ -32,6 +32,6 @@ table_spec =
     (λ c κs. omega arith)
     (λ c. omega arith)
     (λ c. omega arith)
-    (λ c. (omega arith, search rules, tabled_more gf256 _ _ _ _ _ _ _ _ _ _ c.before.before.before.before.before.before.before.before.before.before.before.before.args.w (omega arith) (omega arith) c.before.before.before.before.before.before.before.before.before.loop.invariant.2 c.before.before.sixteen.ensures))
+    (λ c. (omega arith, search rules, tabled_more gf256 _ _ _ _ _ _ _ _ _ _ c.before.before.before.before.before.before.before.before.before.before.before.before.args.w (omega arith) (omega arith) c.before.before.before.before.before.before.before.before.before.loop-j.invariant.2 c.before.before.sixteen.ensures))
     (λ c. search rules)
     (λ c. search (tabled_end gf256)))

@@ -13,15 +13,15 @@ use Rattle.batch_kernel257.proofs.Rows.{row_none, row_next, row_end, factor_read
 use Rattle.batch_kernel257.proofs.sum_row.Statement.{statement}
 use Rattle.batch_kernel257.proofs.sum_row.Tie as tie
 
-abbrev invariant-loop : tie.invariant-loop
-invariant-loop acc₀ to w src at picks wide o n t₀ acc t = (t ≤ n) × (length acc ≡ length acc₀) × Run (row_of gf257 (weight_at picks wide) src at o t) acc₀ acc to w
+abbrev invariant-loop-t : tie.invariant-loop-t
+invariant-loop-t acc₀ to w src at picks wide o n t₀ acc t = (t ≤ n) × (length acc ≡ length acc₀) × Run (row_of gf257 (weight_at picks wide) src at o t) acc₀ acc to w
 
-abbrev decreases-loop : tie.decreases-loop
-decreases-loop acc₀ to w src at picks wide o n t₀ acc t = n - t
+abbrev decreases-loop-t : tie.decreases-loop-t
+decreases-loop-t acc₀ to w src at picks wide o n t₀ acc t = n - t
 
 pub sum_row_spec : {M : Type 1} → statement M
 sum_row_spec =
-    tie.close (tie.spec invariant-loop decreases-loop
+    tie.close (tie.spec invariant-loop-t decreases-loop-t
     (λ c. omega arith)
     (λ c κs. search adding_here)
     (λ c. (omega arith, search rules, search (row_none working)))
@@ -33,6 +33,6 @@ sum_row_spec =
     (λ c κs. (search adding_room, search row_in))
     (λ c. omega arith)
     (λ c. omega arith)
-    (λ c. let a = c.before.before.before.before.before.before.before.before.before.before.before.before.before.before.before.before.args in (omega arith, search rules, row_next a.picks.now a.wide a.src.now a.at.now a.o a.to a.w c.before.before.before.before.before.before.before.before.before.before.fill.new.0 c.before.before.before.before.before.before.before.loop.t _ _ _ c.before.before.before.before.before.at.ensures c.before.before.before.before.before.before.before.loop.invariant.2 c.before.before.add-multiple.ensures))
+    (λ c. let a = c.before.before.before.before.before.before.before.before.before.before.before.before.before.before.before.before.args in (omega arith, search rules, row_next a.picks.now a.wide a.src.now a.at.now a.o a.to a.w c.before.before.before.before.before.before.before.before.before.before.fill.new.0 c.before.before.before.before.before.before.before.loop-t.t _ _ _ c.before.before.before.before.before.at-v.ensures c.before.before.before.before.before.before.before.loop-t.invariant.2 c.before.before.add_multiple.ensures))
     (λ c. search rules)
     (λ c. search (row_end working)))

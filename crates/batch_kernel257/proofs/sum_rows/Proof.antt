@@ -11,15 +11,15 @@ use Rattle.batch_kernel257.proofs.Rows.{sums_none, sums_more, sums_end, adding}
 use Rattle.batch_kernel257.proofs.sum_rows.Statement.{statement}
 use Rattle.batch_kernel257.proofs.sum_rows.Tie as tie
 
-abbrev invariant-loop : tie.invariant-loop
-invariant-loop acc₀ rows w src at picks wide first o₀ acc o = (o ≤ rows) × (length acc ≡ length acc₀) × Summed gf257 (weight_at picks wide) src at first w o (length at / 8) acc₀ acc
+abbrev invariant-loop-o : tie.invariant-loop-o
+invariant-loop-o acc₀ rows w src at picks wide first o₀ acc o = (o ≤ rows) × (length acc ≡ length acc₀) × Summed gf257 (weight_at picks wide) src at first w o (length at / 8) acc₀ acc
 
-abbrev decreases-loop : tie.decreases-loop
-decreases-loop acc₀ rows w src at picks wide first o₀ acc o = rows - o
+abbrev decreases-loop-o : tie.decreases-loop-o
+decreases-loop-o acc₀ rows w src at picks wide first o₀ acc o = rows - o
 
 pub sum_rows_spec : {M : Type 1} → statement M
 sum_rows_spec =
-    tie.close (tie.spec invariant-loop decreases-loop
+    tie.close (tie.spec invariant-loop-o decreases-loop-o
     (λ c. (omega arith, refl, sums_none _ _ _ _ _ _ _))
     (λ c. omega arith)
     (λ c. omega arith)

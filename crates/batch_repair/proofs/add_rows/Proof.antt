@@ -8,29 +8,29 @@ use Rattle.batch_repair.proofs.Rows.{card_none, card_more, card_end}
 use Rattle.batch_repair.proofs.add_rows.Statement.{statement}
 use Rattle.batch_repair.proofs.add_rows.Tie as tie
 
-abbrev invariant-loop : tie.invariant-loop
-invariant-loop out₀ to len card at d shares from far k₀ out k = (k ≤ d) × Run (card_row gf256 card at shares from far k) out₀ out to len
+abbrev invariant-loop-k : tie.invariant-loop-k
+invariant-loop-k out₀ to len card at d shares from far k₀ out k = (k ≤ d) × Run (card_row gf256 card at shares from far k) out₀ out to len
 
-abbrev decreases-loop : tie.decreases-loop
-decreases-loop out₀ to len card at d shares from far k₀ out k = d - k
+abbrev decreases-loop-k : tie.decreases-loop-k
+decreases-loop-k out₀ to len card at d shares from far k₀ out k = d - k
 
 pub add_rows_spec : {M : Type 1} → statement M
 add_rows_spec =
     tie.close
     (tie.spec
-    invariant-loop
-    decreases-loop
+    invariant-loop-k
+    decreases-loop-k
     (λ c. (omega arith, search (card_none working)))
     (λ c. omega (arith, c.before.before.before.before.before.requires.card_long))
     (λ c κs. omega (arith, c.before.before.before.before.before.requires.card_long))
-    (λ c. omega (arith, c.before.before.before.before.before.before.before.requires.rows _ c.before.before.loop-test.true))
-    (λ c. omega (arith, c.before.before.before.before.before.before.before.requires.rows _ c.before.before.loop-test.true))
+    (λ c. omega (arith, c.before.before.before.before.before.before.before.requires.rows _ c.before.before.loop-k-test.true))
+    (λ c. omega (arith, c.before.before.before.before.before.before.before.requires.rows _ c.before.before.loop-k-test.true))
     (λ c κs. (
-      omega (arith, c.before.before.before.loop.invariant.1.long, c.before.before.before.before.before.before.before.requires.room),
-      c.before.before.before.before.before.before.before.requires.rows _ c.before.before.loop-test.true,
+      omega (arith, c.before.before.before.loop-k.invariant.1.long, c.before.before.before.before.before.before.before.requires.room),
+      c.before.before.before.before.before.before.before.requires.rows _ c.before.before.loop-k-test.true,
     ))
     (λ c. omega arith)
     (λ c. omega arith)
     (λ c. (omega arith, search (card_more working)))
-    (λ c. c.before.loop.invariant.1.long)
+    (λ c. c.before.loop-k.invariant.1.long)
     (λ c. search (card_end working)))

@@ -18,13 +18,13 @@ batch_symbols_spec =
     (λ c. search rules)
     (λ c κs. search rules)
     (λ c. search rules)
-    (λ c. let e = c.before.before.group-count.ensures in let a = c.before.before.before.before.before.before.before.args in
+    (λ c. let e = c.before.before.group_count-total.ensures in let a = c.before.before.before.before.before.before.before.args in
     omega (
       arith,
       shares_in gf256 a.l a.many a.x a.shares.now a.host.now a.first a.budget
-          c.before.before.before.before.before.before.before.requires c.before.before.group-count.result (omega (
+          c.before.before.before.before.before.before.before.requires c.before.before.group_count-total.result (omega (
             arith,
-            c.before.before.group-count.ensures,
+            c.before.before.group_count-total.ensures,
           )),
     ))
     (λ c. let a = c.before.before.before.before.before.before.before.args in
@@ -33,29 +33,29 @@ batch_symbols_spec =
       shares_in gf256 a.l a.many a.x a.shares.now a.host.now a.first a.budget
           c.before.before.before.before.before.before.before.requires a.first (omega (
             arith,
-            c.before.before.group-count.ensures,
-            c.before.if2.false,
+            c.before.before.group_count-total.ensures,
+            c.before.if-total-first.false,
           )),
     ))
     (λ c. let a = c.before.before.before.before.before.before.before.args in
     omega (
       arith,
       shares_in gf256 a.l a.many a.x a.shares.now a.host.now a.first a.budget
-          c.before.before.before.before.before.before.before.requires c.smaller.result (omega (
+          c.before.before.before.before.before.before.before.requires c.smaller-count.result (omega (
             arith,
-            c.before.before.group-count.ensures,
-            c.before.if2.false,
-            c.smaller.ensures,
+            c.before.before.group_count-total.ensures,
+            c.before.if-total-first.false,
+            c.smaller-count.ensures,
           )),
     ))
     (λ c κs. let a = c.before.before.before.before.before.before.before.args in (
       rows_room gf256 a.l a.many a.x a.shares.now a.host.now a.first a.budget _ _ (omega (
         arith,
-        c.before.if2.false,
-        c.smaller.ensures,
+        c.before.if-total-first.false,
+        c.smaller-count.ensures,
       )),
       rows_long gf256 a.l a.many a.x a.shares.now a.host.now a.first a.budget
-          c.before.before.before.before.before.before.before.requires _ c.before.before.group-count.ensures,
+          c.before.before.before.before.before.before.before.requires _ c.before.before.group_count-total.ensures,
     ))
     (λ c. search (batch_false gf256))
     (λ c κs. search (batch_looking gf256))

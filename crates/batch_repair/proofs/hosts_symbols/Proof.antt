@@ -18,36 +18,36 @@ use Rattle.batch_repair.proofs.Symbols.{host_in, tray_is, places_so, total_in, u
 use Rattle.batch_repair.proofs.hosts_symbols.Statement.{statement}
 use Rattle.batch_repair.proofs.hosts_symbols.Tie as tie
 
-abbrev invariant-loop : tie.invariant-loop
-invariant-loop many x host first count u h lost total s unit g₀ g = (g ≤ u) × ((i : ℕ) → i < g → tray_symbols gf256 lost (h * u + i) host (i * total) s unit
+abbrev invariant-loop-g : tie.invariant-loop-g
+invariant-loop-g many x host first count u h lost total s unit g₀ g = (g ≤ u) × ((i : ℕ) → i < g → tray_symbols gf256 lost (h * u + i) host (i * total) s unit
     (first * many) (count * many) ≡ true)
 
-abbrev decreases-loop : tie.decreases-loop
-decreases-loop many x host first count u h lost total s unit g₀ g = u - g
+abbrev decreases-loop-g : tie.decreases-loop-g
+decreases-loop-g many x host first count u h lost total s unit g₀ g = u - g
 
-sound : (c : tie.After-block-width invariant-loop decreases-loop) (i : ℕ) (r : Bool) →
+sound : (c : tie.After-block_width invariant-loop-g decreases-loop-g) (i : ℕ) (r : Bool) →
     let a = c.before.before.before.before.args in
     i < a.l.size →
-    r ≡ tray_symbols gf256 (a.x ∷ []) (a.x / a.l.size * a.l.size + i) a.host.now (i * (c.before.before.layer-count.result * a.many))
-    c.before.digit-count.result
-    (c.block-width.result * a.many) (a.first * a.many) (a.count * a.many) →
+    r ≡ tray_symbols gf256 (a.x ∷ []) (a.x / a.l.size * a.l.size + i) a.host.now (i * (c.before.before.layer_count.result * a.many))
+    c.before.digit_count-s.result
+    (c.block_width.result * a.many) (a.first * a.many) (a.count * a.many) →
     r ≡ all (λ q. sound_symbols gf256 a.l (a.x ∷ []) (a.x / a.l.size) (part a.many q a.host.now) a.first a.count i) a.many
 sound c i r h e =
     let a = c.before.before.before.before.args in
     tray_is gf256 a.l a.many a.x a.host.now a.first a.count c.before.before.before.before.requires i _ _ _ _ _ r h
-    c.before.before.layer-count.ensures c.before.digit-count.ensures
-    c.block-width.ensures refl refl e
+    c.before.before.layer_count.ensures c.before.digit_count-s.ensures
+    c.block_width.ensures refl refl e
 
 pub hosts_symbols_spec : {M : Type 1} → statement M
 hosts_symbols_spec =
     tie.close
     (tie.spec
-    invariant-loop
-    decreases-loop
+    invariant-loop-g
+    decreases-loop-g
     (λ c. (bounds _ c.before.requires.adm).size_low)
     (λ c κs. search rules)
     (λ c. search rules)
-    (λ c. let a = c.before.before.args in let e : c.layer-count.result ≤ layers a.l = omega (arith, c.layer-count.ensures) in
+    (λ c. let a = c.before.before.args in let e : c.layer_count.result ≤ layers a.l = omega (arith, c.layer_count.ensures) in
     omega (arith, total_in gf256 a.l a.many a.x a.host.now a.first a.count c.before.before.requires _ e))
     (λ c κs. search rules)
     (λ c. search rules)
@@ -64,7 +64,7 @@ hosts_symbols_spec =
       arith,
       total_in gf256 a.l a.many a.x a.host.now a.first a.count c.before.before.before.before.requires _
           (unit_below gf256 a.l a.many a.x a.host.now a.first a.count c.before.before.before.before.requires _
-          c.block-width.ensures),
+          c.block_width.ensures),
     ))
     (λ c. (omega arith, below_none _))
     (λ c. search rules)
@@ -73,14 +73,14 @@ hosts_symbols_spec =
     omega (arith, div-add-mod' a.x a.l.size, p.lost_in, p.adm.trays_high))
     (λ c. let a = c.before.before.before.before.before.before.before.args in
     let p = c.before.before.before.before.before.before.before.requires in
-    omega (arith, div-add-mod' a.x a.l.size, p.lost_in, p.adm.trays_high, (bounds _ p.adm).size_high, c.before.loop-test.true))
+    omega (arith, div-add-mod' a.x a.l.size, p.lost_in, p.adm.trays_high, (bounds _ p.adm).size_high, c.before.loop-g-test.true))
     (λ c. search rules)
     (λ c. let a = c.before.before.before.before.before.before.before.args in
     omega (
       arith,
       start_in gf256 a.l a.many a.x a.host.now a.first a.count
-          c.before.before.before.before.before.before.before.requires _ _ c.before.loop-test.true
-          c.before.before.before.before.before.layer-count.ensures,
+          c.before.before.before.before.before.before.before.requires _ _ c.before.loop-g-test.true
+          c.before.before.before.before.before.layer_count.ensures,
     ))
     (λ c. let a = c.before.before.before.before.before.before.before.args in
     omega (
@@ -98,18 +98,18 @@ hosts_symbols_spec =
     ))
     (λ c κs. let a = c.before.before.before.before.before.before.before.args in
     places_so gf256 a.l a.many a.x a.host.now a.first a.count
-    c.before.before.before.before.before.before.before.requires _ _ _ _ _ _ c.before.loop-test.true
-    c.before.before.before.before.before.layer-count.ensures c.before.before.before.before.digit-count.ensures
-    c.before.before.before.block-width.ensures refl refl)
+    c.before.before.before.before.before.before.before.requires _ _ _ _ _ _ c.before.loop-g-test.true
+    c.before.before.before.before.before.layer_count.ensures c.before.before.before.before.digit_count-s.ensures
+    c.before.before.before.block_width.ensures refl refl)
     (λ c. hosts_false gf256 _ _ _ _ _ _ c.before.before.before.before.before.before.before.before.before.requires _ _
-    c.before.before.before.loop-test.true (sound c.before.before.before.before.before _ _
-    c.before.before.before.loop-test.true c.before.tray-symbols.ensures) c.if1.true)
+    c.before.before.before.loop-g-test.true (sound c.before.before.before.before.before _ _
+    c.before.before.before.loop-g-test.true c.before.tray_symbols.ensures) c.if-not-tray_symbols.true-raw)
     (λ c. omega arith)
     (λ c. omega arith)
     (λ c. (
       omega arith,
-      below_more _ _ c.before.before.before.before.loop.invariant.1 (told_true c.before.tray-symbols.ensures
-          c.if1.false),
+      below_more _ _ c.before.before.before.before.loop-g.invariant.1 (told_true c.before.tray_symbols.ensures
+          c.if-not-tray_symbols.false-raw),
     ))
-    (λ c. hosts_true gf256 _ _ _ _ _ _ c.before.before.before.before.before.before.requires c.before.loop.g (omega arith) (λ i h. sym (sound
-    c.before.before i true (omega (arith, c.before.loop.invariant.0)) (sym (c.before.loop.invariant.1 i h))))))
+    (λ c. hosts_true gf256 _ _ _ _ _ _ c.before.before.before.before.before.before.requires c.before.loop-g.g (omega arith) (λ i h. sym (sound
+    c.before.before i true (omega (arith, c.before.loop-g.invariant.0)) (sym (c.before.loop-g.invariant.1 i h))))))

@@ -22,7 +22,7 @@ repair_layer_spec =
     omega (
       arith,
       groups_in a.l a.many a.x a.card.now a.shares.now a.host.now a.p a.spare.now
-          c.before.before.before.before.before.before.requires.0 _ c.group-count.ensures,
+          c.before.before.before.before.before.before.requires.0 _ c.group_count.ensures,
     ))
     (λ c κs. search rules)
     (λ c. search rules)
@@ -30,7 +30,7 @@ repair_layer_spec =
     omega (
       arith,
       total_in a.l a.many a.x a.card.now a.shares.now a.host.now a.p a.spare.now
-          c.before.before.before.before.before.before.before.requires.0 _ c.layer-count.ensures,
+          c.before.before.before.before.before.before.before.requires.0 _ c.layer_count.ensures,
     ))
     (λ c. (bounds _ c.before.before.before.before.before.before.before.requires.0.wide.adm).size_low)
     (λ c κs. let a = c.before.before.before.before.before.before.before.args in
@@ -47,11 +47,11 @@ repair_layer_spec =
     omega (
       arith,
       layer_in a.l a.many a.x a.card.now a.shares.now a.host.now a.p a.spare.now
-          c.before.before.before.before.before.before.before.before.requires.0 _ c.layer-of.ensures.1,
+          c.before.before.before.before.before.before.before.before.requires.0 _ c.layer_of.ensures.1,
     ))
     (λ c κs. let a = c.before.before.before.before.before.before.before.before.before.args in
     layer_room a.l a.many a.x a.card.now a.shares.now a.host.now a.p a.spare.now
-    c.before.before.before.before.before.before.before.before.before.requires.0 _ c.before.layer-of.ensures.1 a.spare.now refl)
+    c.before.before.before.before.before.before.before.before.before.requires.0 _ c.before.layer_of.ensures.1 a.spare.now refl)
     (λ c. let p = c.before.before.before.before.before.before.before.before.before.before.before.before.before.requires in
     let b = bounds _ p.0.wide.adm in record {
       fits = mul_below tray_limit tray_limit (omega (arith, digits_small _ p.0.wide.adm, p.1))
@@ -66,28 +66,28 @@ repair_layer_spec =
     (λ c κs. let a = c.before.before.before.before.before.before.before.before.before.before.before.before.before.args in
     adding a.l a.many a.x a.card.now a.shares.now a.host.now a.p a.spare.now
     c.before.before.before.before.before.before.before.before.before.before.before.before.before.requires.0 _
-    c.before.before.before.before.before.layer-of.ensures.1 a.b _ _ _ _
+    c.before.before.before.before.before.layer_of.ensures.1 a.b _ _ _ _
     c.before.before.before.before.before.before.before.before.before.before.before.before.before.requires.1 (ap (λ n. n * a.many)
-    c.before.before.before.before.before.before.before.group-count.ensures) refl refl c.before.before.before.fill.ensures)
+    c.before.before.before.before.before.before.before.group_count.ensures) refl refl c.before.before.before.fill.ensures)
     (λ c. (bounds _ c.before.before.before.before.before.before.before.before.before.before.before.before.before.before.before.before.before.requires.0.wide.adm).size_low)
     (λ c κs. let a = c.before.before.before.before.before.before.before.before.before.before.before.before.before.before.before.before.before.args in
     lessening a.l a.many a.x a.card.now a.shares.now a.host.now a.p a.spare.now
     c.before.before.before.before.before.before.before.before.before.before.before.before.before.before.before.before.before.requires.0 _
-    c.before.before.before.before.before.before.before.before.before.layer-of.ensures.1 working a.b _ _ _ _ _
-    c.before.before.before.before.before.before.before.before.before.layer-of.ensures.0 (ap (λ n. n * a.many)
-    c.before.before.before.before.before.before.before.before.before.before.before.group-count.ensures) refl refl
-    c.before.before.before.before.before.before.before.fill.ensures c.before.before.before.add-rows.ensures _ (ap
-    (λ n. n * a.many) c.before.before.before.before.before.before.before.before.before.before.layer-count.ensures))
-    (λ c. c.before.before.subtract-rack.ensures.long
-    ∙ c.before.before.before.before.before.before.add-rows.ensures.long
+    c.before.before.before.before.before.before.before.before.before.layer_of.ensures.1 working a.b _ _ _ _ _
+    c.before.before.before.before.before.before.before.before.before.layer_of.ensures.0 (ap (λ n. n * a.many)
+    c.before.before.before.before.before.before.before.before.before.before.before.group_count.ensures) refl refl
+    c.before.before.before.before.before.before.before.fill.ensures c.before.before.before.add_rows.ensures _ (ap
+    (λ n. n * a.many) c.before.before.before.before.before.before.before.before.before.before.layer_count.ensures))
+    (λ c. c.before.before.subtract_rack.ensures.long
+    ∙ c.before.before.before.before.before.before.add_rows.ensures.long
     ∙ c.before.before.before.before.before.before.before.before.before.before.fill.ensures.long)
     (λ c. let a = c.before.before.before.before.before.before.before.before.before.before.before.before.before.before.before.before.before.before.before.before.args in
     layer_repaired a.l a.many a.x a.card.now a.shares.now a.host.now a.p a.spare.now
     c.before.before.before.before.before.before.before.before.before.before.before.before.before.before.before.before.before.before.before.before.requires.0 _
-    c.before.before.before.before.before.before.before.before.before.before.before.before.layer-of.ensures.1 working
-    a.b _ _ _ _ _ c.before.before.before.before.before.before.before.before.before.before.before.before.layer-of.ensures.0 (ap
-    (λ n. n * a.many) c.before.before.before.before.before.before.before.before.before.before.before.before.before.before.group-count.ensures) refl refl
+    c.before.before.before.before.before.before.before.before.before.before.before.before.layer_of.ensures.1 working
+    a.b _ _ _ _ _ c.before.before.before.before.before.before.before.before.before.before.before.before.layer_of.ensures.0 (ap
+    (λ n. n * a.many) c.before.before.before.before.before.before.before.before.before.before.before.before.before.before.group_count.ensures) refl refl
     c.before.before.before.before.before.before.before.before.before.before.fill.ensures
-    c.before.before.before.before.before.before.add-rows.ensures _ _ (ap (λ n. n * a.many)
-    c.before.before.before.before.before.before.before.before.before.before.before.before.before.layer-count.ensures)
-    c.before.before.subtract-rack.ensures))
+    c.before.before.before.before.before.before.add_rows.ensures _ _ (ap (λ n. n * a.many)
+    c.before.before.before.before.before.before.before.before.before.before.before.before.before.layer_count.ensures)
+    c.before.before.subtract_rack.ensures))

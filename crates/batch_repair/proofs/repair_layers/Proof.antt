@@ -7,27 +7,27 @@ use Rattle.batch_repair.proofs.Rows.{group_none, group_more, group_end, layers_a
 use Rattle.batch_repair.proofs.repair_layers.Statement.{statement}
 use Rattle.batch_repair.proofs.repair_layers.Tie as tie
 
-abbrev invariant-loop : tie.invariant-loop
-invariant-loop l many x card shares host p spare₀ s b₀ spare b = (b ≤ s) × GroupRepaired gf256 l many x card shares host p b spare₀ spare
+abbrev invariant-loop-b : tie.invariant-loop-b
+invariant-loop-b l many x card shares host p spare₀ s b₀ spare b = (b ≤ s) × GroupRepaired gf256 l many x card shares host p b spare₀ spare
 
-abbrev decreases-loop : tie.decreases-loop
-decreases-loop l many x card shares host p spare₀ s b₀ spare b = s - b
+abbrev decreases-loop-b : tie.decreases-loop-b
+decreases-loop-b l many x card shares host p spare₀ s b₀ spare b = s - b
 
 pub repair_layers_spec : {M : Type 1} → statement M
 repair_layers_spec =
     tie.close
     (tie.spec
-    invariant-loop
-    decreases-loop
+    invariant-loop-b
+    decreases-loop-b
     (λ c κs. search rules)
     (λ c. (omega arith, group_none gf256 _ _ _ _ _ _ _ _))
     (λ c κs. let a = c.before.before.before.before.before.before.before.before.args in (
       layering_next a.l a.many a.x a.card.now a.shares.now a.host.now a.p a.spare.now _
-          c.before.before.before.before.before.before.before.before.requires c.before.before.loop.invariant.1.long,
+          c.before.before.before.before.before.before.before.before.requires c.before.before.loop-b.invariant.1.long,
       omega (
         arith,
-        c.before.before.before.digit-count.ensures,
-        c.before.loop-test.true,
+        c.before.before.before.digit_count-s.ensures,
+        c.before.loop-b-test.true,
       ),
     ))
     (λ c. omega arith)
@@ -38,10 +38,10 @@ repair_layers_spec =
           a.many a.x a.card.now a.shares.now a.host.now a.p a.spare.now
           c.before.before.before.before.before.before.before.before.before.before.before.requires _ (omega (
             arith,
-            c.before.before.before.before.before.before.digit-count.ensures,
-            c.before.before.before.before.loop-test.true,
+            c.before.before.before.before.before.before.digit_count-s.ensures,
+            c.before.before.before.before.loop-b-test.true,
           )))
-          c.before.before.before.before.before.loop.invariant.1 c.before.before.repair-layer.ensures,
+          c.before.before.before.before.before.loop-b.invariant.1 c.before.before.repair_layer.ensures,
     ))
-    (λ c. c.before.loop.invariant.1.long)
+    (λ c. c.before.loop-b.invariant.1.long)
     (λ c. search (group_end gf256)))

@@ -23,10 +23,10 @@ repair_group_spec =
     layering working a.l a.many a.x a.helpers.now a.shares.now a.host.now a.p a.spare.now
     c.before.before.before.before.before.before.before.before.before.requires _ (omega (
       arith,
-      c.before.before.before.right-multipliers.auto,
+      c.before.before.before.right_multipliers.auto,
     )))
     (λ c. search rules)
     (λ c. let a = c.before.before.before.before.before.before.before.before.before.before.before.before.args in
     group_piece working a.l a.many a.x a.helpers.now a.shares.now a.host.now a.p a.spare.now
     c.before.before.before.before.before.before.before.before.before.before.before.before.requires _
-    c.before.before.before.before.before.before.right-multipliers.ensures _ c.before.before.repair-layers.ensures))
+    c.before.before.before.before.before.before.right_multipliers.ensures _ c.before.before.repair_layers.ensures))

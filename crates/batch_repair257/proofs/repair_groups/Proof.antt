@@ -10,26 +10,26 @@ use Rattle.batch_repair.proofs.Pieces.{pieces_none, pieces_more, pieces_end, tol
 use Rattle.batch_repair257.proofs.repair_groups.Statement.{statement}
 use Rattle.batch_repair257.proofs.repair_groups.Tie as tie
 
-abbrev invariant-loop : tie.invariant-loop
-invariant-loop l many x helpers shares host first count spare₀ k₀ spare k = (k ≤ count) × BatchPiece gf257 l many x helpers shares host first k spare₀ spare
+abbrev invariant-loop-k : tie.invariant-loop-k
+invariant-loop-k l many x helpers shares host first count spare₀ k₀ spare k = (k ≤ count) × BatchPiece gf257 l many x helpers shares host first k spare₀ spare
 
-abbrev decreases-loop : tie.decreases-loop
-decreases-loop l many x helpers shares host first count spare₀ k₀ spare k = count - k
+abbrev decreases-loop-k : tie.decreases-loop-k
+decreases-loop-k l many x helpers shares host first count spare₀ k₀ spare k = count - k
 
 pub repair_groups_spec : {M : Type 1} → statement M
 repair_groups_spec =
     tie.close
     (tie.spec
-    invariant-loop
-    decreases-loop
+    invariant-loop-k
+    decreases-loop-k
     (λ c. (omega arith, pieces_none working _ _ _ _ _ _ _ _))
     (λ c. let p = c.before.before.before.before.before.before.requires in
-    omega (arith, p.within, (bounds _ p.adm.admissible.cabinet).groups_high, c.loop-test.true))
+    omega (arith, p.within, (bounds _ p.adm.admissible.cabinet).groups_high, c.loop-k-test.true))
     (λ c κs. let a = c.before.before.before.before.before.before.before.args in
     told_next working a.l a.many a.x a.helpers.now a.shares.now a.host.now a.first a.count _ _ a.spare.now _
-    c.before.before.before.before.before.before.before.requires refl c.before.loop-test.true c.before.before.loop.invariant.1.long)
+    c.before.before.before.before.before.before.before.requires refl c.before.loop-k-test.true c.before.before.loop-k.invariant.1.long)
     (λ c. omega arith)
     (λ c. omega arith)
     (λ c. (omega arith, search (pieces_more working)))
-    (λ c. c.before.loop.invariant.1.long)
+    (λ c. c.before.loop-k.invariant.1.long)
     (λ c. search (pieces_end working)))

@@ -12,18 +12,18 @@ use Rattle.batch_repair.proofs.Rows.{less_more}
 use Rattle.batch_repair257.proofs.subtract.Statement.{statement}
 use Rattle.batch_repair257.proofs.subtract.Tie as tie
 
-abbrev invariant-loop : tie.invariant-loop
-invariant-loop out₀ to len src from j₀ out j = (j ≤ len) × (length out ≡ length out₀) × Run (lessened gf257 out₀ to src from) out₀ out to j
+abbrev invariant-loop-j : tie.invariant-loop-j
+invariant-loop-j out₀ to len src from j₀ out j = (j ≤ len) × (length out ≡ length out₀) × Run (lessened gf257 out₀ to src from) out₀ out to j
 
-abbrev decreases-loop : tie.decreases-loop
-decreases-loop out₀ to len src from j₀ out j = len - j
+abbrev decreases-loop-j : tie.decreases-loop-j
+decreases-loop-j out₀ to len src from j₀ out j = len - j
 
 pub subtract_spec : {M : Type 1} → statement M
 subtract_spec =
     tie.close
     (tie.spec
-    invariant-loop
-    decreases-loop
+    invariant-loop-j
+    decreases-loop-j
     (λ c. (omega arith, refl, run_none _ _ _))
     (λ c. omega arith)
     (λ c. omega arith)

@@ -11,32 +11,32 @@ use Rattle.batch_repair.proofs.Rows.{rack_none, rack_more, rack_end}
 use Rattle.batch_repair257.proofs.subtract_rack.Statement.{statement}
 use Rattle.batch_repair257.proofs.subtract_rack.Tie as tie
 
-abbrev invariant-loop : tie.invariant-loop
-invariant-loop out₀ to len host from far u lost g₀ out g = (g ≤ u) × Run (less_rack gf257 out₀ to host from far lost g) out₀ out to len
+abbrev invariant-loop-g : tie.invariant-loop-g
+invariant-loop-g out₀ to len host from far u lost g₀ out g = (g ≤ u) × Run (less_rack gf257 out₀ to host from far lost g) out₀ out to len
 
-abbrev decreases-loop : tie.decreases-loop
-decreases-loop out₀ to len host from far u lost g₀ out g = u - g
+abbrev decreases-loop-g : tie.decreases-loop-g
+decreases-loop-g out₀ to len host from far u lost g₀ out g = u - g
 
 pub subtract_rack_spec : {M : Type 1} → statement M
 subtract_rack_spec =
     tie.close
     (tie.spec
-    invariant-loop
-    decreases-loop
+    invariant-loop-g
+    decreases-loop-g
     (λ c. (omega arith, search (rack_none working)))
     (λ c. search rules)
-    (λ c. omega (arith, c.before.before.before.before.before.requires.rows _ c.before.loop-test.true))
-    (λ c. omega (arith, c.before.before.before.before.before.requires.rows _ c.before.loop-test.true))
+    (λ c. omega (arith, c.before.before.before.before.before.requires.rows _ c.before.loop-g-test.true))
+    (λ c. omega (arith, c.before.before.before.before.before.requires.rows _ c.before.loop-g-test.true))
     (λ c κs. (
-      omega (arith, c.before.before.loop.invariant.1.long, c.before.before.before.before.before.requires.room),
-      c.before.before.before.before.before.requires.rows _ c.before.loop-test.true,
+      omega (arith, c.before.before.loop-g.invariant.1.long, c.before.before.before.before.before.requires.room),
+      c.before.before.before.before.before.requires.rows _ c.before.loop-g-test.true,
     ))
     (λ c. omega arith)
     (λ c. omega arith)
     (λ c. (
       omega arith,
-      rack_more working _ _ _ _ _ _ _ _ _ _ _ refl c.before.before.before.before.before.loop.invariant.1
-          c.before.before.subtract-sound.ensures,
+      rack_more working _ _ _ _ _ _ _ _ _ _ _ refl c.before.before.before.before.before.loop-g.invariant.1
+          c.before.before.subtract_sound.ensures,
     ))
-    (λ c. c.before.loop.invariant.1.long)
+    (λ c. c.before.loop-g.invariant.1.long)
     (λ c. search (rack_end working)))

@@ -7,19 +7,19 @@ use borrow.Author.Rules.{rules}
 use Rattle.batch_restore.proofs.factors.Statement.{statement}
 use Rattle.batch_restore.proofs.factors.Tie as tie
 
-slice_aggregate_layer_factors : tie.Need-slice-aggregate-layer-factors
+slice_aggregate_layer_factors : tie.Need-slice_bounds-layer_factors-end
 slice_aggregate_layer_factors c = search rules
 
-slice_aggregate_layer_factors_2 : tie.Need-slice-aggregate-layer-factors-2
+slice_aggregate_layer_factors_2 : tie.Need-slice_bounds-layer_factors-end-2
 slice_aggregate_layer_factors_2 c = search rules
 
-slice_aggregate_layer_factors_3 : tie.Need-slice-aggregate-layer-factors-3
+slice_aggregate_layer_factors_3 : tie.Need-slice_bounds-layer_factors-end-3
 slice_aggregate_layer_factors_3 c = search rules
 
-layer_factors_requires : tie.Need-layer-factors-requires
+layer_factors_requires : tie.Need-layer_factors-requires
 layer_factors_requires c κs = search rules
 
-same_length : tie.Need-same-length
+same_length : tie.Need-shape_of-picks
 same_length c = search rules
 
 returns : tie.Need-returns

@@ -11,7 +11,7 @@ use Rattle.batch_restore.proofs.Rows.{weights_padded}
 use Rattle.batch_restore.proofs.layer.Statement.{statement}
 use Rattle.batch_restore.proofs.layer.Tie as tie
 
-lanes_requires : tie.Need-lanes-requires
+lanes_requires : tie.Need-lanes-wide-requires
 lanes_requires c κs = search job_few
 
 factors_requires : tie.Need-factors-requires
@@ -26,13 +26,13 @@ mul_blocks_2 c = search job_first_fits
 blocks_requires : tie.Need-blocks-requires
 blocks_requires c κs = (search job_trays, search job_wide, search job_column, search rules, search (weights_padded gf256))
 
-same_length : tie.Need-same-length
+same_length : tie.Need-shape_of-c
 same_length c = search rules
 
-same_length_2 : tie.Need-same-length-2
+same_length_2 : tie.Need-shape_of-picks
 same_length_2 c = search rules
 
-same_length_3 : tie.Need-same-length-3
+same_length_3 : tie.Need-shape_of-acc
 same_length_3 c = search rules
 
 returns : tie.Need-returns

@@ -14,13 +14,13 @@ use Rattle.batch_restore.proofs.layer_factors.Tie as tie
 ready_as : (picks : List ℕ) (wide a b : ℕ) → a ≡ b → Ready picks wide a → Ready picks wide b
 ready_as picks wide a b e r = subst (λ (n : ℕ). Ready picks wide n) e r
 
-eights_requires : tie.Need-eights-requires
+eights_requires : tie.Need-eights-count-requires
 eights_requires c κs = search ks_few
 
-list_points_requires : tie.Need-list-points-requires
+list_points_requires : tie.Need-list_points-requires
 list_points_requires c κs = search ks_pointing
 
-list_points_requires_2 : tie.Need-list-points-requires-2
+list_points_requires_2 : tie.Need-list_points-requires-2
 list_points_requires_2 c κs = search es_pointing
 
 mul_fill : tie.Need-overflow-mul-fill
@@ -44,20 +44,20 @@ factors_requires c κs = (search factors_told, search lanes_few)
 prepare_requires : tie.Need-prepare-requires
 prepare_requires c κs = (search count_few, search prepare_picks, search prepare_g)
 
-same_length : tie.Need-same-length
+same_length : tie.Need-shape_of-picks
 same_length c = search rules
 
-same_length_2 : tie.Need-same-length-2
+same_length_2 : tie.Need-shape_of-p
 same_length_2 c = search rules
 
-same_length_3 : tie.Need-same-length-3
+same_length_3 : tie.Need-shape_of-points
 same_length_3 c = search rules
 
-same_length_4 : tie.Need-same-length-4
+same_length_4 : tie.Need-shape_of-g
 same_length_4 c = search rules
 
 returns : tie.Need-returns
-returns c = (search ready_as, let a = c.before.before.before.before.before.before.before.before.before.before.before.before.before.before.before.before.before.before.before.before.before.before.before.before.before.before.before.before.before.before.args in weights_of a.l a.es.now a.ks.now c.before.before.before.before.before.before.before.before.before.before.before.before.before.before.before.before.before.before.before.before.before.before.before.before.before.before.before.before.before.before.requires.0 a.wide c.before.before.before.before.before.before.before.before.before.before.before.before.before.before.before.before.before.before.before.before.before.before.before.eights.result c.before.before.before.before.before.before.before.before.before.before.before.before.before.before.before.before.before.before.before.before.before.before.before.before.before.before.before.before.before.before.requires.1 c.before.before.before.before.before.before.before.before.before.before.before.before.before.before.before.before.before.before.before.before.before.before.before.eights.ensures working a.j _ _ _ _ _ _ _ _ c.before.before.before.before.before.before.before.before.before.before.before.before.before.before.before.before.before.before.before.before.before.list-points.ensures c.before.before.before.before.before.before.before.before.before.before.before.before.before.before.before.before.before.list-points2.ensures c.before.before.before.before.before.before.before.before.before.before.before.before.before.fill.ensures c.before.before.before.before.before.before.before.factors.ensures c.before.before.prepare.ensures.1)
+returns c = (search ready_as, let a = c.before.before.before.before.before.before.before.before.before.before.before.before.before.before.before.before.before.before.before.before.before.before.before.before.before.before.before.before.before.before.args in weights_of a.l a.es.now a.ks.now c.before.before.before.before.before.before.before.before.before.before.before.before.before.before.before.before.before.before.before.before.before.before.before.before.before.before.before.before.before.before.requires.0 a.wide c.before.before.before.before.before.before.before.before.before.before.before.before.before.before.before.before.before.before.before.before.before.before.before.eights-count.result c.before.before.before.before.before.before.before.before.before.before.before.before.before.before.before.before.before.before.before.before.before.before.before.before.before.before.before.before.before.before.requires.1 c.before.before.before.before.before.before.before.before.before.before.before.before.before.before.before.before.before.before.before.before.before.before.before.eights-count.ensures working a.j _ _ _ _ _ _ _ _ c.before.before.before.before.before.before.before.before.before.before.before.before.before.before.before.before.before.before.before.before.before.list_points.ensures c.before.before.before.before.before.before.before.before.before.before.before.before.before.before.before.before.before.list_points-2.ensures c.before.before.before.before.before.before.before.before.before.before.before.before.before.fill.ensures c.before.before.before.before.before.before.before.factors.ensures c.before.before.prepare.ensures.1)
 
 pub layer_factors_spec : {M : Type 1} → statement M
 layer_factors_spec = tie.close (tie.spec eights_requires list_points_requires list_points_requires_2 mul_fill mul_fill_2 sub_fill mul_fill_3 fill_requires factors_requires prepare_requires same_length same_length_2 same_length_3 same_length_4 returns)

@@ -11,15 +11,15 @@ use Rattle.batch_restore.proofs.Rows.{points_none, points_more, points_end, poin
 use Rattle.batch_restore.proofs.list_points.Statement.{statement}
 use Rattle.batch_restore.proofs.list_points.Tie as tie
 
-abbrev invariant-loop : tie.invariant-loop
-invariant-loop p₀ l j list t₀ p t = (t ≤ length list) × (length p ≡ length p₀) × ListPoints gf256 l j list t p₀ p
+abbrev invariant-loop-t : tie.invariant-loop-t
+invariant-loop-t p₀ l j list t₀ p t = (t ≤ length list) × (length p ≡ length p₀) × ListPoints gf256 l j list t p₀ p
 
-abbrev decreases-loop : tie.decreases-loop
-decreases-loop p₀ l j list t₀ p t = length list - t
+abbrev decreases-loop-t : tie.decreases-loop-t
+decreases-loop-t p₀ l j list t₀ p t = length list - t
 
 pub list_points_spec : {M : Type 1} → statement M
 list_points_spec =
-    tie.close (tie.spec invariant-loop decreases-loop
+    tie.close (tie.spec invariant-loop-t decreases-loop-t
     (λ c. (omega arith, refl, points_none working _ _ _ _))
     (λ c. omega arith)
     (λ c. omega arith)

@@ -9,35 +9,35 @@ use Rattle.batch_restore.proofs.Known.{free_first, other_low, other_more, other_
 use Rattle.batch_restore.proofs.other.Statement.{statement}
 use Rattle.batch_restore.proofs.other.Tie as tie
 
-abbrev invariant-loop : tie.invariant-loop
-invariant-loop es i x₀ d₀ x d = (d ≤ length es) × (x ≡ free (λ k. get_or es k 0) d i)
+abbrev invariant-loop-d : tie.invariant-loop-d
+invariant-loop-d es i x₀ d₀ x d = (d ≤ length es) × (x ≡ free (λ k. get_or es k 0) d i)
 
-abbrev decreases-loop : tie.decreases-loop
-decreases-loop es i x₀ d₀ x d = length es - d
+abbrev decreases-loop-d : tie.decreases-loop-d
+decreases-loop-d es i x₀ d₀ x d = length es - d
 
-loop_holds : tie.Need-loop-init invariant-loop decreases-loop
+loop_holds : tie.Need-loop-d-init invariant-loop-d decreases-loop-d
 loop_holds c = (omega arith, free_first _ _)
 
-mul_skipped : tie.Need-overflow-mul-skipped invariant-loop decreases-loop
+mul_skipped : tie.Need-overflow-mul-skipped invariant-loop-d decreases-loop-d
 mul_skipped c = omega arith
 
-shared_slice_read_skipped : tie.Need-shared-slice-read-skipped invariant-loop decreases-loop
+shared_slice_read_skipped : tie.Need-bounds-es-d invariant-loop-d decreases-loop-d
 shared_slice_read_skipped c = omega arith
 
-skipped_requires : tie.Need-skipped-requires invariant-loop decreases-loop
-skipped_requires c κs = let a = c.before.before.before.before.args in other_low a.es.now a.i c.before.before.loop.d _ c.before.before.loop.invariant.1 c.before.before.before.before.requires.0 c.before.before.before.before.requires.1 (omega arith)
+skipped_requires : tie.Need-skipped-x-requires invariant-loop-d decreases-loop-d
+skipped_requires c κs = let a = c.before.before.before.before.args in other_low a.es.now a.i c.before.before.loop-d.d _ c.before.before.loop-d.invariant.1 c.before.before.before.before.requires.0 c.before.before.before.before.requires.1 (omega arith)
 
-add_d : tie.Need-overflow-add-d invariant-loop decreases-loop
+add_d : tie.Need-overflow-add-d invariant-loop-d decreases-loop-d
 add_d c = omega arith
 
-loop_less : tie.Need-loop-smaller invariant-loop decreases-loop
+loop_less : tie.Need-loop-d-smaller invariant-loop-d decreases-loop-d
 loop_less c = omega arith
 
-loop_again : tie.Need-loop-preserved invariant-loop decreases-loop
-loop_again c = let a = c.before.before.before.before.before.args in (omega arith, other_more a.es.now a.i c.before.before.before.loop.d _ c.before.before.before.loop.invariant.1 _ c.skipped.ensures)
+loop_again : tie.Need-loop-d-preserved invariant-loop-d decreases-loop-d
+loop_again c = let a = c.before.before.before.before.before.args in (omega arith, other_more a.es.now a.i c.before.before.before.loop-d.d _ c.before.before.before.loop-d.invariant.1 _ c.skipped-x.ensures)
 
-returns : tie.Need-returns invariant-loop decreases-loop
-returns c = let a = c.before.before.before.args in other_end a.es.now a.i c.before.loop.d _ c.before.loop.invariant.1 (omega arith) (omega arith)
+returns : tie.Need-returns invariant-loop-d decreases-loop-d
+returns c = let a = c.before.before.before.args in other_end a.es.now a.i c.before.loop-d.d _ c.before.loop-d.invariant.1 (omega arith) (omega arith)
 
 pub other_spec : {M : Type 1} → statement M
-other_spec = tie.close (tie.spec invariant-loop decreases-loop loop_holds mul_skipped shared_slice_read_skipped skipped_requires add_d loop_less loop_again returns)
+other_spec = tie.close (tie.spec invariant-loop-d decreases-loop-d loop_holds mul_skipped shared_slice_read_skipped skipped_requires add_d loop_less loop_again returns)

@@ -9,50 +9,50 @@ use Rattle.batch_restore.proofs.Rows.{put_none, put_more, put_end, put_in, put_f
 use Rattle.batch_restore.proofs.put_rows.Statement.{statement}
 use Rattle.batch_restore.proofs.put_rows.Tie as tie
 
-abbrev invariant-loop : tie.invariant-loop
-invariant-loop c₀ es gap first w acc o₀ c o = (o ≤ length es) × (length c ≡ length c₀) × PutRows es gap first w acc c₀ c o
+abbrev invariant-loop-o : tie.invariant-loop-o
+invariant-loop-o c₀ es gap first w acc o₀ c o = (o ≤ length es) × (length c ≡ length c₀) × PutRows es gap first w acc c₀ c o
 
-abbrev decreases-loop : tie.decreases-loop
-decreases-loop c₀ es gap first w acc o₀ c o = length es - o
+abbrev decreases-loop-o : tie.decreases-loop-o
+decreases-loop-o c₀ es gap first w acc o₀ c o = length es - o
 
-loop_holds : tie.Need-loop-init invariant-loop decreases-loop
+loop_holds : tie.Need-loop-o-init invariant-loop-o decreases-loop-o
 loop_holds c = (omega arith, refl, put_none _ _ _ _ _ _)
 
-mul_copy : tie.Need-overflow-mul-copy invariant-loop decreases-loop
+mul_copy : tie.Need-overflow-mul-copy invariant-loop-o decreases-loop-o
 mul_copy c = omega arith
 
-shared_slice_read_copy : tie.Need-shared-slice-read-copy invariant-loop decreases-loop
+shared_slice_read_copy : tie.Need-bounds-es-o invariant-loop-o decreases-loop-o
 shared_slice_read_copy c = omega arith
 
-cast_copy : tie.Need-overflow-cast-copy invariant-loop decreases-loop
-cast_copy c = record { fits = omega (arith, c.shared-slice-known3.given c.before.before.before.loop.o) }
+cast_copy : tie.Need-overflow-cast-copy invariant-loop-o decreases-loop-o
+cast_copy c = record { fits = omega (arith, c.shared_slice_known-in-loop-o-1.given c.before.before.before.loop-o.o) }
 
-mul_copy_2 : tie.Need-overflow-mul-copy-2 invariant-loop decreases-loop
+mul_copy_2 : tie.Need-overflow-mul-copy-2 invariant-loop-o decreases-loop-o
 mul_copy_2 c = search put_fits
 
-add_copy : tie.Need-overflow-add-copy invariant-loop decreases-loop
+add_copy : tie.Need-overflow-add-copy invariant-loop-o decreases-loop-o
 add_copy c = search put_to_fits
 
-mul_copy_3 : tie.Need-overflow-mul-copy-3 invariant-loop decreases-loop
+mul_copy_3 : tie.Need-overflow-mul-copy-3 invariant-loop-o decreases-loop-o
 mul_copy_3 c = omega arith
 
-copy_requires : tie.Need-copy-requires invariant-loop decreases-loop
+copy_requires : tie.Need-copy-requires invariant-loop-o decreases-loop-o
 copy_requires c κs = (search put_in, search put_from)
 
-add_o : tie.Need-overflow-add-o invariant-loop decreases-loop
+add_o : tie.Need-overflow-add-o invariant-loop-o decreases-loop-o
 add_o c = omega arith
 
-loop_less : tie.Need-loop-smaller invariant-loop decreases-loop
+loop_less : tie.Need-loop-o-smaller invariant-loop-o decreases-loop-o
 loop_less c = omega arith
 
-loop_again : tie.Need-loop-preserved invariant-loop decreases-loop
+loop_again : tie.Need-loop-o-preserved invariant-loop-o decreases-loop-o
 loop_again c = (omega arith, search rules, search put_more)
 
-same_length : tie.Need-same-length invariant-loop decreases-loop
+same_length : tie.Need-shape_of-c invariant-loop-o decreases-loop-o
 same_length c = search rules
 
-returns : tie.Need-returns invariant-loop decreases-loop
+returns : tie.Need-returns invariant-loop-o decreases-loop-o
 returns c = search put_end
 
 pub put_rows_spec : {M : Type 1} → statement M
-put_rows_spec = tie.close (tie.spec invariant-loop decreases-loop loop_holds mul_copy shared_slice_read_copy cast_copy mul_copy_2 add_copy mul_copy_3 copy_requires add_o loop_less loop_again same_length returns)
+put_rows_spec = tie.close (tie.spec invariant-loop-o decreases-loop-o loop_holds mul_copy shared_slice_read_copy cast_copy mul_copy_2 add_copy mul_copy_3 copy_requires add_o loop_less loop_again same_length returns)

@@ -9,7 +9,7 @@ use Rattle.batch_restore.proofs.Rows.{zeros_long}
 use Rattle.batch_restore.proofs.restore.Statement.{statement}
 use Rattle.batch_restore.proofs.restore.Tie as tie
 
-tray_count_requires : tie.Need-tray-count-requires
+tray_count_requires : tie.Need-tray_count-requires
 tray_count_requires c κs = search restoring_adm
 
 cast_n : tie.Need-overflow-cast-n
@@ -18,16 +18,16 @@ cast_n c = search rules
 sub_n : tie.Need-overflow-sub-n
 sub_n c = search left_low
 
-array_borrow_prefix_ks : tie.Need-array-borrow-prefix-ks
+array_borrow_prefix_ks : tie.Need-slice_bounds-ks-end
 array_borrow_prefix_ks c = search left_few
 
-slice_aggregate_restore_listed : tie.Need-slice-aggregate-restore-listed
-slice_aggregate_restore_listed c = zeros_long (c.before.before.tray-count.result - length c.before.before.before.before.before.args.es.now) (search left_few)
+slice_aggregate_restore_listed : tie.Need-slice_bounds-restore_listed-end
+slice_aggregate_restore_listed c = zeros_long (c.before.before.tray_count.result - length c.before.before.before.before.before.args.es.now) (search left_few)
 
-restore_listed_requires : tie.Need-restore-listed-requires
-restore_listed_requires c κs = let a = c.before.before.before.before.before.args in (c.before.before.before.before.before.requires, left_count a.l a.m a.es.now a.c.now c.before.before.before.before.before.requires c.before.before.tray-count.result c.before.before.tray-count.ensures _ (sym (zeros_long (c.before.before.tray-count.result - length a.es.now) (search left_few))))
+restore_listed_requires : tie.Need-restore_listed-requires
+restore_listed_requires c κs = let a = c.before.before.before.before.before.args in (c.before.before.before.before.before.requires, left_count a.l a.m a.es.now a.c.now c.before.before.before.before.before.requires c.before.before.tray_count.result c.before.before.tray_count.ensures _ (sym (zeros_long (c.before.before.tray_count.result - length a.es.now) (search left_few))))
 
-same_length : tie.Need-same-length
+same_length : tie.Need-shape_of-c
 same_length c = search rules
 
 returns : tie.Need-returns

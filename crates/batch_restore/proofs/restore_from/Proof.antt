@@ -9,19 +9,19 @@ use Rattle.batch_restore.proofs.Layers.{job_total, batch_restored, job_adm}
 use Rattle.batch_restore.proofs.restore_from.Statement.{statement}
 use Rattle.batch_restore.proofs.restore_from.Tie as tie
 
-layer_count_requires : tie.Need-layer-count-requires
+layer_count_requires : tie.Need-layer_count-total-requires
 layer_count_requires c κs = search job_adm
 
-slice_aggregate_all_layers : tie.Need-slice-aggregate-all-layers
+slice_aggregate_all_layers : tie.Need-slice_bounds-all_layers-end
 slice_aggregate_all_layers c = search rules
 
-slice_aggregate_all_layers_2 : tie.Need-slice-aggregate-all-layers-2
+slice_aggregate_all_layers_2 : tie.Need-slice_bounds-all_layers-end-2
 slice_aggregate_all_layers_2 c = search rules
 
-all_layers_requires : tie.Need-all-layers-requires
+all_layers_requires : tie.Need-all_layers-requires
 all_layers_requires c κs = (search job_total, search rules, search rules, search rules)
 
-same_length : tie.Need-same-length
+same_length : tie.Need-shape_of-c
 same_length c = search rules
 
 returns : tie.Need-returns

@@ -12,13 +12,13 @@ use Rattle.batch_restore.proofs.restore_listed.Tie as tie
 others_requires : tie.Need-others-requires
 others_requires c κs = (search restoring_es, search restoring_ks)
 
-restore_from_requires : tie.Need-restore-from-requires
+restore_from_requires : tie.Need-restore_from-requires
 restore_from_requires c κs = let a = c.before.before.before.before.before.before.before.before.before.args in (known_job a.l a.m (length a.ks.now) a.es.now a.c.now c.before.before.before.before.others.new.0 c.before.before.before.before.before.before.before.before.before.requires.0 c.before.before.before.before.before.before.before.before.before.requires.1 c.before.before.before.before.others.ensures, known_complement a.l a.m (length a.ks.now) a.es.now a.c.now c.before.before.before.before.others.new.0 c.before.before.before.before.before.before.before.before.before.requires.0 c.before.before.before.before.before.before.before.before.before.requires.1 c.before.before.before.before.others.ensures working)
 
-same_length : tie.Need-same-length
+same_length : tie.Need-shape_of-c
 same_length c = search rules
 
-same_length_2 : tie.Need-same-length-2
+same_length_2 : tie.Need-shape_of-ks
 same_length_2 c = search rules
 
 returns : tie.Need-returns

@@ -11,35 +11,35 @@ use Rattle.batch_kernel.specs.Ready.{Ready}
 use Rattle.batch_restore.proofs.sum_block.Statement.{statement}
 use Rattle.batch_restore.proofs.sum_block.Tie as tie
 
-eights_requires : tie.Need-eights-requires
+eights_requires : tie.Need-eights-n-requires
 eights_requires c κs = search sums_few
 
 mul_n : tie.Need-overflow-mul-n
 mul_n c = search eight_fits
 
-array_borrow_prefix_at : tie.Need-array-borrow-prefix-at
+array_borrow_prefix_at : tie.Need-slice_bounds-at-end
 array_borrow_prefix_at c = search eight_most
 
-slice_aggregate_places : tie.Need-slice-aggregate-places
-slice_aggregate_places c = zeros_long (c.before.eights.result * 8) (search eight_most)
+slice_aggregate_places : tie.Need-slice_bounds-places-end
+slice_aggregate_places c = zeros_long (c.before.eights-n.result * 8) (search eight_most)
 
 places_requires : tie.Need-places-requires
-places_requires c κs = (search sums_some, search sums_few, zeros_most (c.before.eights.result * 8) (search eight_most), search sums_first, search sums_places)
+places_requires c κs = (search sums_some, search sums_few, zeros_most (c.before.eights-n.result * 8) (search eight_most), search sums_first, search sums_places)
 
-array_share_prefix_at : tie.Need-array-share-prefix-at
-array_share_prefix_at c = last_in (c.before.before.before.before.eights.result * 8) (search eight_most) c.before.before.places.new.0 c.before.before.places.ensures.long
+array_share_prefix_at : tie.Need-slice_bounds-at-end-2
+array_share_prefix_at c = last_in (c.before.before.before.before.eights-n.result * 8) (search eight_most) c.before.before.places.new.0 c.before.before.places.ensures.long
 
-slice_aggregate_sum_rows : tie.Need-slice-aggregate-sum-rows
-slice_aggregate_sum_rows c = last_again (c.before.before.before.before.before.eights.result * 8) (search eight_most) c.before.before.before.places.new.0 c.before.before.before.places.ensures.long
+slice_aggregate_sum_rows : tie.Need-slice_bounds-sum_rows-end
+slice_aggregate_sum_rows c = last_again (c.before.before.before.before.before.eights-n.result * 8) (search eight_most) c.before.before.before.places.new.0 c.before.before.before.places.ensures.long
 
-sum_rows_requires : tie.Need-sum-rows-requires
-sum_rows_requires c κs = let n = c.before.before.before.before.before.eights.result * 8 in let small : n ≤ 64 = search eight_most in let last = c.before.before.before.places.new.0 in let p = c.before.before.before.places.ensures in let a = c.before.before.before.before.before.before.before.before.before.before.args in let e = last_whole n small last p.long in (T-laid _ _ _ _ _ _ _ _ _ c.before.before.before.before.before.before.before.before.before.before.requires.0 c.before.before.before.before.before.eights.result c.before.before.before.before.before.eights.ensures last _ _ _ (zeros_long n small) (last_long n small last p.long) p e, subst (λ (y : ℕ). Ready a.picks.now a.wide y) (T-eights _ _ _ _ _ _ _ _ _ c.before.before.before.before.before.before.before.before.before.before.requires.0 c.before.before.before.before.before.eights.result c.before.before.before.before.before.eights.ensures last _ _ _ (zeros_long n small) (last_long n small last p.long) p e) c.before.before.before.before.before.before.before.before.before.before.requires.1)
+sum_rows_requires : tie.Need-sum_rows-requires
+sum_rows_requires c κs = let n = c.before.before.before.before.before.eights-n.result * 8 in let small : n ≤ 64 = search eight_most in let last = c.before.before.before.places.new.0 in let p = c.before.before.before.places.ensures in let a = c.before.before.before.before.before.before.before.before.before.before.args in let e = last_whole n small last p.long in (T-laid _ _ _ _ _ _ _ _ _ c.before.before.before.before.before.before.before.before.before.before.requires.0 c.before.before.before.before.before.eights-n.result c.before.before.before.before.before.eights-n.ensures last _ _ _ (zeros_long n small) (last_long n small last p.long) p e, subst (λ (y : ℕ). Ready a.picks.now a.wide y) (T-eights _ _ _ _ _ _ _ _ _ c.before.before.before.before.before.before.before.before.before.before.requires.0 c.before.before.before.before.before.eights-n.result c.before.before.before.before.before.eights-n.ensures last _ _ _ (zeros_long n small) (last_long n small last p.long) p e) c.before.before.before.before.before.before.before.before.before.before.requires.1)
 
-same_length : tie.Need-same-length
+same_length : tie.Need-shape_of-acc
 same_length c = search rules
 
 returns : tie.Need-returns
-returns c = let n = c.before.before.before.before.before.before.before.before.eights.result * 8 in let small : n ≤ 64 = search eight_most in let last = c.before.before.before.before.before.before.places.new.0 in let p = c.before.before.before.before.before.before.places.ensures in T-done _ _ _ _ _ _ _ _ _ c.before.before.before.before.before.before.before.before.before.before.before.before.before.requires.0 c.before.before.before.before.before.before.before.before.eights.result c.before.before.before.before.before.before.before.before.eights.ensures last _ _ _ (zeros_long n small) (last_long n small last p.long) p (last_whole n small last p.long) working _ _ c.before.before.sum_rows.ensures c.before.before.before.before.before.before.before.before.before.before.before.before.before.requires.2
+returns c = let n = c.before.before.before.before.before.before.before.before.eights-n.result * 8 in let small : n ≤ 64 = search eight_most in let last = c.before.before.before.before.before.before.places.new.0 in let p = c.before.before.before.before.before.before.places.ensures in T-done _ _ _ _ _ _ _ _ _ c.before.before.before.before.before.before.before.before.before.before.before.before.before.requires.0 c.before.before.before.before.before.before.before.before.eights-n.result c.before.before.before.before.before.before.before.before.eights-n.ensures last _ _ _ (zeros_long n small) (last_long n small last p.long) p (last_whole n small last p.long) working _ _ c.before.before.sum_rows.ensures c.before.before.before.before.before.before.before.before.before.before.before.before.before.requires.2
 
 pub sum_block_spec : {M : Type 1} → statement M
 sum_block_spec = tie.close (tie.spec eights_requires mul_n array_borrow_prefix_at slice_aggregate_places places_requires array_share_prefix_at slice_aggregate_sum_rows sum_rows_requires same_length returns)

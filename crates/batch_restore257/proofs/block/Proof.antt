@@ -10,16 +10,16 @@ use Rattle.batch_restore.proofs.Rows.{sums_told, padded_told, trays_outputs, wid
 use Rattle.batch_restore257.proofs.block.Statement.{statement}
 use Rattle.batch_restore257.proofs.block.Tie as tie
 
-sum_block_requires : tie.Need-sum-block-requires
+sum_block_requires : tie.Need-sum_block-requires
 sum_block_requires c κs = (search sums_told, search rules, search padded_told)
 
-put_rows_requires : tie.Need-put-rows-requires
+put_rows_requires : tie.Need-put_rows-requires
 put_rows_requires c κs = (search trays_outputs, search rules, search rules, search wide_room)
 
-same_length : tie.Need-same-length
+same_length : tie.Need-shape_of-c
 same_length c = search rules
 
-same_length_2 : tie.Need-same-length-2
+same_length_2 : tie.Need-shape_of-acc
 same_length_2 c = search rules
 
 returns : tie.Need-returns

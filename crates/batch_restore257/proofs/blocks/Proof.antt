@@ -12,44 +12,44 @@ use Rattle.batch_restore.proofs.Rows.{blocks_none, blocks_more, blocks_end, tray
 use Rattle.batch_restore257.proofs.blocks.Statement.{statement}
 use Rattle.batch_restore257.proofs.blocks.Tie as tie
 
-abbrev invariant-loop : tie.invariant-loop
-invariant-loop c₀ es ks gap first m picks wide acc₀ b₀ c acc b = (b ≤ m) × (length c ≡ length c₀) × (length acc ≡ length acc₀) × BlockTo gf257 (weight_at picks wide) es ks gap first b c₀ c
+abbrev invariant-loop-b : tie.invariant-loop-b
+invariant-loop-b c₀ es ks gap first m picks wide acc₀ b₀ c acc b = (b ≤ m) × (length c ≡ length c₀) × (length acc ≡ length acc₀) × BlockTo gf257 (weight_at picks wide) es ks gap first b c₀ c
 
-abbrev decreases-loop : tie.decreases-loop
-decreases-loop c₀ es ks gap first m picks wide acc₀ b₀ c acc b = m - b
+abbrev decreases-loop-b : tie.decreases-loop-b
+decreases-loop-b c₀ es ks gap first m picks wide acc₀ b₀ c acc b = m - b
 
-loop_holds : tie.Need-loop-init invariant-loop decreases-loop
+loop_holds : tie.Need-loop-b-init invariant-loop-b decreases-loop-b
 loop_holds c = (omega arith, refl, refl, blocks_none _ _ _ _ _ _)
 
-sub_smaller : tie.Need-overflow-sub-smaller invariant-loop decreases-loop
+sub_smaller : tie.Need-overflow-sub-smaller invariant-loop-b decreases-loop-b
 sub_smaller c = omega arith
 
-smaller_requires : tie.Need-smaller-requires invariant-loop decreases-loop
+smaller_requires : tie.Need-smaller-w-requires invariant-loop-b decreases-loop-b
 smaller_requires c κs = search rules
 
-add_block : tie.Need-overflow-add-block invariant-loop decreases-loop
+add_block : tie.Need-overflow-add-block invariant-loop-b decreases-loop-b
 add_block c = omega arith
 
-block_requires : tie.Need-block-requires invariant-loop decreases-loop
+block_requires : tie.Need-block-requires invariant-loop-b decreases-loop-b
 block_requires c κs = (search trays_still, search wide_still, omega arith, omega arith, search rules, search rules)
 
-add_b : tie.Need-overflow-add-b invariant-loop decreases-loop
+add_b : tie.Need-overflow-add-b invariant-loop-b decreases-loop-b
 add_b c = omega arith
 
-loop_less : tie.Need-loop-smaller invariant-loop decreases-loop
+loop_less : tie.Need-loop-b-smaller invariant-loop-b decreases-loop-b
 loop_less c = omega arith
 
-loop_again : tie.Need-loop-preserved invariant-loop decreases-loop
+loop_again : tie.Need-loop-b-preserved invariant-loop-b decreases-loop-b
 loop_again c = (omega arith, search rules, search rules, search blocks_more)
 
-same_length : tie.Need-same-length invariant-loop decreases-loop
+same_length : tie.Need-shape_of-c invariant-loop-b decreases-loop-b
 same_length c = search rules
 
-same_length_2 : tie.Need-same-length-2 invariant-loop decreases-loop
+same_length_2 : tie.Need-shape_of-acc invariant-loop-b decreases-loop-b
 same_length_2 c = search rules
 
-returns : tie.Need-returns invariant-loop decreases-loop
+returns : tie.Need-returns invariant-loop-b decreases-loop-b
 returns c = search blocks_end
 
 pub blocks_spec : {M : Type 1} → statement M
-blocks_spec = tie.close (tie.spec invariant-loop decreases-loop loop_holds sub_smaller smaller_requires add_block block_requires add_b loop_less loop_again same_length same_length_2 returns)
+blocks_spec = tie.close (tie.spec invariant-loop-b decreases-loop-b loop_holds sub_smaller smaller_requires add_block block_requires add_b loop_less loop_again same_length same_length_2 returns)

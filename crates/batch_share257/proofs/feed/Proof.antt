@@ -20,4 +20,4 @@ feed_spec =
     (λ c. let a = c.before.before.before.before.before.before.before.args in
     let p = c.before.before.before.before.before.before.before.requires in
     fed working a.l a.h a.many a.rack.now a.g a.m a.out.now p.0 _ _ _ _ p.1 _ _ refl refl _
-    c.before.before.add-long.ensures))
+    c.before.before.add_long.ensures))

@@ -8,18 +8,18 @@ use Rattle.batch_share.proofs.Batches.{Partly, partly_start, partly_told, partly
 use Rattle.batch_share257.proofs.gather.Statement.{statement}
 use Rattle.batch_share257.proofs.gather.Tie as tie
 
-abbrev invariant-loop : tie.invariant-loop
-invariant-loop l h many rack out₀ u r g₀ out g = (g ≤ u) × Partly working l h many rack g out
+abbrev invariant-loop-g : tie.invariant-loop-g
+invariant-loop-g l h many rack out₀ u r g₀ out g = (g ≤ u) × Partly working l h many rack g out
 
-abbrev decreases-loop : tie.decreases-loop
-decreases-loop l h many rack out₀ u r g₀ out g = u - g
+abbrev decreases-loop-g : tie.decreases-loop-g
+decreases-loop-g l h many rack out₀ u r g₀ out g = u - g
 
 pub gather_spec : {M : Type 1} → statement M
 gather_spec =
     tie.close
     (tie.spec
-    invariant-loop
-    decreases-loop
+    invariant-loop-g
+    decreases-loop-g
     (λ c κs. c.before.before.requires.adm.cabinet)
     (λ c κs. let p = c.before.before.before.requires in (p.adm.cabinet, p.host_in, c.Counts-of.ensures))
     (λ c κs. omega arith)
@@ -37,23 +37,23 @@ gather_spec =
     (λ c κs. let a = c.before.before.before.before.before.before.before.before.before.before.before.before.args in (
       partly_told working a.l a.h a.many a.rack.now a.out.now
           c.before.before.before.before.before.before.before.before.before.before.before.before.requires _ _ _
-          c.before.before.before.loop.invariant.1 c.before.at_once.ensures c.before.before.loop-test.true,
-      c.before.before.before.before.before.before.before.before.runs_of.ensures,
+          c.before.before.before.loop-g.invariant.1 c.before.at_once-m.ensures c.before.before.loop-g-test.true,
+      c.before.before.before.before.before.before.before.before.runs_of-r.ensures,
     ))
-    (λ c. let m = c.before.before.before.before.at_once.ensures in
+    (λ c. let m = c.before.before.before.before.at_once-m.ensures in
     let b = bounds _ c.before.before.before.before.before.before.before.before.before.before.before.before.before.before.before.requires.adm.cabinet in
-    omega (arith, m.1, c.before.before.before.before.before.loop-test.true, b.size_high))
-    (λ c. let m = c.before.before.before.before.at_once.ensures in
-    omega (arith, m.0, m.1, c.before.before.before.before.before.loop-test.true))
+    omega (arith, m.1, c.before.before.before.before.before.loop-g-test.true, b.size_high))
+    (λ c. let m = c.before.before.before.before.at_once-m.ensures in
+    omega (arith, m.0, m.1, c.before.before.before.before.before.loop-g-test.true))
     (λ c. let a = c.before.before.before.before.before.before.before.before.before.before.before.before.before.before.before.args in
-    let m = c.before.before.before.before.at_once.ensures in (
-      omega (arith, m.1, c.before.before.before.before.before.loop-test.true),
+    let m = c.before.before.before.before.at_once-m.ensures in (
+      omega (arith, m.1, c.before.before.before.before.before.loop-g-test.true),
       partly_turn working a.l a.h a.many
-          a.rack.now _ _ _ _ c.before.before.before.before.before.before.loop.invariant.1 c.before.before.feed.ensures,
+          a.rack.now _ _ _ _ c.before.before.before.before.before.before.loop-g.invariant.1 c.before.before.feed.ensures,
     ))
     (λ c. let a = c.before.before.before.before.before.before.before.before.before.before.args in
-    c.before.loop.invariant.1.long ∙ sym c.before.before.before.before.before.before.before.before.before.before.requires.room)
+    c.before.loop-g.invariant.1.long ∙ sym c.before.before.before.before.before.before.before.before.before.before.requires.room)
     (λ c. let a = c.before.before.before.before.before.before.before.before.before.before.args in
     partly_end working a.l a.h a.many a.rack.now a.out.now
-    c.before.before.before.before.before.before.before.before.before.before.requires _ _ c.before.loop.invariant.1 c.before.loop.invariant.0
+    c.before.before.before.before.before.before.before.before.before.before.requires _ _ c.before.loop-g.invariant.1 c.before.loop-g.invariant.0
     (omega arith)))

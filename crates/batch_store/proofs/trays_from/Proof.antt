@@ -9,23 +9,23 @@ use Rattle.lists.proofs.Tables.{is_table}
 use Rattle.batch_store.proofs.trays_from.Statement.{statement}
 use Rattle.batch_store.proofs.trays_from.Tie as tie
 
-abbrev invariant-loop : tie.invariant-loop
-invariant-loop first list₀ i₀ list i = (i ≤ length list₀) × Upto (λ k. first + k) list₀ list i
+abbrev invariant-loop-i : tie.invariant-loop-i
+invariant-loop-i first list₀ i₀ list i = (i ≤ length list₀) × Upto (λ k. first + k) list₀ list i
 
-abbrev decreases-loop : tie.decreases-loop
-decreases-loop first list₀ i₀ list i = length list₀ - i
+abbrev decreases-loop-i : tie.decreases-loop-i
+decreases-loop-i first list₀ i₀ list i = length list₀ - i
 
 pub trays_from_spec : {M : Type 1} → statement M
 trays_from_spec =
-    tie.close (tie.spec invariant-loop decreases-loop
+    tie.close (tie.spec invariant-loop-i decreases-loop-i
     (λ c. (omega arith, upto_none _ _))
-    (λ c. let u = c.before.loop.invariant.1.same in omega arith)
-    (λ c. let u = c.before.loop.invariant.1.same in omega arith)
-    (λ c. let u = c.before.loop.invariant.1.same in omega arith)
-    (λ c. let u = c.before.loop.invariant.1.same in omega arith)
-    (λ c. let u = c.before.loop.invariant.1.same in omega arith)
-    (λ c. let u = c.before.loop.invariant.1.same in omega arith)
-    (λ c. let u = c.before.loop.invariant.1.same in (omega arith, upto_more (λ (k : ℕ). c.before.before.args.first + k) c.before.loop.invariant.1 (omega arith) refl))
-    (λ c. c.before.loop.invariant.1.same)
-    (λ c. let u = c.before.loop.invariant.1.same in
-    is_table c.before.loop.list (λ (k : ℕ). c.before.before.args.first + k) (length c.before.before.args.list.now) u (λ k h. c.before.loop.invariant.1.low k (omega arith))))
+    (λ c. let u = c.before.loop-i.invariant.1.same in omega arith)
+    (λ c. let u = c.before.loop-i.invariant.1.same in omega arith)
+    (λ c. let u = c.before.loop-i.invariant.1.same in omega arith)
+    (λ c. let u = c.before.loop-i.invariant.1.same in omega arith)
+    (λ c. let u = c.before.loop-i.invariant.1.same in omega arith)
+    (λ c. let u = c.before.loop-i.invariant.1.same in omega arith)
+    (λ c. let u = c.before.loop-i.invariant.1.same in (omega arith, upto_more (λ (k : ℕ). c.before.before.args.first + k) c.before.loop-i.invariant.1 (omega arith) refl))
+    (λ c. c.before.loop-i.invariant.1.same)
+    (λ c. let u = c.before.loop-i.invariant.1.same in
+    is_table c.before.loop-i.list (λ (k : ℕ). c.before.before.args.first + k) (length c.before.before.args.list.now) u (λ k h. c.before.loop-i.invariant.1.low k (omega arith))))

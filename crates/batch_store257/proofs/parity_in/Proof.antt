@@ -14,8 +14,8 @@ use Rattle.batch_store.proofs.Answers.{parity_told}
 use Rattle.batch_store257.proofs.parity_in.Statement.{statement}
 use Rattle.batch_store257.proofs.parity_in.Tie as tie
 
-listed : (c : tie.After-trays-from) → c.trays-from.new.1.0 ≡ parity_trays c.before.before.before.before.args.l
-listed c = c.trays-from.ensures ∙ ap (table (λ (i : ℕ). c.before.before.before.before.args.l.dimension + i)) c.before.before.before.before.requires.1
+listed : (c : tie.After-trays_from) → c.trays_from.new.1.0 ≡ parity_trays c.before.before.before.before.args.l
+listed c = c.trays_from.ensures ∙ ap (table (λ (i : ℕ). c.before.before.before.before.args.l.dimension + i)) c.before.before.before.before.requires.1
 
 pub parity_in_spec : {M : Type 1} → statement M
 parity_in_spec =

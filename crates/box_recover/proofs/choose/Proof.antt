@@ -6,30 +6,30 @@ use borrow.Author.Rules.{rules}
 use Rattle.box_recover.proofs.choose.Statement.{statement}
 use Rattle.box_recover.proofs.choose.Tie as tie
 
-abbrev invariant-loop : tie.invariant-loop
-invariant-loop erased from out₀ i₀ out i = (i ≤ 7) × Upto (chosen_at erased from) out₀ out i
+abbrev invariant-loop-i : tie.invariant-loop-i
+invariant-loop-i erased from out₀ i₀ out i = (i ≤ 7) × Upto (chosen_at erased from) out₀ out i
 
-abbrev decreases-loop : tie.decreases-loop
-decreases-loop erased from out₀ i₀ out i = 7 - i
+abbrev decreases-loop-i : tie.decreases-loop-i
+decreases-loop-i erased from out₀ i₀ out i = 7 - i
 
 pub choose_spec : {M : Type 1} → statement M
 choose_spec =
-    tie.close (tie.spec invariant-loop decreases-loop
+    tie.close (tie.spec invariant-loop-i decreases-loop-i
     (λ c. (omega arith, upto_none _ _))
     (λ c. search rules)
     (λ c κs. search rules)
     (λ c. search rules)
     (λ c. omega (arith, c.before.survivor.ensures.1))
     (λ c. search rules)
-    (λ c. let u = c.before.before.before.loop.invariant.1.same in omega arith)
+    (λ c. let u = c.before.before.before.loop-i.invariant.1.same in omega arith)
     (λ c. search rules)
     (λ c. search rules)
     (λ c.
     let a = c.before.before.before.before.before.before.before.args in (
       omega arith,
-      upto_more (chosen_at a.erased.now a.from.now) c.before.before.before.loop.invariant.1 (omega arith)
-          (chosen_at a.erased.now a.from.now c.before.before.before.loop.i _ c.before.survivor.ensures.0),
+      upto_more (chosen_at a.erased.now a.from.now) c.before.before.before.loop-i.invariant.1 (omega arith)
+          (chosen_at a.erased.now a.from.now c.before.before.before.loop-i.i _ c.before.survivor.ensures.0),
     ))
-    (λ c. c.before.loop.invariant.1.same)
-    (λ c. let a = c.before.before.before.before.before.args in chosen_is a.erased.now a.from.now _ _ c.before.loop.i (search rules) (omega arith)
-    c.before.loop.invariant.1))
+    (λ c. c.before.loop-i.invariant.1.same)
+    (λ c. let a = c.before.before.before.before.before.args in chosen_is a.erased.now a.from.now _ _ c.before.loop-i.i (search rules) (omega arith)
+    c.before.loop-i.invariant.1))

@@ -6,15 +6,15 @@ use borrow.Author.Rules.{rules}
 use Rattle.box_recover.proofs.coefficient.Statement.{statement}
 use Rattle.box_recover.proofs.coefficient.Tie as tie
 
-abbrev invariant-loop : tie.invariant-loop
-invariant-loop word j points sum₀ x₀ sum x = (x ≤ 16) × Sums (coefficient_term word j) x sum
+abbrev invariant-loop-x : tie.invariant-loop-x
+invariant-loop-x word j points sum₀ x₀ sum x = (x ≤ 16) × Sums (coefficient_term word j) x sum
 
-abbrev decreases-loop : tie.decreases-loop
-decreases-loop word j points sum₀ x₀ sum x = 16 - x
+abbrev decreases-loop-x : tie.decreases-loop-x
+decreases-loop-x word j points sum₀ x₀ sum x = 16 - x
 
 pub coefficient_spec : {M : Type 1} → statement M
 coefficient_spec =
-    tie.close (tie.spec invariant-loop decreases-loop
+    tie.close (tie.spec invariant-loop-x decreases-loop-x
     (λ c κs. search rules)
     (λ c. (omega arith, sums_none _))
     (λ c. search rules)
@@ -28,8 +28,8 @@ coefficient_spec =
     (λ c.
     let a = c.before.before.before.before.before.before.before.args in (
       omega arith,
-      sums_more (coefficient_term a.word.now a.j) c.before.before.before.before.loop.x _ _ _ _ c.before.before.before.before.loop.invariant.1 c.add-product.ensures
-          (coefficient_term_lem a.word.now c.before.before.before.before.before.all-points.result a.j c.before.before.before.before.loop.x _
-          c.before.before.before.before.before.all-points.ensures c.before.before.power.ensures),
+      sums_more (coefficient_term a.word.now a.j) c.before.before.before.before.loop-x.x _ _ _ _ c.before.before.before.before.loop-x.invariant.1 c.add_product-sum.ensures
+          (coefficient_term_lem a.word.now c.before.before.before.before.before.all_points-points.result a.j c.before.before.before.before.loop-x.x _
+          c.before.before.before.before.before.all_points-points.ensures c.before.before.power-factor.ensures),
     ))
-    (λ c. let a = c.before.before.before.before.args in coefficient_end a.word.now a.j c.before.loop.x _ (omega arith) c.before.loop.invariant.1))
+    (λ c. let a = c.before.before.before.before.args in coefficient_end a.word.now a.j c.before.loop-x.x _ (omega arith) c.before.loop-x.invariant.1))

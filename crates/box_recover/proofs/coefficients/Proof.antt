@@ -6,26 +6,26 @@ use borrow.Author.Rules.{rules}
 use Rattle.box_recover.proofs.coefficients.Statement.{statement}
 use Rattle.box_recover.proofs.coefficients.Tie as tie
 
-abbrev invariant-loop : tie.invariant-loop
-invariant-loop word out₀ j₀ out j = (j ≤ 7) × Upto (coefficient_number word) out₀ out j
+abbrev invariant-loop-j : tie.invariant-loop-j
+invariant-loop-j word out₀ j₀ out j = (j ≤ 7) × Upto (coefficient_number word) out₀ out j
 
-abbrev decreases-loop : tie.decreases-loop
-decreases-loop word out₀ j₀ out j = 7 - j
+abbrev decreases-loop-j : tie.decreases-loop-j
+decreases-loop-j word out₀ j₀ out j = 7 - j
 
 pub coefficients_spec : {M : Type 1} → statement M
 coefficients_spec =
-    tie.close (tie.spec invariant-loop decreases-loop
+    tie.close (tie.spec invariant-loop-j decreases-loop-j
     (λ c. (omega arith, upto_none _ _))
     (λ c. search rules)
     (λ c κs. search rules)
     (λ c. search rules)
-    (λ c. let u = c.before.before.loop.invariant.1.same in omega arith)
+    (λ c. let u = c.before.before.loop-j.invariant.1.same in omega arith)
     (λ c. search rules)
     (λ c. search rules)
     (λ c. let a = c.before.before.before.before.before.args in (
       omega arith,
-      upto_more (coefficient_number a.word.now) c.before.before.loop.invariant.1 (omega arith)
-          (coefficient_number_lem a.word.now c.before.before.loop.j _ c.coefficient.ensures),
+      upto_more (coefficient_number a.word.now) c.before.before.loop-j.invariant.1 (omega arith)
+          (coefficient_number_lem a.word.now c.before.before.loop-j.j _ c.coefficient.ensures),
     ))
-    (λ c. c.before.loop.invariant.1.same)
-    (λ c. let a = c.before.before.before.before.args in coefficients_are a.word.now _ _ c.before.loop.j (search rules) (omega arith) c.before.loop.invariant.1))
+    (λ c. c.before.loop-j.invariant.1.same)
+    (λ c. let a = c.before.before.before.before.args in coefficients_are a.word.now _ _ c.before.loop-j.j (search rules) (omega arith) c.before.loop-j.invariant.1))

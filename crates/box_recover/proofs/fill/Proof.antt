@@ -8,33 +8,33 @@ use Rattle.box_recover.proofs.Steps.{fill_none, fill_more, fill_end, entry_in}
 use Rattle.box_recover.proofs.fill.Statement.{statement}
 use Rattle.box_recover.proofs.fill.Tie as tie
 
-abbrev invariant-loop : tie.invariant-loop
-invariant-loop erased word c₀ k₀ c k = (k ≤ length erased) × Filled erased word c₀ c k
+abbrev invariant-loop-k : tie.invariant-loop-k
+invariant-loop-k erased word c₀ k₀ c k = (k ≤ length erased) × Filled erased word c₀ c k
 
-abbrev decreases-loop : tie.decreases-loop
-decreases-loop erased word c₀ k₀ c k = length erased - k
+abbrev decreases-loop-k : tie.decreases-loop-k
+decreases-loop-k erased word c₀ k₀ c k = length erased - k
 
 pub fill_spec : {M : Type 1} → statement M
 fill_spec =
-    tie.close (tie.spec invariant-loop decreases-loop
+    tie.close (tie.spec invariant-loop-k decreases-loop-k
     (λ c. (omega arith, fill_none _ _ _))
     (λ c. search rules)
     (λ c. search rules)
-    (λ c. let b = entry_in c.before.before.before.args.erased.now c.before.before.loop.k 16 c.before.before.before.requires.0 (omega arith) refl in
+    (λ c. let b = entry_in c.before.before.before.args.erased.now c.before.before.loop-k.k 16 c.before.before.before.requires.0 (omega arith) refl in
     record { fits = omega (arith, b) })
-    (λ c. entry_in c.before.before.before.before.args.erased.now c.before.before.before.loop.k _ c.before.before.before.before.requires.0 (omega arith)
+    (λ c. entry_in c.before.before.before.before.args.erased.now c.before.before.before.loop-k.k _ c.before.before.before.before.requires.0 (omega arith)
     c.before.before.before.before.requires.1)
-    (λ c. entry_in c.before.before.before.before.args.erased.now c.before.before.before.loop.k _ c.before.before.before.before.requires.0 (omega arith)
-    (c.before.before.before.loop.invariant.1.long ∙ c.before.before.before.before.requires.2))
+    (λ c. entry_in c.before.before.before.before.args.erased.now c.before.before.before.loop-k.k _ c.before.before.before.before.requires.0 (omega arith)
+    (c.before.before.before.loop-k.invariant.1.long ∙ c.before.before.before.before.requires.2))
     (λ c. search rules)
     (λ c. search rules)
     (λ c.
     let a = c.before.before.before.before.args in (
       omega arith,
-      fill_more a.erased.now a.word.now a.c.now c.before.before.before.loop.c c.before.before.before.loop.k
-          c.before.before.before.loop.invariant.1
-          (entry_in a.erased.now c.before.before.before.loop.k _ c.before.before.before.before.requires.0 (omega arith)
-          (c.before.before.before.loop.invariant.1.long ∙ c.before.before.before.before.requires.2)),
+      fill_more a.erased.now a.word.now a.c.now c.before.before.before.loop-k.c c.before.before.before.loop-k.k
+          c.before.before.before.loop-k.invariant.1
+          (entry_in a.erased.now c.before.before.before.loop-k.k _ c.before.before.before.before.requires.0 (omega arith)
+          (c.before.before.before.loop-k.invariant.1.long ∙ c.before.before.before.before.requires.2)),
     ))
-    (λ c. c.before.loop.invariant.1.long)
-    (λ c. let a = c.before.before.args in fill_end a.erased.now a.word.now a.c.now c.before.loop.c c.before.loop.k (omega arith) c.before.loop.invariant.1))
+    (λ c. c.before.loop-k.invariant.1.long)
+    (λ c. let a = c.before.before.args in fill_end a.erased.now a.word.now a.c.now c.before.loop-k.c c.before.loop-k.k (omega arith) c.before.loop-k.invariant.1))

@@ -6,29 +6,29 @@ use borrow.Author.Rules.{rules}
 use Rattle.box_recover.proofs.interpolate.Statement.{statement}
 use Rattle.box_recover.proofs.interpolate.Tie as tie
 
-abbrev invariant-loop : tie.invariant-loop
-invariant-loop at values out₀ points x₀ out x = (x ≤ 16) × Upto (value_of at values) out₀ out x
+abbrev invariant-loop-x : tie.invariant-loop-x
+invariant-loop-x at values out₀ points x₀ out x = (x ≤ 16) × Upto (value_of at values) out₀ out x
 
-abbrev decreases-loop : tie.decreases-loop
-decreases-loop at values out₀ points x₀ out x = 16 - x
+abbrev decreases-loop-x : tie.decreases-loop-x
+decreases-loop-x at values out₀ points x₀ out x = 16 - x
 
 pub interpolate_spec : {M : Type 1} → statement M
 interpolate_spec =
-    tie.close (tie.spec invariant-loop decreases-loop
+    tie.close (tie.spec invariant-loop-x decreases-loop-x
     (λ c κs. search rules)
     (λ c. (omega arith, upto_none _ _))
     (λ c. search rules)
     (λ c κs. search rules)
-    (λ c. let u = c.before.before.loop.invariant.1.same in omega arith)
+    (λ c. let u = c.before.before.loop-x.invariant.1.same in omega arith)
     (λ c. search rules)
     (λ c. search rules)
     (λ c.
     let a = c.before.before.before.before.before.before.before.args in (
       omega arith,
-      upto_more (value_of a.at.now a.values.now) c.before.before.loop.invariant.1 (omega arith)
-          (value_of_lem a.at.now a.values.now c.before.before.before.all-points.result c.before.before.loop.x _
-          c.before.before.before.all-points.ensures c.through.ensures),
+      upto_more (value_of a.at.now a.values.now) c.before.before.loop-x.invariant.1 (omega arith)
+          (value_of_lem a.at.now a.values.now c.before.before.before.all_points-points.result c.before.before.loop-x.x _
+          c.before.before.before.all_points-points.ensures c.through.ensures),
     ))
-    (λ c. c.before.loop.invariant.1.same)
-    (λ c. let a = c.before.before.before.before.before.before.args in values_are a.at.now a.values.now _ _ c.before.loop.x (search rules)
-    (omega arith) c.before.loop.invariant.1))
+    (λ c. c.before.loop-x.invariant.1.same)
+    (λ c. let a = c.before.before.before.before.before.before.args in values_are a.at.now a.values.now _ _ c.before.loop-x.x (search rules)
+    (omega arith) c.before.loop-x.invariant.1))

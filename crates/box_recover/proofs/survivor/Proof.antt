@@ -9,23 +9,23 @@ use borrow.Author.Rules.{rules}
 use Rattle.box_recover.proofs.survivor.Statement.{statement}
 use Rattle.box_recover.proofs.survivor.Tie as tie
 
-abbrev invariant-loop : tie.invariant-loop
-invariant-loop erased i x₀ k₀ x k = (k ≤ length erased) × (x ≡ free (entry_of erased) k i)
+abbrev invariant-loop-k : tie.invariant-loop-k
+invariant-loop-k erased i x₀ k₀ x k = (k ≤ length erased) × (x ≡ free (entry_of erased) k i)
 
-abbrev decreases-loop : tie.decreases-loop
-decreases-loop erased i x₀ k₀ x k = length erased - k
+abbrev decreases-loop-k : tie.decreases-loop-k
+decreases-loop-k erased i x₀ k₀ x k = length erased - k
 
 pub survivor_spec : {M : Type 1} → statement M
 survivor_spec =
-    tie.close (tie.spec invariant-loop decreases-loop
+    tie.close (tie.spec invariant-loop-k decreases-loop-k
     (λ c. (omega arith, free_none _ _))
     (λ c. search rules)
     (λ c. search rules)
     (λ c κs. let a = c.before.before.before.before.args in let few = c.before.before.before.before.requires.0.few in
-    omega (arith, free_small (entry_of a.erased.now) c.before.before.loop.k a.i _ c.before.before.loop.invariant.1 c.before.before.before.before.requires.1))
+    omega (arith, free_small (entry_of a.erased.now) c.before.before.loop-k.k a.i _ c.before.before.loop-k.invariant.1 c.before.before.before.before.requires.1))
     (λ c. search rules)
     (λ c. search rules)
     (λ c. let a = c.before.before.before.before.before.args in
-    (omega arith, free_more (entry_of a.erased.now) c.before.before.before.loop.k a.i _ _ c.before.before.before.loop.invariant.1 c.skipped.ensures))
-    (λ c. let a = c.before.before.before.args in survivor_is a.erased.now c.before.loop.k a.i _ c.before.before.before.requires.0
-    c.before.before.before.requires.1 (omega arith) c.before.loop.invariant.1))
+    (omega arith, free_more (entry_of a.erased.now) c.before.before.before.loop-k.k a.i _ _ c.before.before.before.loop-k.invariant.1 c.skipped-x.ensures))
+    (λ c. let a = c.before.before.before.args in survivor_is a.erased.now c.before.loop-k.k a.i _ c.before.before.before.requires.0
+    c.before.before.before.requires.1 (omega arith) c.before.loop-k.invariant.1))

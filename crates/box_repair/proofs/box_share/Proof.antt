@@ -8,14 +8,14 @@ use borrow.Author.Rules.{rules}
 use Rattle.box_repair.proofs.box_share.Statement.{statement}
 use Rattle.box_repair.proofs.box_share.Tie as tie
 
-told : (c : tie.After-share-refusal) → let a = c.before.before.before.before.before.args in
-    c.share-refusal.result ≡ share_refusal a.host.0 a.helper.0 a.values.now (length a.out.now)
-told c = rw (← c.before.before.number.ensures, ← c.before.number2.ensures) c.share-refusal.ensures
+told : (c : tie.After-share_refusal-ground) → let a = c.before.before.before.before.before.args in
+    c.share_refusal-ground.result ≡ share_refusal a.host.0 a.helper.0 a.values.now (length a.out.now)
+told c = rw (← c.before.before.number-h.ensures, ← c.before.number-i.ensures) c.share_refusal-ground.ensures
 
-none : (c : tie.Else1) → let a = c.before.before.before.before.before.before.args in share_refusal a.host.0 a.helper.0 a.values.now (length a.out.now) ≡ 0
-none c = sym (told c.before) ∙ c.if1.false
+none : (c : tie.Else-ground-ne0) → let a = c.before.before.before.before.before.before.args in share_refusal a.host.0 a.helper.0 a.values.now (length a.out.now) ≡ 0
+none c = sym (told c.before) ∙ c.if-ground-ne0.false
 
-ok : (c : tie.Else1) → let a = c.before.before.before.before.before.before.args in Sharable a.host.0 a.helper.0 a.values.now (length a.out.now)
+ok : (c : tie.Else-ground-ne0) → let a = c.before.before.before.before.before.before.args in Sharable a.host.0 a.helper.0 a.values.now (length a.out.now)
 ok c = sharable _ _ _ _ (none c)
 
 pub box_share_spec : {M : Type 1} → statement M
@@ -24,7 +24,7 @@ box_share_spec =
     (λ c κs. search rules)
     (λ c κs. search rules)
     (λ c κs. search rules)
-    (λ c. share_refused _ _ _ _ _ (told c.before) c.if1.true)
+    (λ c. share_refused _ _ _ _ _ (told c.before) c.if-ground-ne0.true)
     (λ c κs. ((ok c).values_long, (ok c).symbols))
     (λ c. omega (arith, (ok c.before).room_long))
     (λ c. search rules)

@@ -7,12 +7,12 @@ use Rattle.box_repair.proofs.repair_refusal.Tie as tie
 pub repair_refusal_spec : {M : Type 1} → statement M
 repair_refusal_spec = tie.close (tie.spec
     (λ c. search rules)
-    (λ c. repair_2 _ _ _ _ _ (λ p q r. c.if1.true p))
-    (λ c. repair_2 _ _ _ _ _ (λ p q r. c.if2.true q))
-    (λ c. repair_2 _ _ _ _ _ (λ p q r. c.if3.true r))
+    (λ c. repair_2 _ _ _ _ _ (λ p q r. c.if-shares.true p))
+    (λ c. repair_2 _ _ _ _ _ (λ p q r. c.if-rack-ne-SIZE.true q))
+    (λ c. repair_2 _ _ _ _ _ (λ p q r. c.if-room-ne1.true r))
     (λ c κs. search rules)
-    (λ c. repair_3 _ _ _ _ _ c.before.before.before.before.if1.false c.before.before.before.if2.false c.before.before.if3.false
-    (told_false c.before.numbers_fit.ensures c.if4.true))
+    (λ c. repair_3 _ _ _ _ _ c.before.before.before.before.if-shares.false c.before.before.before.if-rack-ne-SIZE.false c.before.before.if-room-ne1.false
+    (told_false c.before.numbers_fit.ensures c.if-not-numbers_fit.true-raw))
     (λ c κs. search rules)
-    (λ c. repair_rest _ _ _ _ _ c.before.before.before.before.before.if1.false c.before.before.before.before.if2.false
-    c.before.before.before.if3.false _ (told_true c.before.before.numbers_fit.ensures c.before.if4.false) c.helper-refusal.ensures))
+    (λ c. repair_rest _ _ _ _ _ c.before.before.before.before.before.if-shares.false c.before.before.before.before.if-rack-ne-SIZE.false
+    c.before.before.before.if-room-ne1.false _ (told_true c.before.before.numbers_fit.ensures c.before.if-not-numbers_fit.false-raw) c.helper_refusal.ensures))

@@ -15,6 +15,6 @@ card_print_spec =
     (λ c κs.
     let e = c.before in
     let a = e.before.before.before.before.before.args in
-    print_given working a.l a.lost.0 _ a.helpers.now a.group a.card.now e.before.before.number.ensures _ e.before.print-ground.ensures e.if1.false)
+    print_given working a.l a.lost.0 _ a.helpers.now a.group a.card.now e.before.before.number-x.ensures _ e.before.print_ground-ground.ensures e.if-ground-ne0.false)
     (λ c. search rules)
     (λ c. search (print_done working)))

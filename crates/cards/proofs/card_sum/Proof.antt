@@ -9,18 +9,18 @@ use Rattle.cards.proofs.Repair.{part_none, part_more, part_all, helpers_limit, d
 use Rattle.cards.proofs.card_sum.Statement.{statement}
 use Rattle.cards.proofs.card_sum.Tie as tie
 
-abbrev invariant-loop : tie.invariant-loop
-invariant-loop card shares p b d n v₀ k₀ v k = (k ≤ d) × (gf256.coding.elem v ≡ gf256.ops.neg (part_sum gf256 card shares d n p b k))
+abbrev invariant-loop-k : tie.invariant-loop-k
+invariant-loop-k card shares p b d n v₀ k₀ v k = (k ≤ d) × (gf256.coding.elem v ≡ gf256.ops.neg (part_sum gf256 card shares d n p b k))
 
-abbrev decreases-loop : tie.decreases-loop
-decreases-loop card shares p b d n v₀ k₀ v k = d - k
+abbrev decreases-loop-k : tie.decreases-loop-k
+decreases-loop-k card shares p b d n v₀ k₀ v k = d - k
 
-loop_holds : tie.Need-loop-init invariant-loop decreases-loop
+loop_holds : tie.Need-loop-k-init invariant-loop-k decreases-loop-k
 loop_holds c = (omega arith, part_none working _ _ _ _ _ _)
 
 pub card_sum_spec : {M : Type 1} → statement M
 card_sum_spec =
-    tie.close (tie.spec invariant-loop decreases-loop
+    tie.close (tie.spec invariant-loop-k decreases-loop-k
     (λ c κs. search rules)
     loop_holds
     (λ c κs. (search helpers_limit, search digit_limit, omega arith))
@@ -36,8 +36,8 @@ card_sum_spec =
     let o = r.before.before.before.before in
     let a = o.before.before.before.before.args in (
       omega arith,
-      part_more working a.card.now a.shares.now a.l.helpers _ a.p a.b o.loop.k _ _ _ _ _ _ _ o.loop.invariant.1
-          r.before.before.cell.ensures r.before.at.ensures
-          r.cell2.ensures c.before.before.at2.ensures c.before.product.ensures c.difference.ensures,
+      part_more working a.card.now a.shares.now a.l.helpers _ a.p a.b o.loop-k.k _ _ _ _ _ _ _ o.loop-k.invariant.1
+          r.before.before.cell.ensures r.before.at-m.ensures
+          r.cell-in-loop-k.ensures c.before.before.at.ensures c.before.product.ensures c.difference-v.ensures,
     ))
     (λ c. search (part_all working)))

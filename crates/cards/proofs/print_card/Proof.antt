@@ -16,7 +16,7 @@ print_card_spec =
     (λ c κs.
     let s = c.before.before.before.before.before.before.before in
     let a = s.args in
-    let m = c.before.before.before.right-multipliers in
+    let m = c.before.before.before.right_multipliers in
     (omega arith, copy_room working a.l a.h a.p a.helpers.now s.requires.0 a.card.now m.new.0 s.requires.1 (m.auto.0 ∙ room_long)))
     (λ c. search rules)
     (λ c. search (copied_of working)))

@@ -8,15 +8,15 @@ use Rattle.cards.proofs.Compare.{same_more, same_stop, same_all}
 use Rattle.cards257.proofs.alike.Statement.{statement}
 use Rattle.cards257.proofs.alike.Tie as tie
 
-abbrev invariant-loop : tie.invariant-loop
-invariant-loop a b len i₀ i = (i ≤ len) × ((k : ℕ) → k < i → get_or a k 0 ≡ get_or b k 0)
+abbrev invariant-loop-i : tie.invariant-loop-i
+invariant-loop-i a b len i₀ i = (i ≤ len) × ((k : ℕ) → k < i → get_or a k 0 ≡ get_or b k 0)
 
-abbrev decreases-loop : tie.decreases-loop
-decreases-loop a b len i₀ i = len - i
+abbrev decreases-loop-i : tie.decreases-loop-i
+decreases-loop-i a b len i₀ i = len - i
 
 pub alike_spec : {M : Type 1} → statement M
 alike_spec =
-    tie.close (tie.spec invariant-loop decreases-loop
+    tie.close (tie.spec invariant-loop-i decreases-loop-i
     (λ c. (omega arith, λ k h. absurd (omega arith)))
     (λ c κs. omega arith)
     (λ c κs. omega arith)

@@ -11,18 +11,18 @@ use Rattle.cards.proofs.Repair.{below_none, sums_more, sums_end}
 use Rattle.cards257.proofs.card_sums.Statement.{statement}
 use Rattle.cards257.proofs.card_sums.Tie as tie
 
-abbrev invariant-loop : tie.invariant-loop
-invariant-loop sums₀ l card shares p s b₀ sums b = (b ≤ s) × (length sums ≡ length sums₀) × SumsBelow gf257 l card shares p b sums
+abbrev invariant-loop-b : tie.invariant-loop-b
+invariant-loop-b sums₀ l card shares p s b₀ sums b = (b ≤ s) × (length sums ≡ length sums₀) × SumsBelow gf257 l card shares p b sums
 
-abbrev decreases-loop : tie.decreases-loop
-decreases-loop sums₀ l card shares p s b₀ sums b = s - b
+abbrev decreases-loop-b : tie.decreases-loop-b
+decreases-loop-b sums₀ l card shares p s b₀ sums b = s - b
 
-loop_holds : tie.Need-loop-init invariant-loop decreases-loop
+loop_holds : tie.Need-loop-b-init invariant-loop-b decreases-loop-b
 loop_holds c = (omega arith, refl, below_none working _ _ _ _ _)
 
 pub card_sums_spec : {M : Type 1} → statement M
 card_sums_spec =
-    tie.close (tie.spec invariant-loop decreases-loop
+    tie.close (tie.spec invariant-loop-b decreases-loop-b
     (λ c κs. search rules)
     loop_holds
     (λ c κs. (search rules, omega arith))

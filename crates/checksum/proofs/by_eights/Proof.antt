@@ -8,15 +8,15 @@ use Rattle.checksum.proofs.Loops.{eights_more}
 use Rattle.checksum.proofs.by_eights.Statement.{statement}
 use Rattle.checksum.proofs.by_eights.Tie as tie
 
-abbrev invariant-loop : tie.invariant-loop
-invariant-loop t start bytes r₀ i₀ r i = (i ≤ length bytes) × (fed r (drop i bytes) ≡ fed start bytes)
+abbrev invariant-loop-i : tie.invariant-loop-i
+invariant-loop-i t start bytes r₀ i₀ r i = (i ≤ length bytes) × (fed r (drop i bytes) ≡ fed start bytes)
 
-abbrev decreases-loop : tie.decreases-loop
-decreases-loop t start bytes r₀ i₀ r i = length bytes - i
+abbrev decreases-loop-i : tie.decreases-loop-i
+decreases-loop-i t start bytes r₀ i₀ r i = length bytes - i
 
 pub by_eights_spec : {M : Type 1} → statement M
 by_eights_spec =
-    tie.close (tie.spec invariant-loop decreases-loop
+    tie.close (tie.spec invariant-loop-i decreases-loop-i
     (λ c. search rules)
     (λ c. search rules)
     (λ c κs. search rules)

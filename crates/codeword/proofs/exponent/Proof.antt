@@ -10,24 +10,24 @@ use Rattle.layout.specs.Layout.{tray_limit}
 use Rattle.codeword.proofs.exponent.Statement.{statement}
 use Rattle.codeword.proofs.exponent.Tie as tie
 
-rack_high : (c : tie.After-digit-count) → c.before.args.x / c.before.args.l.size ≤ tray_limit
+rack_high : (c : tie.After-digit_count-s) → c.before.args.x / c.before.args.l.size ≤ tray_limit
 rack_high c = omega (arith, rack_in _ c.before.requires.0 _ c.before.requires.1, bounds _ c.before.requires.0)
 
-base_high : (c : tie.After-digit-count) → c.digit-count.result ≤ tray_limit
+base_high : (c : tie.After-digit_count-s) → c.digit_count-s.result ≤ tray_limit
 base_high c = omega (arith, bounds _ c.before.requires.0)
 
 -- the three summands
-parts : (c : tie.After-digit-at) →
-    (c.before.before.args.x / c.before.before.args.l.size * c.before.digit-count.result ≤ tray_limit * tray_limit)
-    × (c.digit_at.result < tray_limit)
+parts : (c : tie.After-digit_at-a) →
+    (c.before.before.args.x / c.before.before.args.l.size * c.before.digit_count-s.result ≤ tray_limit * tray_limit)
+    × (c.digit_at-a.result < tray_limit)
     × (c.before.before.args.x % c.before.before.args.l.size * (c.before.before.args.order / c.before.before.args.l.size) ≤ 256)
 parts c =
     let a = c.before.before.args in
     let adm = c.before.before.requires.0 in
     let b = bounds a.l adm in
-    let s_low : 0 < c.before.digit-count.result = omega arith in (
+    let s_low : 0 < c.before.digit_count-s.result = omega arith in (
       mul-le-mul (rack_high c.before) (base_high c.before),
-      omega (arith, digit_below c.before.digit-count.result s_low a.j (a.x / a.l.size), base_high c.before),
+      omega (arith, digit_below c.before.digit_count-s.result s_low a.j (a.x / a.l.size), base_high c.before),
       le_trans (mul-le-mul (le_of_lt (mod-lt a.x b.size_low)) (le_refl _)) (le_trans (mul-div-le a.order a.l.size) c.before.before.requires.2),
     )
 
@@ -38,7 +38,7 @@ exponent_spec =
     (λ c. (bounds _ c.before.requires.0).size_low)
     (λ c κs. (
       omega (arith, bounds _ c.before.requires.0),
-      rw c.digit-count.ensures (power_in _ c.before.requires.0 _ (le_of_lt (rack_in _ c.before.requires.0 _ c.before.requires.1))),
+      rw c.digit_count-s.ensures (power_in _ c.before.requires.0 _ (le_of_lt (rack_in _ c.before.requires.0 _ c.before.requires.1))),
     ))
     (λ c. (bounds _ c.before.before.requires.0).size_low)
     (λ c. (bounds _ c.before.before.requires.0).size_low)
@@ -48,6 +48,6 @@ exponent_spec =
     (λ c. omega (arith, parts c))
     (λ c.
     let a = c.before.before.args in (
-      exponent_known a.order a.l a.x a.j c.before.digit-count.result c.digit_at.result c.before.digit-count.ensures c.digit_at.ensures,
+      exponent_known a.order a.l a.x a.j c.before.digit_count-s.result c.digit_at-a.result c.before.digit_count-s.ensures c.digit_at-a.ensures,
       omega (arith, parts c),
     )))

@@ -11,15 +11,15 @@ use Rattle.columns.proofs.Rows.{columns_none, columns_more, columns_end, column_
 use Rattle.columns.proofs.add_columns.Statement.{statement}
 use Rattle.columns.proofs.add_columns.Tie as tie
 
-abbrev invariant-loop : tie.invariant-loop
-invariant-loop found₀ to v run turns sums from coefs at count c₀ found c = (c ≤ count) × (length found ≡ length found₀) × Run (weighted gf256 found₀ to v run sums from coefs at) found₀ found to (c * run)
+abbrev invariant-loop-c : tie.invariant-loop-c
+invariant-loop-c found₀ to v run turns sums from coefs at count c₀ found c = (c ≤ count) × (length found ≡ length found₀) × Run (weighted gf256 found₀ to v run sums from coefs at) found₀ found to (c * run)
 
-abbrev decreases-loop : tie.decreases-loop
-decreases-loop found₀ to v run turns sums from coefs at count c₀ found c = count - c
+abbrev decreases-loop-c : tie.decreases-loop-c
+decreases-loop-c found₀ to v run turns sums from coefs at count c₀ found c = count - c
 
 pub add_columns_spec : {M : Type 1} → statement M
 add_columns_spec =
-    tie.close (tie.spec invariant-loop decreases-loop
+    tie.close (tie.spec invariant-loop-c decreases-loop-c
     (λ c. search count_fits)
     (λ c. (omega arith, refl, columns_none working _ _ _ _ _ _ _ _))
     (λ c. search column_fits)
@@ -38,7 +38,7 @@ add_columns_spec =
       let c1 = c.before.before in
           let c2 = c1.before in
           let c3 = c2.before.before.before in
-          let k = c3.loop in columns_more working _ _ _ _ _ _ _ _ _ _ k.c _ k.invariant.2 c2.at.ensures c1.add-multiple.ensures,
+          let k = c3.loop-c in columns_more working _ _ _ _ _ _ _ _ _ _ k.c _ k.invariant.2 c2.at.ensures c1.add_multiple.ensures,
     ))
     (λ c. search rules)
     (λ c. search (columns_end working)))

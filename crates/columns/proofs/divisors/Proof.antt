@@ -11,21 +11,21 @@ use Rattle.columns.proofs.Dividing.{turned_start, divisors_of, all_in, whole_fit
 use Rattle.columns.proofs.divisors.Statement.{statement}
 use Rattle.columns.proofs.divisors.Tie as tie
 
-abbrev invariant-loop : tie.invariant-loop
-invariant-loop out₀ v m points k₀ out k = (k ≤ m) × (0 < k) × (length out ≡ length out₀) × Turned gf256 v m points k out
+abbrev invariant-loop-k : tie.invariant-loop-k
+invariant-loop-k out₀ v m points k₀ out k = (k ≤ m) × (0 < k) × (length out ≡ length out₀) × Turned gf256 v m points k out
 
-abbrev decreases-loop : tie.decreases-loop
-decreases-loop out₀ v m points k₀ out k = m - k
+abbrev decreases-loop-k : tie.decreases-loop-k
+decreases-loop-k out₀ v m points k₀ out k = m - k
 
 pub divisors_spec : {M : Type 1} → statement M
 divisors_spec =
-    tie.close (tie.spec invariant-loop decreases-loop
+    tie.close (tie.spec invariant-loop-k decreases-loop-k
     (λ c. search whole_fits)
     (λ c κs. search all_in)
     (λ c. (omega arith, omega arith, search rules, search (turned_start working, minus_one_is)))
     (λ c κs. (
       (let a = c.before.before.before.before.before.before.before.before.before in columns_next a.args.v a.args.m
-          a.args.points.now a.args.out.now c.before.before.loop.out a.requires.0 (search rules)),
+          a.args.points.now a.args.out.now c.before.before.loop-k.out a.requires.0 (search rules)),
       omega arith,
       omega arith,
       search rules,
@@ -36,11 +36,11 @@ divisors_spec =
     (λ c. search whole_fits)
     (λ c κs.
     let a = c.before.before.before.before.before.before.before.before.before in
-    all_in a.args.v a.args.m a.args.points.now c.before.before.loop.out
-    (columns_next a.args.v a.args.m a.args.points.now a.args.out.now c.before.before.loop.out a.requires.0 (search rules)))
+    all_in a.args.v a.args.m a.args.points.now c.before.before.loop-k.out
+    (columns_next a.args.v a.args.m a.args.points.now a.args.out.now c.before.before.loop-k.out a.requires.0 (search rules)))
     (λ c. search rules)
     (λ c.
     let a = c.before.before.before.before.before.before.before.before.before.before.before.before in
-    let k = c.before.before.before.before.before.loop in
-    divisors_of working a.args.v a.args.m k.k a.args.points.now k.out c.before.before.invert.new.0 k.invariant.3
+    let k = c.before.before.before.before.before.loop-k in
+    divisors_of working a.args.v a.args.m k.k a.args.points.now k.out-1 c.before.before.invert.new.0 k.invariant.3
     (omega arith) (omega arith) c.before.before.invert.ensures))

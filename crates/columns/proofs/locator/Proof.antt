@@ -10,15 +10,15 @@ use Rattle.columns.proofs.Steps.{locator_start, locator_more, locator_end, colum
 use Rattle.columns.proofs.locator.Statement.{statement}
 use Rattle.columns.proofs.locator.Tie as tie
 
-abbrev invariant-loop : tie.invariant-loop
-invariant-loop out₀ carry₀ v m points q₀ out carry q = (q ≤ m) × (length out ≡ length out₀) × (length carry ≡ length carry₀) × Locator gf256 v m points q out
+abbrev invariant-loop-q : tie.invariant-loop-q
+invariant-loop-q out₀ carry₀ v m points q₀ out carry q = (q ≤ m) × (length out ≡ length out₀) × (length carry ≡ length carry₀) × Locator gf256 v m points q out
 
-abbrev decreases-loop : tie.decreases-loop
-decreases-loop out₀ carry₀ v m points q₀ out carry q = m - q
+abbrev decreases-loop-q : tie.decreases-loop-q
+decreases-loop-q out₀ carry₀ v m points q₀ out carry q = m - q
 
 pub locator_spec : {M : Type 1} → statement M
 locator_spec =
-    tie.close (tie.spec invariant-loop decreases-loop
+    tie.close (tie.spec invariant-loop-q decreases-loop-q
     (λ c κs. search first_in)
     (λ c. search whole_fits)
     (λ c. search rest_low)
@@ -27,7 +27,7 @@ locator_spec =
     (λ c κs. omega arith)
     (λ c κs. (
       (let a = c.before.before.before.before.before.before.before.before.before.before.before.before.before.before.before.before in
-          columns_next a.args.v a.args.m a.args.points.now a.args.out.now c.before.before.before.before.loop.out a.requires.0 (search rules)),
+          columns_next a.args.v a.args.m a.args.points.now a.args.out.now c.before.before.before.before.loop-q.out a.requires.0 (search rules)),
       search rules,
       search top_in,
       omega arith,

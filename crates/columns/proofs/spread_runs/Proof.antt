@@ -9,15 +9,15 @@ use Rattle.columns.proofs.Rows.{spread_none, spread_more, spread_end, spread_in,
 use Rattle.columns.proofs.spread_runs.Statement.{statement}
 use Rattle.columns.proofs.spread_runs.Tie as tie
 
-abbrev invariant-loop : tie.invariant-loop
-invariant-loop row₀ v run coefs at c₀ row c = (c ≤ v) × (length row ≡ length row₀) × Run (stretched coefs at run) row₀ row 0 (c * run)
+abbrev invariant-loop-c : tie.invariant-loop-c
+invariant-loop-c row₀ v run coefs at c₀ row c = (c ≤ v) × (length row ≡ length row₀) × Run (stretched coefs at run) row₀ row 0 (c * run)
 
-abbrev decreases-loop : tie.decreases-loop
-decreases-loop row₀ v run coefs at c₀ row c = v - c
+abbrev decreases-loop-c : tie.decreases-loop-c
+decreases-loop-c row₀ v run coefs at c₀ row c = v - c
 
 pub spread_runs_spec : {M : Type 1} → statement M
 spread_runs_spec =
-    tie.close (tie.spec invariant-loop decreases-loop
+    tie.close (tie.spec invariant-loop-c decreases-loop-c
     (λ c. (omega arith, refl, spread_none _ _ _ _))
     (λ c. search spread_fits)
     (λ c. omega arith)

@@ -12,15 +12,15 @@ use Rattle.columns.proofs.Dividing.{quotient_start, quotient_more, quotient_end,
 use Rattle.columns257.proofs.quotient.Statement.{statement}
 use Rattle.columns257.proofs.quotient.Tie as tie
 
-abbrev invariant-loop : tie.invariant-loop
-invariant-loop out₀ v m i product points t₀ out t = (t < m) × (length out ≡ length out₀) × Quotient gf257 v m points i t out
+abbrev invariant-loop-t : tie.invariant-loop-t
+invariant-loop-t out₀ v m i product points t₀ out t = (t < m) × (length out ≡ length out₀) × Quotient gf257 v m points i t out
 
-abbrev decreases-loop : tie.decreases-loop
-decreases-loop out₀ v m i product points t₀ out t = t
+abbrev decreases-loop-t : tie.decreases-loop-t
+decreases-loop-t out₀ v m i product points t₀ out t = t
 
 pub quotient_spec : {M : Type 1} → statement M
 quotient_spec =
-    tie.close (tie.spec invariant-loop decreases-loop
+    tie.close (tie.spec invariant-loop-t decreases-loop-t
     (λ c. omega arith)
     (λ c. search top_fits)
     (λ c κs. search top_in)
@@ -35,8 +35,8 @@ quotient_spec =
     (λ c. search point_fits)
     (λ c κs. (
       search next_after,
-      (let a = c.before.before.before.before.before.before.before.before.before.before in let k = c.before.before.loop in
-          next_in a.args.v a.args.m a.args.points.now a.args.out.now a.requires.0 k.t k.out k.invariant.0 (omega arith) (search rules)),
+      (let a = c.before.before.before.before.before.before.before.before.before.before in let k = c.before.before.loop-t in
+          next_in a.args.v a.args.m a.args.points.now a.args.out.now a.requires.0 k.t k.out-1 k.invariant.0 (omega arith) (search rules)),
       search product_in,
       search point_in,
     ))

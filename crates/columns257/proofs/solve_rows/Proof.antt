@@ -11,22 +11,22 @@ use Rattle.columns.proofs.Rows.{solved_none, solved_more, solved_end, systems_ne
 use Rattle.columns257.proofs.solve_rows.Statement.{statement}
 use Rattle.columns257.proofs.solve_rows.Tie as tie
 
-abbrev invariant-loop : tie.invariant-loop
-invariant-loop found₀ w v run turns m n sums points product divs coefs₀ row₀ i₀ found coefs row i =
+abbrev invariant-loop-i : tie.invariant-loop-i
+invariant-loop-i found₀ w v run turns m n sums points product divs coefs₀ row₀ i₀ found coefs row i =
     (i ≤ n) × (length found ≡ length found₀) × (length coefs ≡ length coefs₀) × (length row ≡ length row₀) × Solved gf257 w v run m sums points found i
 
-abbrev decreases-loop : tie.decreases-loop
-decreases-loop found₀ w v run turns m n sums points product divs coefs₀ row₀ i₀ found coefs row i = n - i
+abbrev decreases-loop-i : tie.decreases-loop-i
+decreases-loop-i found₀ w v run turns m n sums points product divs coefs₀ row₀ i₀ found coefs row i = n - i
 
 pub solve_rows_spec : {M : Type 1} → statement M
 solve_rows_spec =
-    tie.close (tie.spec invariant-loop decreases-loop
+    tie.close (tie.spec invariant-loop-i decreases-loop-i
     (λ c. (omega arith, refl, refl, refl, solved_none working _ _ _ _ _ _ _))
     (λ c κs. (
       (let a = c.before.before.before.before.before.before.before.before.before.before.before.before in
-          let k = c.before.before.before.before.loop in
-          systems_next a.args.w a.args.v a.args.run a.args.turns a.args.m a.args.found.now k.found a.args.sums.now a.args.coefs.now k.coefs
-          a.args.row.now k.row a.requires.0 k.invariant.1 k.invariant.2 k.invariant.3),
+          let k = c.before.before.before.before.loop-i in
+          systems_next a.args.w a.args.v a.args.run a.args.turns a.args.m a.args.found.now k.found-1 a.args.sums.now a.args.coefs.now k.coefs-1
+          a.args.row.now k.row-1 a.requires.0 k.invariant.1 k.invariant.2 k.invariant.3),
       search rules,
       omega arith,
     ))

@@ -11,15 +11,15 @@ use Rattle.columns.proofs.Steps.{timing_none, timing_more, timed_of, shift_in, s
 use Rattle.columns257.proofs.times.Statement.{statement}
 use Rattle.columns257.proofs.times.Tie as tie
 
-abbrev invariant-loop : tie.invariant-loop
-invariant-loop out₀ carry₀ v m top q points t₀ out carry t = (t ≤ top + 1) × (length out ≡ length out₀) × (length carry ≡ length carry₀) × Timing gf257 v q points out₀ out carry t
+abbrev invariant-loop-t : tie.invariant-loop-t
+invariant-loop-t out₀ carry₀ v m top q points t₀ out carry t = (t ≤ top + 1) × (length out ≡ length out₀) × (length carry ≡ length carry₀) × Timing gf257 v q points out₀ out carry t
 
-abbrev decreases-loop : tie.decreases-loop
-decreases-loop out₀ carry₀ v m top q points t₀ out carry t = top + 1 - t
+abbrev decreases-loop-t : tie.decreases-loop-t
+decreases-loop-t out₀ carry₀ v m top q points t₀ out carry t = top + 1 - t
 
 pub times_spec : {M : Type 1} → statement M
 times_spec =
-    tie.close (tie.spec invariant-loop decreases-loop
+    tie.close (tie.spec invariant-loop-t decreases-loop-t
     (λ c κs. omega arith)
     (λ c. (omega arith, refl, refl, search (timing_none working)))
     (λ c. search shift_fits)

@@ -30,7 +30,7 @@ refusal_spec =
       search (cabinet_so gf256.order),
       let c1 = c.before.before.before.before.before in
           let c2 = c1.before.before.before in
-          long_so _ _ _ _ c1.if3.false c2.layer-count.ensures,
+          long_so _ _ _ _ c1.if-host-u.false c2.layer_count-total.ensures,
     ))
     (λ c. search stop_3_symbols)
     (λ c κs. search rules)

@@ -14,7 +14,7 @@ rebuild_in_spec =
     (λ c.
     let c1 = c.before.before.before.before.before.before.before in
     let a = c1.args in
-    product_fits gf257.order a.l a.x a.helpers.now a.shares.now a.host.now a.k a.spare.now c1.requires.0 _ c.group-count.ensures)
+    product_fits gf257.order a.l a.x a.helpers.now a.shares.now a.host.now a.k a.spare.now c1.requires.0 _ c.group_count.ensures)
     (λ c.
     let c1 = c.before.before.before.before.before.before.before in
     let a = c1.args in
@@ -30,19 +30,19 @@ rebuild_in_spec =
     let c2 = c1.before.before.before.before.before.before.before in
     let a = c2.args in
     let p = c2.requires in
-    sent_room gf257.order a.l a.x a.helpers.now a.shares.now a.host.now a.k a.spare.now p.0 _ a.sent.now c1.group-count.ensures p.2)
+    sent_room gf257.order a.l a.x a.helpers.now a.shares.now a.host.now a.k a.spare.now p.0 _ a.sent.now c1.group_count.ensures p.2)
     (λ c.
     let c1 = c.before.before in
     let c2 = c1.before.before.before.before.before.before.before in
     let a = c2.args in
     let p = c2.requires in
-    cut_sent gf257.order a.l a.x a.helpers.now a.shares.now a.host.now a.k a.spare.now p.0 _ a.sent.now c1.group-count.ensures p.2)
+    cut_sent gf257.order a.l a.x a.helpers.now a.shares.now a.host.now a.k a.spare.now p.0 _ a.sent.now c1.group_count.ensures p.2)
     (λ c κs.
     let c1 = c.before.before.before in
     let c2 = c1.before.before.before.before.before.before.before in
     let a = c2.args in
     let p = c2.requires in
-    let f = cut_fits gf257.order a.l a.x a.helpers.now a.shares.now a.host.now a.k a.spare.now p.0 _ a.few.now a.sent.now c1.group-count.ensures p.1 p.2 in (p.0, f.0, f.1))
+    let f = cut_fits gf257.order a.l a.x a.helpers.now a.shares.now a.host.now a.k a.spare.now p.0 _ a.few.now a.sent.now c1.group_count.ensures p.1 p.2 in (p.0, f.0, f.1))
     (λ c. search rules)
     (λ c. search rules)
     (λ c. search rules)

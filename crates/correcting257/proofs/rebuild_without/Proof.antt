@@ -24,8 +24,8 @@ rebuild_without_spec =
     let c3 = c2.before.before.before.before.before.before.before in
     let a = c3.args in
     let p = c3.requires in
-    shares_in working a.l a.x a.helpers.now a.shares.now a.host.now a.k a.spare.now p.0 c2.group-count.result
-    a.few.now c1.leave-helpers.new.0 a.sent.now c2.group-count.ensures p.1 c1.leave-helpers.ensures.long p.2)
+    shares_in working a.l a.x a.helpers.now a.shares.now a.host.now a.k a.spare.now p.0 c2.group_count-total.result
+    a.few.now c1.leave_helpers.new.0 a.sent.now c2.group_count-total.ensures p.1 c1.leave_helpers.ensures.long p.2)
     (λ c κs.
     let c1 = c.before.before.before.before.before in
     let c2 = c1.before.before.before.before in
@@ -33,7 +33,7 @@ rebuild_without_spec =
     let a = c3.args in
     let p = c3.requires in
     rebuilding_of working a.l a.x a.helpers.now a.shares.now a.host.now a.k a.spare.now p.0 (length a.few.now)
-    c2.leave-helpers.new.0 c1.leave-shares.new.0 p.1 c2.leave-helpers.ensures (c1.leave-shares.auto.0 ∙ p.2))
+    c2.leave_helpers.new.0 c1.leave_shares.new.0 p.1 c2.leave_helpers.ensures (c1.leave_shares.auto.0 ∙ p.2))
     (λ c. search rules)
     (λ c. search rules)
     (λ c. search rules)
@@ -45,5 +45,5 @@ rebuild_without_spec =
     let c5 = c4.before.before.before.before.before.before.before in
     let a = c5.args in
     let p = c5.requires in
-    without_of working a.l a.x a.helpers.now a.shares.now a.host.now a.k a.spare.now p.0 c4.group-count.result (length a.few.now)
-    (length c3.leave-helpers.new.0) _ _ _ c4.group-count.ensures p.1 c3.leave-helpers.ensures.long c3.leave-helpers.ensures c2.leave-shares.ensures c1.rebuild.ensures))
+    without_of working a.l a.x a.helpers.now a.shares.now a.host.now a.k a.spare.now p.0 c4.group_count-total.result (length a.few.now)
+    (length c3.leave_helpers.new.0) _ _ _ c4.group_count-total.ensures p.1 c3.leave_helpers.ensures.long c3.leave_helpers.ensures c2.leave_shares.ensures c1.rebuild.ensures))

@@ -8,28 +8,28 @@ use Rattle.grounds.proofs.Grounds.{rack_true, rack_false, rack_more}
 use Rattle.grounds.proofs.one_rack.Statement.{statement}
 use Rattle.grounds.proofs.one_rack.Tie as tie
 
-abbrev invariant-loop : tie.invariant-loop
-invariant-loop lost u i₀ i = (i ≤ length lost) × ((k : ℕ) → k < i → get_or lost k 0 / u ≡ get_or lost 0 0 / u)
+abbrev invariant-loop-i : tie.invariant-loop-i
+invariant-loop-i lost u i₀ i = (i ≤ length lost) × ((k : ℕ) → k < i → get_or lost k 0 / u ≡ get_or lost 0 0 / u)
 
-abbrev decreases-loop : tie.decreases-loop
-decreases-loop lost u i₀ i = length lost - i
+abbrev decreases-loop-i : tie.decreases-loop-i
+decreases-loop-i lost u i₀ i = length lost - i
 
 pub one_rack_spec : {M : Type 1} → statement M
 one_rack_spec =
-    tie.close (tie.spec invariant-loop decreases-loop
+    tie.close (tie.spec invariant-loop-i decreases-loop-i
     (λ c. (omega arith, λ k h. absurd (omega arith)))
     (λ c. search rules)
     (λ c. search rules)
     (λ c. search size_pos)
     (λ c. search rules)
     (λ c. search size_pos)
-    (λ c. rack_false _ _ c.before.before.before.before.loop.i (omega arith) c.if1.true)
+    (λ c. rack_false _ _ c.before.before.before.before.loop-i.i (omega arith) c.if-lost-i.true)
     (λ c. search rules)
     (λ c. search rules)
     (λ c. (
       omega arith,
       let c1 = c.before.before.before.before in
           let c2 = c1.before in
-          rack_more c2.args.lost.now c2.args.l.size c1.loop.i c1.loop.invariant.1 c.if1.false,
+          rack_more c2.args.lost.now c2.args.l.size c1.loop-i.i c1.loop-i.invariant.1 c.if-lost-i.false,
     ))
-    (λ c. rack_true _ _ (λ k h. c.before.loop.invariant.1 k (omega arith))))
+    (λ c. rack_true _ _ (λ k h. c.before.loop-i.invariant.1 k (omega arith))))

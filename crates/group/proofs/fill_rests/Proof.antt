@@ -11,29 +11,29 @@ use Rattle.group.proofs.Rests.{grow_none, grow_more, grow_end}
 use Rattle.group.proofs.fill_rests.Statement.{statement}
 use Rattle.group.proofs.fill_rests.Tie as tie
 
-abbrev invariant-loop : tie.invariant-loop
-invariant-loop rests₀ l h lost w a r host sums cur₀ row₀ u s g₀ rests cur row g = (g ≤ u) × (length rests ≡ length rests₀) × (length cur ≡ length cur₀)
+abbrev invariant-loop-g : tie.invariant-loop-g
+invariant-loop-g rests₀ l h lost w a r host sums cur₀ row₀ u s g₀ rests cur row g = (g ≤ u) × (length rests ≡ length rests₀) × (length cur ≡ length cur₀)
     × (length row ≡ length row₀) × Growing gf256 l lost host w a r.start r.run r.stride sums rests g
 
-abbrev decreases-loop : tie.decreases-loop
-decreases-loop rests₀ l h lost w a r host sums cur₀ row₀ u s g₀ rests cur row g = u - g
+abbrev decreases-loop-g : tie.decreases-loop-g
+decreases-loop-g rests₀ l h lost w a r host sums cur₀ row₀ u s g₀ rests cur row g = u - g
 
 pub fill_rests_spec : {M : Type 1} → statement M
 fill_rests_spec =
-    tie.close (tie.spec invariant-loop decreases-loop
+    tie.close (tie.spec invariant-loop-g decreases-loop-g
     (λ c κs. search rules)
     (λ c. search rules)
-    (λ c κs. let s = c.before.before.before.before.before.before.before.before in let d = c.before.digit-count.ensures in
+    (λ c κs. let s = c.before.before.before.before.before.before.before.before in let d = c.before.digit_count-s.ensures in
     (s.requires.2.sums_long, rw d s.requires.4, rw d s.requires.3, s.requires.1.some))
     (λ c. (omega arith, search rules, refl, refl, search (grow_none working)))
     (λ c κs.
     let c1 = c.before.before.before.before in
     let s = c1.before.before.before.before.before.before.before.before.before.before.before.before in
     let a = s.args in
-    let k = c1.loop in (
+    let k = c1.loop-g in (
       s.requires.0,
       s.requires.1,
-      room_next a.w (length a.lost.now) a.rests.now a.cur.now a.row.now k.rests k.cur k.row s.requires.2
+      room_next a.w (length a.lost.now) a.rests.now a.cur.now a.row.now k.rests-1 k.cur-1 k.row-1 s.requires.2
           (search rules) k.invariant.2 k.invariant.3,
       omega arith,
     ))

@@ -27,6 +27,6 @@ place_terms_spec =
     let c5 = c4.before.before.before in
     let s = c5.before.before.before.before.before in
     let a = s.args in
-    terms_of working a.l a.w a.e a.r.start a.r.run a.r.count a.r.stride c5.layer-count.result a.host.now a.g
-    c3.place-power.result a.cur.now c4.gather.new.0 a.row.now c2.fill.new.0
-    a.rests.now c1.add-terms.new.0 c5.layer-count.ensures c3.place-power.ensures s.requires.1 c4.gather.ensures c2.fill.ensures c1.add-terms.ensures))
+    terms_of working a.l a.w a.e a.r.start a.r.run a.r.count a.r.stride c5.layer_count-total.result a.host.now a.g
+    c3.place_power-p.result a.cur.now c4.gather.new.0 a.row.now c2.fill.new.0
+    a.rests.now c1.add_terms.new.0 c5.layer_count-total.ensures c3.place_power-p.ensures s.requires.1 c4.gather.ensures c2.fill.ensures c1.add_terms.ensures))

@@ -10,17 +10,17 @@ use Rattle.group.proofs.Repair.{space_next, repaired_none, repaired_more, repair
 use Rattle.group.proofs.repair_block.Statement.{statement}
 use Rattle.group.proofs.repair_block.Tie as tie
 
-abbrev invariant-loop : tie.invariant-loop
-invariant-loop l h lost host w first sums rests₀ found₀ places coefs₀ row₀ cur₀ spare₀ s a₀ rests found coefs row cur spare a = (a ≤ s)
+abbrev invariant-loop-a : tie.invariant-loop-a
+invariant-loop-a l h lost host w first sums rests₀ found₀ places coefs₀ row₀ cur₀ spare₀ s a₀ rests found coefs row cur spare a = (a ≤ s)
     × (length rests ≡ length rests₀) × (length found ≡ length found₀) × (length coefs ≡ length coefs₀) × (length row ≡ length row₀) × (length cur ≡ length cur₀)
     × (length spare ≡ length spare₀) × BlockRepaired gf256 l h lost host w first sums a spare₀ spare
 
-abbrev decreases-loop : tie.decreases-loop
-decreases-loop l h lost host w first sums rests₀ found₀ places coefs₀ row₀ cur₀ spare₀ s a₀ rests found coefs row cur spare a = s - a
+abbrev decreases-loop-a : tie.decreases-loop-a
+decreases-loop-a l h lost host w first sums rests₀ found₀ places coefs₀ row₀ cur₀ spare₀ s a₀ rests found coefs row cur spare a = s - a
 
 pub repair_block_spec : {M : Type 1} → statement M
 repair_block_spec =
-    tie.close (tie.spec invariant-loop decreases-loop
+    tie.close (tie.spec invariant-loop-a decreases-loop-a
     (λ c κs. search rules)
     (λ c κs. search rules)
     (λ c. (omega arith, refl, refl, refl, refl, refl, refl, repaired_none working _ _ _ _ _ _ _ _))
@@ -32,14 +32,14 @@ repair_block_spec =
     let c5 = c4.before.before in
     let s = c5.before.before.before.before.before.before.before.before.before.before.before in
     let a = s.args in
-    let k = c2.loop in
-    let t : k.a < c5.digit-count.result = c1.loop-test.true in (
+    let k = c2.loop-a in
+    let t : k.a < c5.digit_count-s.result = c1.loop-a-test.true in (
       s.requires.0,
-      rw (sym c5.digit-count.ensures) t,
-      space_next (length a.lost.now) a.w a.rests.now a.found.now a.places.now a.coefs.now a.row.now a.cur.now k.rests k.found
-          c4.fill-places.new.1.1.0 k.coefs k.row k.cur
-          s.requires.1 k.invariant.1 k.invariant.2 c3.places.given k.invariant.3 k.invariant.4 k.invariant.5,
-      c4.fill-places.ensures,
+      rw (sym c5.digit_count-s.ensures) t,
+      space_next (length a.lost.now) a.w a.rests.now a.found.now a.places.now a.coefs.now a.row.now a.cur.now k.rests-1 k.found-1
+          c4.fill_places.new.1.1.0 k.coefs-1 k.row-1 k.cur-1
+          s.requires.1 k.invariant.1 k.invariant.2 c3.places-1.given k.invariant.3 k.invariant.4 k.invariant.5,
+      c4.fill_places.ensures,
       k.invariant.6 ∙ s.requires.2,
     ))
     (λ c. omega arith)
@@ -56,19 +56,19 @@ repair_block_spec =
     let c9 = c8.before.before.before.before.before in
     let s = c9.before.before.before.before.before.before.before.before.before.before.before in
     let a = s.args in
-    let k = c8.loop in
-    let d = c6.repair-digit in
-    let t : k.a < c9.digit-count.result = c7.loop-test.true in
-    let n : k.a + 1 ≤ c9.digit-count.result = omega arith in (
+    let k = c8.loop-a in
+    let d = c6.repair_digit in
+    let t : k.a < c9.digit_count-s.result = c7.loop-a-test.true in
+    let n : k.a + 1 ≤ c9.digit_count-s.result = omega arith in (
       n,
-      c5.rests.given ∙ k.invariant.1,
-      c4.found.given ∙ k.invariant.2,
-      c3.coefs.given ∙ k.invariant.3,
-      c2.row.given ∙ k.invariant.4,
-      c1.cur.given ∙ k.invariant.5,
-      c.before.spare.given ∙ k.invariant.6,
-      repaired_more working a.l a.h a.lost.now a.host.now a.w a.first a.sums.now k.a a.spare.now k.spare
-          d.new.1.1.1.1.1.1.1.1.1.1.1.1.1.1.0 s.requires.0 (rw (sym c9.digit-count.ensures) t) k.invariant.7 d.ensures,
+      c5.rests-1.given ∙ k.invariant.1,
+      c4.found-1.given ∙ k.invariant.2,
+      c3.coefs-1.given ∙ k.invariant.3,
+      c2.row-1.given ∙ k.invariant.4,
+      c1.cur-1.given ∙ k.invariant.5,
+      c.before.spare-1.given ∙ k.invariant.6,
+      repaired_more working a.l a.h a.lost.now a.host.now a.w a.first a.sums.now k.a a.spare.now k.spare-1
+          d.new.1.1.1.1.1.1.1.1.1.1.1.1.1.1.0 s.requires.0 (rw (sym c9.digit_count-s.ensures) t) k.invariant.7 d.ensures,
     ))
     (λ c. search rules)
     (λ c. search rules)

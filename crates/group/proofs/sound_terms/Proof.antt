@@ -18,7 +18,7 @@ sound_terms_spec =
     let c1 = c.before in
     let c2 = c1.before.before.before.before.before.before in
     let s = c2 in let a = s.args in terms_lost working a.l a.h a.lost.now a.host.now s.requires.0 a.w (length a.lost.now)
-    (λ j. spot a.r.start a.r.run a.r.stride j) a.g a.rests.now s.requires.3 (told_false c1.is-absent.ensures c.if1.true))
+    (λ j. spot a.r.start a.r.run a.r.stride j) a.g a.rests.now s.requires.3 (told_false c1.is_absent.ensures c.if-not-is_absent.true-raw))
     (λ c κs. search rules)
     (λ c. search rules)
     (λ c. search rules)
@@ -30,4 +30,4 @@ sound_terms_spec =
     let s = c3.before.before.before.before.before.before in
     let a = s.args in
     terms_sound working a.l a.h a.lost.now a.host.now s.requires.0 a.w (length a.lost.now) (λ j. spot a.r.start a.r.run a.r.stride j)
-    a.g a.rests.now c1.place-terms.new.0 (told_true c3.is-absent.ensures c2.if1.false) c1.place-terms.ensures))
+    a.g a.rests.now c1.place_terms.new.0 (told_true c3.is_absent.ensures c2.if-not-is_absent.false-raw) c1.place_terms.ensures))

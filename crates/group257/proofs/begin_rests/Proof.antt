@@ -12,15 +12,15 @@ use Rattle.group.proofs.Rests.{begin_none, begin_more, begin_end, begin_from, be
 use Rattle.group257.proofs.begin_rests.Statement.{statement}
 use Rattle.group257.proofs.begin_rests.Tie as tie
 
-abbrev invariant-loop : tie.invariant-loop
-invariant-loop rests₀ w e s a sums m₀ rests m = (m ≤ e) × (length rests ≡ length rests₀) × Begun gf257 w m s a sums rests
+abbrev invariant-loop-m : tie.invariant-loop-m
+invariant-loop-m rests₀ w e s a sums m₀ rests m = (m ≤ e) × (length rests ≡ length rests₀) × Begun gf257 w m s a sums rests
 
-abbrev decreases-loop : tie.decreases-loop
-decreases-loop rests₀ w e s a sums m₀ rests m = e - m
+abbrev decreases-loop-m : tie.decreases-loop-m
+decreases-loop-m rests₀ w e s a sums m₀ rests m = e - m
 
 pub begin_rests_spec : {M : Type 1} → statement M
 begin_rests_spec =
-    tie.close (tie.spec invariant-loop decreases-loop
+    tie.close (tie.spec invariant-loop-m decreases-loop-m
     (λ c. (omega arith, refl, begin_none working _ _ _ _ _))
     (λ c. search power_run_fits)
     (λ c. search (begin_fits_2 working))

@@ -14,18 +14,18 @@ use Rattle.group.proofs.Rests.{places_none, places_more, places_end}
 use Rattle.group257.proofs.fill_places.Statement.{statement}
 use Rattle.group257.proofs.fill_places.Tie as tie
 
-abbrev invariant-loop : tie.invariant-loop
-invariant-loop l lost places₀ u i₀ places i = (i ≤ length lost) × (length places ≡ length places₀) × PlacesTo gf257 l lost i places
+abbrev invariant-loop-i : tie.invariant-loop-i
+invariant-loop-i l lost places₀ u i₀ places i = (i ≤ length lost) × (length places ≡ length places₀) × PlacesTo gf257 l lost i places
 
-abbrev decreases-loop : tie.decreases-loop
-decreases-loop l lost places₀ u i₀ places i = length lost - i
+abbrev decreases-loop-i : tie.decreases-loop-i
+decreases-loop-i l lost places₀ u i₀ places i = length lost - i
 
-loop_holds : tie.Need-loop-init invariant-loop decreases-loop
+loop_holds : tie.Need-loop-i-init invariant-loop-i decreases-loop-i
 loop_holds c = (omega arith, refl, search (places_none working))
 
 pub fill_places_spec : {M : Type 1} → statement M
 fill_places_spec =
-    tie.close (tie.spec invariant-loop decreases-loop loop_holds
+    tie.close (tie.spec invariant-loop-i decreases-loop-i loop_holds
     (λ c. search rules)
     (λ c. omega arith)
     (λ c. search size_pos)
@@ -34,6 +34,6 @@ fill_places_spec =
     (λ c. omega arith)
     (λ c. omega arith)
     (λ c. let d = c.before.before in let i = d.before.before.before.before.before in
-    (omega arith, search rules, places_more working _ _ _ _ _ _ i.loop.invariant.2 d.fill.ensures d.before.place-power.ensures))
+    (omega arith, search rules, places_more working _ _ _ _ _ _ i.loop-i.invariant.2 d.fill.ensures d.before.place_power.ensures))
     (λ c. search rules)
     (λ c. search (places_end working)))

@@ -11,15 +11,15 @@ use Rattle.group.proofs.Spots.{gather_none, gather_more, gather_end, run_in, str
 use Rattle.group257.proofs.gather.Statement.{statement}
 use Rattle.group257.proofs.gather.Tie as tie
 
-abbrev invariant-loop : tie.invariant-loop
-invariant-loop out₀ src start run count stride c₀ out c = (c ≤ count) × (length out ≡ length out₀) × Run (gathered src start run stride) out₀ out 0 (c * run)
+abbrev invariant-loop-c : tie.invariant-loop-c
+invariant-loop-c out₀ src start run count stride c₀ out c = (c ≤ count) × (length out ≡ length out₀) × Run (gathered src start run stride) out₀ out 0 (c * run)
 
-abbrev decreases-loop : tie.decreases-loop
-decreases-loop out₀ src start run count stride c₀ out c = count - c
+abbrev decreases-loop-c : tie.decreases-loop-c
+decreases-loop-c out₀ src start run count stride c₀ out c = count - c
 
 pub gather_spec : {M : Type 1} → statement M
 gather_spec =
-    tie.close (tie.spec invariant-loop decreases-loop
+    tie.close (tie.spec invariant-loop-c decreases-loop-c
     (λ c. (omega arith, refl, gather_none _ _ _ _ _))
     (λ c. search power_run_fits)
     (λ c. search stride_fits)

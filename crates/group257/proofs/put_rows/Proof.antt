@@ -10,15 +10,15 @@ use Rattle.syndrome.proofs.Points.{power_run_fits}
 use Rattle.group257.proofs.put_rows.Statement.{statement}
 use Rattle.group257.proofs.put_rows.Tie as tie
 
-abbrev invariant-loop : tie.invariant-loop
-invariant-loop spare₀ w e found total start run count stride i₀ spare i = (i ≤ e) × (length spare ≡ length spare₀) × PutRows total w start run stride found spare₀ spare i
+abbrev invariant-loop-i : tie.invariant-loop-i
+invariant-loop-i spare₀ w e found total start run count stride i₀ spare i = (i ≤ e) × (length spare ≡ length spare₀) × PutRows total w start run stride found spare₀ spare i
 
-abbrev decreases-loop : tie.decreases-loop
-decreases-loop spare₀ w e found total start run count stride i₀ spare i = e - i
+abbrev decreases-loop-i : tie.decreases-loop-i
+decreases-loop-i spare₀ w e found total start run count stride i₀ spare i = e - i
 
 pub put_rows_spec : {M : Type 1} → statement M
 put_rows_spec =
-    tie.close (tie.spec invariant-loop decreases-loop
+    tie.close (tie.spec invariant-loop-i decreases-loop-i
     (λ c κs. search rules)
     (λ c. search rules)
     (λ c. (omega arith, refl, search put_none))

@@ -19,8 +19,8 @@ repair_digit_spec =
     let s = c3.before.before.before.before.before.before.before.before.before.before.before.before.before.before.before in
     let a = s.args in (
       systems_of (length a.lost.now) a.w a.rests.now a.found.now a.places.now a.coefs.now a.row.now a.cur.now
-          c3.fill-rests.new.0 c3.fill-rests.new.1.1.1.1.1.1.1.1.1.1.0
-          (width_pos a.l a.w a.first s.requires.0.block) s.requires.2 c2.rests.given c1.row.given,
+          c3.fill_rests.new.0 c3.fill_rests.new.1.1.1.1.1.1.1.1.1.1.0
+          (width_pos a.l a.w a.first s.requires.0.block) s.requires.2 c2.rests-1.given c1.row-1.given,
       points_in (length a.lost.now) a.w a.rests.now a.found.now a.places.now a.coefs.now a.row.now a.cur.now s.requires.2,
       points_few (length a.lost.now) a.w a.rests.now a.found.now a.places.now a.coefs.now a.row.now a.cur.now s.requires.2,
     ))
@@ -30,7 +30,7 @@ repair_digit_spec =
     let s = c2.before.before.before.before.before.before.before.before.before.before.before in
     let a = s.args in (
       s.requires.0.losing.adm,
-      c2.runs_of.ensures.in_tray,
+      c2.runs_of-r.ensures.in_tray,
       s.requires.4,
       found_in (length a.lost.now) a.w a.rests.now a.found.now a.places.now
           a.coefs.now a.row.now a.cur.now c1.solve.new.0 s.requires.2 (search rules),
@@ -48,7 +48,7 @@ repair_digit_spec =
     let c4 = c3.before.before.before.before in
     let s = c4.before.before.before.before.before.before.before.before.before.before.before in
     let a = s.args in
-    let r = c4.runs_of.result in
+    let r = c4.runs_of-r.result in
     digit_repaired working a.l a.h a.lost.now a.host.now a.w a.first a.sums.now a.a r.start r.run r.count r.stride
-    a.places.now c3.fill-rests.new.0 c2.solve.new.0
-    c4.runs_of.ensures s.requires.3 c3.fill-rests.ensures c2.solve.ensures a.spare.now c1.put-rows.new.0 c1.put-rows.ensures))
+    a.places.now c3.fill_rests.new.0 c2.solve.new.0
+    c4.runs_of-r.ensures s.requires.3 c3.fill_rests.ensures c2.solve.ensures a.spare.now c1.put_rows.new.0 c1.put_rows.ensures))

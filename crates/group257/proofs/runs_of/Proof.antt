@@ -30,5 +30,5 @@ runs_of_spec =
     let c3 = c2.before in
     let s = c3.before in
     let a = s.args in
-    lying a.l a.h a.w a.first a.a c3.digit-count.result c2.block-width.result c1.smaller.result s.requires.0 s.requires.1 s.requires.2 c3.digit-count.ensures
-    c2.block-width.ensures c1.smaller.ensures c.layer-of.result c.layer-of.ensures.0))
+    lying a.l a.h a.w a.first a.a c3.digit_count-s.result c2.block_width-q.result c1.smaller-run.result s.requires.0 s.requires.1 s.requires.2 c3.digit_count-s.ensures
+    c2.block_width-q.ensures c1.smaller-run.ensures c.layer_of-start.result c.layer_of-start.ensures.0))

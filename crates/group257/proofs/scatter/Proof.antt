@@ -9,15 +9,15 @@ use Rattle.group.proofs.Spots.{scatter_none, scatter_more, scatter_end, run_to, 
 use Rattle.group257.proofs.scatter.Statement.{statement}
 use Rattle.group257.proofs.scatter.Tie as tie
 
-abbrev invariant-loop : tie.invariant-loop
-invariant-loop out₀ start run count stride src from c₀ out c = (c ≤ count) × (length out ≡ length out₀) × Scattered start run stride (c * run) src from out₀ out
+abbrev invariant-loop-c : tie.invariant-loop-c
+invariant-loop-c out₀ start run count stride src from c₀ out c = (c ≤ count) × (length out ≡ length out₀) × Scattered start run stride (c * run) src from out₀ out
 
-abbrev decreases-loop : tie.decreases-loop
-decreases-loop out₀ start run count stride src from c₀ out c = count - c
+abbrev decreases-loop-c : tie.decreases-loop-c
+decreases-loop-c out₀ start run count stride src from c₀ out c = count - c
 
 pub scatter_spec : {M : Type 1} → statement M
 scatter_spec =
-    tie.close (tie.spec invariant-loop decreases-loop
+    tie.close (tie.spec invariant-loop-c decreases-loop-c
     (λ c. (omega arith, refl, scatter_none _ _ _ _ _ _))
     (λ c. search stride_fits)
     (λ c. search start_fits)

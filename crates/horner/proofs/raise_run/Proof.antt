@@ -12,15 +12,15 @@ use Rattle.horner.proofs.Loops.{raise_more}
 use Rattle.horner.proofs.raise_run.Statement.{statement}
 use Rattle.horner.proofs.raise_run.Tie as tie
 
-abbrev invariant-loop : tie.invariant-loop
-invariant-loop out₀ to len t j₀ out j = (j ≤ len) × (length out ≡ length out₀) × Run (scaled_run gf256 out₀ to t) out₀ out to j
+abbrev invariant-loop-j : tie.invariant-loop-j
+invariant-loop-j out₀ to len t j₀ out j = (j ≤ len) × (length out ≡ length out₀) × Run (scaled_run gf256 out₀ to t) out₀ out to j
 
-abbrev decreases-loop : tie.decreases-loop
-decreases-loop out₀ to len t j₀ out j = len - j
+abbrev decreases-loop-j : tie.decreases-loop-j
+decreases-loop-j out₀ to len t j₀ out j = len - j
 
 pub raise_run_spec : {M : Type 1} → statement M
 raise_run_spec =
-    tie.close (tie.spec invariant-loop decreases-loop
+    tie.close (tie.spec invariant-loop-j decreases-loop-j
     (λ c. (omega arith, refl, run_none _ _ _))
     (λ c. omega arith)
     (λ c. omega arith)

@@ -12,15 +12,15 @@ use Rattle.horner.proofs.Loops.{step_more}
 use Rattle.horner.proofs.step_run.Statement.{statement}
 use Rattle.horner.proofs.step_run.Tie as tie
 
-abbrev invariant-loop : tie.invariant-loop
-invariant-loop out₀ to len cur row p t j₀ out j = (j ≤ len) × (length out ≡ length out₀) × Run (stepped_run gf256 out₀ to cur row p t) out₀ out to j
+abbrev invariant-loop-j : tie.invariant-loop-j
+invariant-loop-j out₀ to len cur row p t j₀ out j = (j ≤ len) × (length out ≡ length out₀) × Run (stepped_run gf256 out₀ to cur row p t) out₀ out to j
 
-abbrev decreases-loop : tie.decreases-loop
-decreases-loop out₀ to len cur row p t j₀ out j = len - j
+abbrev decreases-loop-j : tie.decreases-loop-j
+decreases-loop-j out₀ to len cur row p t j₀ out j = len - j
 
 pub step_run_spec : {M : Type 1} → statement M
 step_run_spec =
-    tie.close (tie.spec invariant-loop decreases-loop
+    tie.close (tie.spec invariant-loop-j decreases-loop-j
     (λ c. (omega arith, refl, run_none _ _ _))
     (λ c. omega arith)
     (λ c. omega arith)

@@ -11,15 +11,15 @@ use Rattle.horner.proofs.Doublings.{steps_more}
 use Rattle.horner.proofs.steps.Statement.{statement}
 use Rattle.horner.proofs.steps.Tie as tie
 
-abbrev invariant-loop : tie.invariant-loop
-invariant-loop out₀ to len cur row s t a₀ out a = (a ≤ s) × (length out ≡ length out₀) × Left gf256 s a t cur row out₀ out to len
+abbrev invariant-loop-a : tie.invariant-loop-a
+invariant-loop-a out₀ to len cur row s t a₀ out a = (a ≤ s) × (length out ≡ length out₀) × Left gf256 s a t cur row out₀ out to len
 
-abbrev decreases-loop : tie.decreases-loop
-decreases-loop out₀ to len cur row s t a₀ out a = a
+abbrev decreases-loop-a : tie.decreases-loop-a
+decreases-loop-a out₀ to len cur row s t a₀ out a = a
 
 pub steps_spec : {M : Type 1} → statement M
 steps_spec =
-    tie.close (tie.spec invariant-loop decreases-loop
+    tie.close (tie.spec invariant-loop-a decreases-loop-a
     (λ c. (omega arith, refl, steps_none working _ _ _ _ _ _ _))
     (λ c. omega arith)
     (λ c. omega arith)

@@ -7,15 +7,15 @@ use Rattle.image257.proofs.Second.{held_false, held_more, held_true}
 use Rattle.image257.proofs.symbols_held.Statement.{statement}
 use Rattle.image257.proofs.symbols_held.Tie as tie
 
-abbrev invariant-loop : tie.invariant-loop
-invariant-loop image total j₀ j = (j ≤ total) × ((i : ℕ) → i < j → symbol_at edition2 image i < edition2.size)
+abbrev invariant-loop-j : tie.invariant-loop-j
+invariant-loop-j image total j₀ j = (j ≤ total) × ((i : ℕ) → i < j → symbol_at edition2 image i < edition2.size)
 
-abbrev decreases-loop : tie.decreases-loop
-decreases-loop image total j₀ j = total - j
+abbrev decreases-loop-j : tie.decreases-loop-j
+decreases-loop-j image total j₀ j = total - j
 
 pub symbols_held_spec : {M : Type 1} → statement M
 symbols_held_spec =
-    tie.close (tie.spec invariant-loop decreases-loop
+    tie.close (tie.spec invariant-loop-j decreases-loop-j
     (λ c. (omega arith, below_none _))
     (λ c κs. omega arith)
     (λ c. search rules)
@@ -23,4 +23,4 @@ symbols_held_spec =
     (λ c. omega arith)
     (λ c. omega arith)
     (λ c. (omega arith, search held_more))
-    (λ c. held_true _ _ (λ i h. c.before.loop.invariant.1 i (omega arith))))
+    (λ c. held_true _ _ (λ i h. c.before.loop-j.invariant.1 i (omega arith))))

@@ -9,16 +9,16 @@ use Rattle.kernel.proofs.Standing.{standing_none, standing_end, accrue_more, ste
 use Rattle.kernel.proofs.accrue.Statement.{statement}
 use Rattle.kernel.proofs.accrue.Tie as tie
 
-abbrev invariant-loop : tie.invariant-loop
-invariant-loop out₀ to len cur₀ by j₀ out cur j = (j ≤ len) × (length out ≡ length out₀) × (length cur ≡ length cur₀) × Standing gf256 (accrued gf256 out₀ to cur₀ by) out₀
+abbrev invariant-loop-j : tie.invariant-loop-j
+invariant-loop-j out₀ to len cur₀ by j₀ out cur j = (j ≤ len) × (length out ≡ length out₀) × (length cur ≡ length cur₀) × Standing gf256 (accrued gf256 out₀ to cur₀ by) out₀
     out to j × Standing gf256 (stepped gf256 cur₀ by) cur₀ cur 0 j
 
-abbrev decreases-loop : tie.decreases-loop
-decreases-loop out₀ to len cur₀ by j₀ out cur j = len - j
+abbrev decreases-loop-j : tie.decreases-loop-j
+decreases-loop-j out₀ to len cur₀ by j₀ out cur j = len - j
 
 pub accrue_spec : {M : Type 1} → statement M
 accrue_spec =
-    tie.close (tie.spec invariant-loop decreases-loop
+    tie.close (tie.spec invariant-loop-j decreases-loop-j
     (λ c. (omega arith, refl, refl, standing_none gf256 _ _ _, standing_none gf256 _ _ _))
     (λ c. omega arith)
     (λ c. omega arith)
@@ -43,7 +43,7 @@ accrue_spec =
       let c1 = c.before.before in
           let c2 = c1.before.before.before.before in
           let c3 = c2.before.before.before.before in
-          let k = c2.loop.invariant in accrue_more gf256 _ _ _ _ _ _ _ c3.args.len _ _ k.3 k.4 (omega arith) (omega arith) c1.lazy-product.ensures.0 c.lazy-sum.ensures,
+          let k = c2.loop-j.invariant in accrue_more gf256 _ _ _ _ _ _ _ c3.args.len _ _ k.3 k.4 (omega arith) (omega arith) c1.lazy_product-v.ensures.0 c.lazy_sum.ensures,
       search step_more,
     ))
     (λ c. omega arith)

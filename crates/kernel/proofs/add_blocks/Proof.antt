@@ -9,33 +9,33 @@ use Rattle.kernel.proofs.Apart.{next_part, part_on, block_told, block_next}
 use Rattle.kernel.proofs.add_blocks.Statement.{statement}
 use Rattle.kernel.proofs.add_blocks.Tie as tie
 
-abbrev invariant-loop : tie.invariant-loop
-invariant-loop out₀ to len src from gap n far m width j₀ out j = (j ≤ len) × (j % width ≡ 0) × Run (added_grid gf256 out₀ to src from gap n far m) out₀ out to j
+abbrev invariant-loop-j : tie.invariant-loop-j
+invariant-loop-j out₀ to len src from gap n far m width j₀ out j = (j ≤ len) × (j % width ≡ 0) × Run (added_grid gf256 out₀ to src from gap n far m) out₀ out to j
 
-abbrev decreases-loop : tie.decreases-loop
-decreases-loop out₀ to len src from gap n far m width j₀ out j = len - j
+abbrev decreases-loop-j : tie.decreases-loop-j
+decreases-loop-j out₀ to len src from gap n far m width j₀ out j = len - j
 
 -- the block of a turn
-inside : (c : tie.In-loop invariant-loop decreases-loop) → let a = c.before.before.before.before.args in c.before.loop.j + a.width ≤ a.len
+inside : (c : tie.In-loop-j invariant-loop-j decreases-loop-j) → let a = c.before.before.before.before.args in c.before.loop-j.j + a.width ≤ a.len
 inside c = search next_part
 
 pub add_blocks_spec : {M : Type 1} → statement M
 add_blocks_spec =
-    tie.close (tie.spec invariant-loop decreases-loop
+    tie.close (tie.spec invariant-loop-j decreases-loop-j
     (λ c. (omega arith, zero-mod _, run_none _ _ _))
     (λ c. omega arith)
     (λ c. omega arith)
     (λ c κs.
     let a = c.before.before.before.before.before.args in
     let p = c.before.before.before.before.before.requires in
-    let b = c.before.before.loop in (
-      block_told gf256 a.out.now b.out a.src.now a.to a.len a.from a.gap a.n a.far a.m b.j a.width p.0 b.invariant.2 (inside c.before),
+    let b = c.before.before.loop-j in (
+      block_told gf256 a.out.now b.out-1 a.src.now a.to a.len a.from a.gap a.n a.far a.m b.j a.width p.0 b.invariant.2 (inside c.before),
       p.1.narrow,
     ))
     (λ c. omega (arith, inside c.before.before.before.before))
     (λ c. omega (arith, inside c.before.before.before.before, c.before.before.before.before.before.before.before.before.requires.2))
     (λ c.
     let p = c.before.before.before.before.before.before.before.before.requires in
-    (inside c.before.before.before.before, part_on _ _ p.2 c.before.before.before.before.before.loop.invariant.1, search (block_next gf256)))
-    (λ c. c.before.loop.invariant.2.long)
+    (inside c.before.before.before.before, part_on _ _ p.2 c.before.before.before.before.before.loop-j.invariant.1, search (block_next gf256)))
+    (λ c. c.before.loop-j.invariant.2.long)
     (λ c. search run_end))

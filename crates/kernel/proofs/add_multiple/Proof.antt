@@ -9,15 +9,15 @@ use Rattle.kernel.proofs.Runs.{run_none, run_end, multiple_more}
 use Rattle.kernel.proofs.add_multiple.Statement.{statement}
 use Rattle.kernel.proofs.add_multiple.Tie as tie
 
-abbrev invariant-loop : tie.invariant-loop
-invariant-loop out₀ to len src from v j₀ out j = (j ≤ len) × (length out ≡ length out₀) × Run (added_multiple gf256 out₀ to src from v) out₀ out to j
+abbrev invariant-loop-j : tie.invariant-loop-j
+invariant-loop-j out₀ to len src from v j₀ out j = (j ≤ len) × (length out ≡ length out₀) × Run (added_multiple gf256 out₀ to src from v) out₀ out to j
 
-abbrev decreases-loop : tie.decreases-loop
-decreases-loop out₀ to len src from v j₀ out j = len - j
+abbrev decreases-loop-j : tie.decreases-loop-j
+decreases-loop-j out₀ to len src from v j₀ out j = len - j
 
 pub add_multiple_spec : {M : Type 1} → statement M
 add_multiple_spec =
-    tie.close (tie.spec invariant-loop decreases-loop
+    tie.close (tie.spec invariant-loop-j decreases-loop-j
     (λ c. (omega arith, refl, run_none _ _ _))
     (λ c. omega arith)
     (λ c. omega arith)

@@ -11,23 +11,23 @@ use Rattle.kernel.proofs.Apart.{apart_none, apart_more, apart_end}
 use Rattle.kernel.proofs.gather_apart.Statement.{statement}
 use Rattle.kernel.proofs.gather_apart.Tie as tie
 
-abbrev invariant-loop : tie.invariant-loop
-invariant-loop v src at gap n sum₀ b₀ sum b = (b ≤ n) × (gf256.coding.elem sum ≡ gf256.ops.add (gf256.coding.elem v) (apart gf256 src at gap b)) × (sum ≤ v + b * gf256.coding.size)
+abbrev invariant-loop-b : tie.invariant-loop-b
+invariant-loop-b v src at gap n sum₀ b₀ sum b = (b ≤ n) × (gf256.coding.elem sum ≡ gf256.ops.add (gf256.coding.elem v) (apart gf256 src at gap b)) × (sum ≤ v + b * gf256.coding.size)
 
-abbrev decreases-loop : tie.decreases-loop
-decreases-loop v src at gap n sum₀ b₀ sum b = n - b
+abbrev decreases-loop-b : tie.decreases-loop-b
+decreases-loop-b v src at gap n sum₀ b₀ sum b = n - b
 
 -- the place read in a turn
-read_in : (c : tie.In-loop invariant-loop decreases-loop) → let a = c.before.before.before.args in a.at + c.before.loop.b * a.gap < length a.src.now
-read_in c = let a = c.before.before.before.args in place_in a.src.now a.at a.gap c.before.loop.b a.n c.before.before.before.requires.1 c.loop-test.true
+read_in : (c : tie.In-loop-b invariant-loop-b decreases-loop-b) → let a = c.before.before.before.args in a.at + c.before.loop-b.b * a.gap < length a.src.now
+read_in c = let a = c.before.before.before.args in place_in a.src.now a.at a.gap c.before.loop-b.b a.n c.before.before.before.requires.1 c.loop-b-test.true
 
 -- the symbol there
-read_below : (c : tie.In-loop invariant-loop decreases-loop) → let a = c.before.before.before.args in get_or a.src.now (a.at + c.before.loop.b * a.gap) 0 < gf256.coding.size
+read_below : (c : tie.In-loop-b invariant-loop-b decreases-loop-b) → let a = c.before.before.before.args in get_or a.src.now (a.at + c.before.loop-b.b * a.gap) 0 < gf256.coding.size
 read_below c = c.before.before.before.requires.0.at _ (read_in c)
 
 pub gather_apart_spec : {M : Type 1} → statement M
 gather_apart_spec =
-    tie.close (tie.spec invariant-loop decreases-loop
+    tie.close (tie.spec invariant-loop-b decreases-loop-b
     (λ c. (omega arith, apart_none working _ _ _ _, omega arith))
     (λ c. omega (arith, read_in c))
     (λ c. omega (arith, read_in c))
@@ -36,5 +36,5 @@ gather_apart_spec =
     (λ c κs. omega (arith, read_below c.before))
     (λ c. omega arith)
     (λ c. omega arith)
-    (λ c. (omega arith, search (apart_more working), c.gather.ensures.1 _ (omega arith) (omega (arith, read_below c.before.before))))
+    (λ c. (omega arith, search (apart_more working), c.gather-sum.ensures.1 _ (omega arith) (omega (arith, read_below c.before.before))))
     (λ c. (search (apart_end working), omega arith)))

@@ -10,18 +10,18 @@ use Rattle.kernel.proofs.Apart.{grid_lies, block_fits, block_more}
 use Rattle.kernel.proofs.gather_block.Statement.{statement}
 use Rattle.kernel.proofs.gather_block.Tie as tie
 
-abbrev invariant-loop : tie.invariant-loop
-invariant-loop block₀ len out to src from gap n far m j₀ block j = (j ≤ len) × (length block ≡ length block₀) × Run (added_grid gf256 out to src from gap n far m) block₀ block 0 j
+abbrev invariant-loop-j : tie.invariant-loop-j
+invariant-loop-j block₀ len out to src from gap n far m j₀ block j = (j ≤ len) × (length block ≡ length block₀) × Run (added_grid gf256 out to src from gap n far m) block₀ block 0 j
 
-abbrev decreases-loop : tie.decreases-loop
-decreases-loop block₀ len out to src from gap n far m j₀ block j = len - j
+abbrev decreases-loop-j : tie.decreases-loop-j
+decreases-loop-j block₀ len out to src from gap n far m j₀ block j = len - j
 
 small : gf256.coding.size ≤ 257
 small = omega arith
 
 pub gather_block_spec : {M : Type 1} → statement M
 gather_block_spec =
-    tie.close (tie.spec invariant-loop decreases-loop
+    tie.close (tie.spec invariant-loop-j decreases-loop-j
     (λ c. (omega arith, refl, run_none _ _ _))
     (λ c. omega arith)
     -- twin: (λ c. omega arith)

@@ -9,15 +9,15 @@ use Rattle.kernel.proofs.Standing.{standing_none, standing_end, invert_more}
 use Rattle.kernel.proofs.invert.Statement.{statement}
 use Rattle.kernel.proofs.invert.Tie as tie
 
-abbrev invariant-loop : tie.invariant-loop
-invariant-loop out₀ to len logs powers j₀ out j = (j ≤ len) × (length out ≡ length out₀) × Standing gf256 (inverted gf256 out₀ to) out₀ out to j
+abbrev invariant-loop-j : tie.invariant-loop-j
+invariant-loop-j out₀ to len logs powers j₀ out j = (j ≤ len) × (length out ≡ length out₀) × Standing gf256 (inverted gf256 out₀ to) out₀ out to j
 
-abbrev decreases-loop : tie.decreases-loop
-decreases-loop out₀ to len logs powers j₀ out j = len - j
+abbrev decreases-loop-j : tie.decreases-loop-j
+decreases-loop-j out₀ to len logs powers j₀ out j = len - j
 
 pub invert_spec : {M : Type 1} → statement M
 invert_spec =
-    tie.close (tie.spec invariant-loop decreases-loop
+    tie.close (tie.spec invariant-loop-j decreases-loop-j
     (λ c κs. search rules)
     (λ c κs. search rules)
     (λ c. (omega arith, refl, standing_none gf256 _ _ _))

@@ -8,17 +8,17 @@ use Rattle.kernel.proofs.Runs.{sample_in}
 use Rattle.kernel.proofs.sample.Statement.{statement}
 use Rattle.kernel.proofs.sample.Tie as tie
 
-abbrev invariant-loop : tie.invariant-loop
-invariant-loop out₀ to len src step j₀ out j = (j ≤ len) × (length out ≡ length out₀) × Run (sampled src step) out₀ out to j
+abbrev invariant-loop-j : tie.invariant-loop-j
+invariant-loop-j out₀ to len src step j₀ out j = (j ≤ len) × (length out ≡ length out₀) × Run (sampled src step) out₀ out to j
 
-abbrev decreases-loop : tie.decreases-loop
-decreases-loop out₀ to len src step j₀ out j = len - j
+abbrev decreases-loop-j : tie.decreases-loop-j
+decreases-loop-j out₀ to len src step j₀ out j = len - j
 
 pub sample_spec : {M : Type 1} → statement M
 sample_spec =
-    tie.close (tie.spec invariant-loop decreases-loop
+    tie.close (tie.spec invariant-loop-j decreases-loop-j
     (λ c. (omega arith, refl, run_none _ _ _))
-    (λ c. let e : c.before.loop.j * c.before.before.args.step < length c.before.before.args.src.now = search sample_in in omega arith)
+    (λ c. let e : c.before.loop-j.j * c.before.before.args.step < length c.before.before.args.src.now = search sample_in in omega arith)
     -- twin: (λ c. let e : c.before.loop.j * c.before.before.args.step < length c.before.before.args.src.now = search sample_in in omega arith)
     (λ c. search sample_in)
     -- twin: (λ c. omega arith)

@@ -9,16 +9,16 @@ use Rattle.kernel.proofs.Runs.{run_none, run_end, shift_more, carry_more}
 use Rattle.kernel.proofs.shift.Statement.{statement}
 use Rattle.kernel.proofs.shift.Tie as tie
 
-abbrev invariant-loop : tie.invariant-loop
-invariant-loop out₀ to len carry₀ by at j₀ out carry j = (j ≤ len) × (length out ≡ length out₀) × (length carry ≡ length carry₀)
+abbrev invariant-loop-j : tie.invariant-loop-j
+invariant-loop-j out₀ to len carry₀ by at j₀ out carry j = (j ≤ len) × (length out ≡ length out₀) × (length carry ≡ length carry₀)
     × Run (shifted gf256 out₀ to carry₀ by at) out₀ out to j × Run (copied out₀ to) carry₀ carry 0 j
 
-abbrev decreases-loop : tie.decreases-loop
-decreases-loop out₀ to len carry₀ by at j₀ out carry j = len - j
+abbrev decreases-loop-j : tie.decreases-loop-j
+decreases-loop-j out₀ to len carry₀ by at j₀ out carry j = len - j
 
 pub shift_spec : {M : Type 1} → statement M
 shift_spec =
-    tie.close (tie.spec invariant-loop decreases-loop
+    tie.close (tie.spec invariant-loop-j decreases-loop-j
     (λ c. (omega arith, refl, refl, run_none _ _ _, run_none _ _ _))
     (λ c. omega arith)
     (λ c. omega arith)

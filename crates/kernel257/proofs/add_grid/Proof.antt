@@ -12,18 +12,18 @@ use Rattle.kernel.proofs.Apart.{grid_lies, grid_fits, add_grid_more}
 use Rattle.kernel257.proofs.add_grid.Statement.{statement}
 use Rattle.kernel257.proofs.add_grid.Tie as tie
 
-abbrev invariant-loop : tie.invariant-loop
-invariant-loop out₀ to len src from gap n far m j₀ out j = (j ≤ len) × (length out ≡ length out₀) × Run (added_grid gf257 out₀ to src from gap n far m) out₀ out to j
+abbrev invariant-loop-j : tie.invariant-loop-j
+invariant-loop-j out₀ to len src from gap n far m j₀ out j = (j ≤ len) × (length out ≡ length out₀) × Run (added_grid gf257 out₀ to src from gap n far m) out₀ out to j
 
-abbrev decreases-loop : tie.decreases-loop
-decreases-loop out₀ to len src from gap n far m j₀ out j = len - j
+abbrev decreases-loop-j : tie.decreases-loop-j
+decreases-loop-j out₀ to len src from gap n far m j₀ out j = len - j
 
 small : gf257.coding.size ≤ 257
 small = omega arith
 
 pub add_grid_spec : {M : Type 1} → statement M
 add_grid_spec =
-    tie.close (tie.spec invariant-loop decreases-loop
+    tie.close (tie.spec invariant-loop-j decreases-loop-j
     (λ c. (omega arith, refl, run_none _ _ _))
     (λ c. omega arith)
     (λ c. omega arith)

@@ -10,32 +10,32 @@ use Rattle.kernel.proofs.Spaced.{place_in, spaced_none, spaced_end, spaced_fits,
 use Rattle.kernel257.proofs.add_spaced.Statement.{statement}
 use Rattle.kernel257.proofs.add_spaced.Tie as tie
 
-abbrev invariant-loop : tie.invariant-loop
-invariant-loop out₀ to step len src from stride gap n far m j₀ out j =
+abbrev invariant-loop-j : tie.invariant-loop-j
+invariant-loop-j out₀ to step len src from stride gap n far m j₀ out j =
     (j ≤ len) × (length out ≡ length out₀) × Spaced (added_spaced gf257 out₀ to step src from stride gap n far m) out₀ out to step j
 
-abbrev decreases-loop : tie.decreases-loop
-decreases-loop out₀ to step len src from stride gap n far m j₀ out j = len - j
+abbrev decreases-loop-j : tie.decreases-loop-j
+decreases-loop-j out₀ to step len src from stride gap n far m j₀ out j = len - j
 
 small : gf257.coding.size ≤ 257
 small = omega arith
 
 -- the places read and written in a turn
-to_in : (c : tie.In-loop invariant-loop decreases-loop) → let a = c.before.before.before.before.args in a.to + c.before.loop.j * a.step < length c.before.loop.out
+to_in : (c : tie.In-loop-j invariant-loop-j decreases-loop-j) → let a = c.before.before.before.before.args in a.to + c.before.loop-j.j * a.step < length c.before.loop-j.out
 to_in c = let a = c.before.before.before.before.args in omega (
   arith,
-  c.before.loop.invariant.1,
-  place_in a.out.now a.to a.step c.before.loop.j
-      a.len c.before.before.before.before.requires.room c.loop-test.true,
+  c.before.loop-j.invariant.1,
+  place_in a.out.now a.to a.step c.before.loop-j.j
+      a.len c.before.before.before.before.requires.room c.loop-j-test.true,
 )
 
-from_in : (c : tie.In-loop invariant-loop decreases-loop) → let a = c.before.before.before.before.args in a.from + c.before.loop.j * a.stride < length a.src.now
-from_in c = let a = c.before.before.before.before.args in place_in a.src.now a.from a.stride c.before.loop.j a.len
-    c.before.before.before.before.requires.long c.loop-test.true
+from_in : (c : tie.In-loop-j invariant-loop-j decreases-loop-j) → let a = c.before.before.before.before.args in a.from + c.before.loop-j.j * a.stride < length a.src.now
+from_in c = let a = c.before.before.before.before.args in place_in a.src.now a.from a.stride c.before.loop-j.j a.len
+    c.before.before.before.before.requires.long c.loop-j-test.true
 
 pub add_spaced_spec : {M : Type 1} → statement M
 add_spaced_spec =
-    tie.close (tie.spec invariant-loop decreases-loop
+    tie.close (tie.spec invariant-loop-j decreases-loop-j
     (λ c. (omega arith, refl, spaced_none _ _ _ _))
     (λ c. omega (arith, to_in c))
     (λ c. omega (arith, to_in c))
@@ -45,7 +45,7 @@ add_spaced_spec =
     (λ c. omega (arith, from_in c.before))
     (λ c κs.
     let p = c.before.before.before.before.before.requires in
-    (p.given, p.lies _ c.before.loop-test.true, search (spaced_fits gf257, small)))
+    (p.given, p.lies _ c.before.loop-j-test.true, search (spaced_fits gf257, small)))
     (λ c κs. search rules)
     (λ c. omega (arith, to_in c.before.before.before))
     (λ c. omega (arith, to_in c.before.before.before))

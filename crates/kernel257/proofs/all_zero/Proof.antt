@@ -11,15 +11,15 @@ use Rattle.kernel.proofs.Runs.{zero_false, zero_true}
 use Rattle.kernel257.proofs.all_zero.Statement.{statement}
 use Rattle.kernel257.proofs.all_zero.Tie as tie
 
-abbrev invariant-loop : tie.invariant-loop
-invariant-loop xs len j₀ j = (j ≤ len) × ((i : ℕ) → i < j → reduced gf257 (get_or xs i 0) ≡ 0)
+abbrev invariant-loop-j : tie.invariant-loop-j
+invariant-loop-j xs len j₀ j = (j ≤ len) × ((i : ℕ) → i < j → reduced gf257 (get_or xs i 0) ≡ 0)
 
-abbrev decreases-loop : tie.decreases-loop
-decreases-loop xs len j₀ j = len - j
+abbrev decreases-loop-j : tie.decreases-loop-j
+decreases-loop-j xs len j₀ j = len - j
 
 pub all_zero_spec : {M : Type 1} → statement M
 all_zero_spec =
-    tie.close (tie.spec invariant-loop decreases-loop
+    tie.close (tie.spec invariant-loop-j decreases-loop-j
     (λ c. (omega arith, λ i h. absurd (omega arith)))
     (λ c. omega arith)
     (λ c. omega arith)
@@ -27,5 +27,5 @@ all_zero_spec =
     (λ c. search zero_false)
     (λ c. omega arith)
     (λ c. omega arith)
-    (λ c. (omega arith, below_more _ _ c.before.before.before.before.loop.invariant.1 (sym c.before.index.ensures.0 ∙ c.if1.false)))
-    (λ c. zero_true _ _ _ (λ i h. c.before.loop.invariant.1 i (omega arith))))
+    (λ c. (omega arith, below_more _ _ c.before.before.before.before.loop-j.invariant.1 (sym c.before.index.ensures.0 ∙ c.if-index-ne0.false)))
+    (λ c. zero_true _ _ _ (λ i h. c.before.loop-j.invariant.1 i (omega arith))))

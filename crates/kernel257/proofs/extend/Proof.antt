@@ -9,15 +9,15 @@ use Rattle.kernel.proofs.Periods.{repeated_one, repeated_more, repeated_end, rep
 use Rattle.kernel257.proofs.extend.Statement.{statement}
 use Rattle.kernel257.proofs.extend.Tie as tie
 
-abbrev invariant-loop : tie.invariant-loop
-invariant-loop row₀ period count c₀ row c = (1 ≤ c) × (c ≤ count) × (length row ≡ length row₀) × Run (repeated row₀ period) row₀ row 0 (c * period)
+abbrev invariant-loop-c : tie.invariant-loop-c
+invariant-loop-c row₀ period count c₀ row c = (1 ≤ c) × (c ≤ count) × (length row ≡ length row₀) × Run (repeated row₀ period) row₀ row 0 (c * period)
 
-abbrev decreases-loop : tie.decreases-loop
-decreases-loop row₀ period count c₀ row c = count - c
+abbrev decreases-loop-c : tie.decreases-loop-c
+decreases-loop-c row₀ period count c₀ row c = count - c
 
 pub extend_spec : {M : Type 1} → statement M
 extend_spec =
-    tie.close (tie.spec invariant-loop decreases-loop
+    tie.close (tie.spec invariant-loop-c decreases-loop-c
     (λ c. (omega arith, omega arith, refl, repeated_one _ _))
     (λ c. omega arith)
     (λ c κs. search rules)

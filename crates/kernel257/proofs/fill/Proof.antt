@@ -8,15 +8,15 @@ use Rattle.kernel.proofs.Runs.{run_none, run_end, fill_more}
 use Rattle.kernel257.proofs.fill.Statement.{statement}
 use Rattle.kernel257.proofs.fill.Tie as tie
 
-abbrev invariant-loop : tie.invariant-loop
-invariant-loop out₀ to len v j₀ out j = (j ≤ len) × (length out ≡ length out₀) × Run (filled v) out₀ out to j
+abbrev invariant-loop-j : tie.invariant-loop-j
+invariant-loop-j out₀ to len v j₀ out j = (j ≤ len) × (length out ≡ length out₀) × Run (filled v) out₀ out to j
 
-abbrev decreases-loop : tie.decreases-loop
-decreases-loop out₀ to len v j₀ out j = len - j
+abbrev decreases-loop-j : tie.decreases-loop-j
+decreases-loop-j out₀ to len v j₀ out j = len - j
 
 pub fill_spec : {M : Type 1} → statement M
 fill_spec =
-    tie.close (tie.spec invariant-loop decreases-loop
+    tie.close (tie.spec invariant-loop-j decreases-loop-j
     (λ c. (omega arith, refl, run_none _ _ _))
     (λ c. omega arith)
     (λ c. omega arith)

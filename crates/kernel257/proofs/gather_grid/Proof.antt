@@ -12,25 +12,25 @@ use Rattle.kernel.proofs.Apart.{grid_none, grid_more, grid_end, row_first}
 use Rattle.kernel257.proofs.gather_grid.Statement.{statement}
 use Rattle.kernel257.proofs.gather_grid.Tie as tie
 
-abbrev invariant-loop : tie.invariant-loop
-invariant-loop v src at gap n far m sum₀ g₀ sum g = (g ≤ m) × (gf257.coding.elem sum ≡ gf257.ops.add (gf257.coding.elem v) (grid gf257 src at gap n far g)) × (sum ≤ v + g * n * gf257.coding.size)
+abbrev invariant-loop-g : tie.invariant-loop-g
+invariant-loop-g v src at gap n far m sum₀ g₀ sum g = (g ≤ m) × (gf257.coding.elem sum ≡ gf257.ops.add (gf257.coding.elem v) (grid gf257 src at gap n far g)) × (sum ≤ v + g * n * gf257.coding.size)
 
-abbrev decreases-loop : tie.decreases-loop
-decreases-loop v src at gap n far m sum₀ g₀ sum g = m - g
+abbrev decreases-loop-g : tie.decreases-loop-g
+decreases-loop-g v src at gap n far m sum₀ g₀ sum g = m - g
 
 -- the row of a turn
-first_in : (c : tie.In-loop invariant-loop decreases-loop) → let a = c.before.before.before.args in a.at + c.before.loop.g * a.far < length a.src.now
-first_in c = let a = c.before.before.before.args in row_first a.src.now a.at a.gap a.n a.far a.m c.before.loop.g c.before.before.before.requires.1 c.loop-test.true
+first_in : (c : tie.In-loop-g invariant-loop-g decreases-loop-g) → let a = c.before.before.before.args in a.at + c.before.loop-g.g * a.far < length a.src.now
+first_in c = let a = c.before.before.before.args in row_first a.src.now a.at a.gap a.n a.far a.m c.before.loop-g.g c.before.before.before.requires.1 c.loop-g-test.true
 
 pub gather_grid_spec : {M : Type 1} → statement M
 gather_grid_spec =
-    tie.close (tie.spec invariant-loop decreases-loop
+    tie.close (tie.spec invariant-loop-g decreases-loop-g
     (λ c. (omega arith, grid_none working _ _ _ _ _ _, omega arith))
     (λ c. omega (arith, first_in c))
     (λ c. omega (arith, first_in c))
     (λ c κs. let p = c.before.before.before.requires in let a = c.before.before.before.args in
-    (p.0, p.1.rows _ c.loop-test.true, omega (arith, row_before c.before.loop.g a.m a.n c.loop-test.true)))
+    (p.0, p.1.rows _ c.loop-g-test.true, omega (arith, row_before c.before.loop-g.g a.m a.n c.loop-g-test.true)))
     (λ c. omega arith)
     (λ c. omega arith)
-    (λ c. (omega arith, search (grid_more working), omega (arith, row_end c.before.before.loop.g c.before.before.before.before.args.n)))
+    (λ c. (omega arith, search (grid_more working), omega (arith, row_end c.before.before.loop-g.g c.before.before.before.before.args.n)))
     (λ c. search (grid_end working)))

@@ -12,4 +12,4 @@ layer_count_spec = tie.close (tie.spec
     (λ c κs. search rules)
     (λ c.
     let a = c.before.before.args in
-    c.capped-power.ensures ∙ ap (λ s. min (s ^ a.l.racks) (layer_limit + 1)) c.before.digit-count.ensures ∙ omega (arith, c.before.before.requires)))
+    c.capped_power.ensures ∙ ap (λ s. min (s ^ a.l.racks) (layer_limit + 1)) c.before.digit_count.ensures ∙ omega (arith, c.before.before.requires)))

@@ -7,7 +7,7 @@ use Rattle.layout.proofs.lost_count_fits.Statement.{statement}
 use Rattle.layout.proofs.lost_count_fits.Tie as tie
 
 -- v is below u
-below : (c : tie.Else1) → c.before.args.l.dimension % c.before.args.l.size < c.before.args.l.size
+below : (c : tie.Else-count-lt1) → c.before.args.l.dimension % c.before.args.l.size < c.before.args.l.size
 below c = mod-lt _ (size_pos _ c.before.requires)
 
 pub lost_count_fits_spec : {M : Type 1} → statement M

@@ -10,25 +10,25 @@ use Rattle.layout.proofs.Answer.{measured_refused, measured_known}
 use Rattle.layout.proofs.measure.Statement.{statement}
 use Rattle.layout.proofs.measure.Tie as tie
 
-passed : (c : tie.Else1) → admissible c.before.before.args.order c.before.before.args.l ≡ true
-passed c = sym c.before.admitted.ensures ∙ not-false _ c.if1.false
+passed : (c : tie.Else-not-admitted) → admissible c.before.before.args.order c.before.before.args.l ≡ true
+passed c = sym c.before.admitted.ensures ∙ not-false _ c.if-not-admitted.false-raw
 
-known : (c : tie.Else1) → Cabinet c.before.before.args.l
+known : (c : tie.Else-not-admitted) → Cabinet c.before.before.args.l
 known c = (admissible_facts _ _ (passed c)).cabinet
 
 pub measure_spec : {M : Type 1} → statement M
 measure_spec =
     tie.close (tie.spec
     (λ c κs. search rules)
-    (λ c. measured_refused _ _ (sym c.before.admitted.ensures ∙ not-true _ c.if1.true))
+    (λ c. measured_refused _ _ (sym c.before.admitted.ensures ∙ not-true _ c.if-not-admitted.true-raw))
     (λ c κs. known c)
     (λ c κs. known c.before)
     (λ c κs. known c.before.before)
     (λ c.
     let a = known c.before.before.before in
     let b = bounds _ a in
-    let g = c.group-count.ensures in
+    let g = c.group_count.ensures in
     record { fits = mul_below tray_limit layer_limit (omega arith) (omega arith) tt })
     (λ c.
-    measured_known _ _ _ _ _ (passed c.before.before.before) c.before.before.layer-count.ensures c.before.check-count.ensures
-    c.group-count.ensures))
+    measured_known _ _ _ _ _ (passed c.before.before.before) c.before.before.layer_count.ensures c.before.check_count.ensures
+    c.group_count.ensures))

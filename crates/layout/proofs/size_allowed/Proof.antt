@@ -7,7 +7,7 @@ use Rattle.layout.proofs.size_allowed.Tie as tie
 pub size_allowed_spec : {M : Type 1} → statement M
 size_allowed_spec =
     tie.close (tie.spec
-    (λ c. size_none _ _ c.if1.true)
+    (λ c. size_none _ _ c.if-u-eq0.true)
     (λ c. omega arith)
     (λ c. search quotient_fits)
-    (λ c. size_some _ _ c.if1.false))
+    (λ c. size_some _ _ c.if-u-eq0.false))

@@ -8,20 +8,20 @@ use Rattle.lists.proofs.Numbered.{absent_false, absent_true}
 use Rattle.lists.proofs.is_absent.Statement.{statement}
 use Rattle.lists.proofs.is_absent.Tie as tie
 
-abbrev invariant-loop : tie.invariant-loop
-invariant-loop xs n k₀ k = (k ≤ length xs) × ((i : ℕ) → i < k → get_or xs i 0 ≡ n → ⊥)
+abbrev invariant-loop-k : tie.invariant-loop-k
+invariant-loop-k xs n k₀ k = (k ≤ length xs) × ((i : ℕ) → i < k → get_or xs i 0 ≡ n → ⊥)
 
-abbrev decreases-loop : tie.decreases-loop
-decreases-loop xs n k₀ k = length xs - k
+abbrev decreases-loop-k : tie.decreases-loop-k
+decreases-loop-k xs n k₀ k = length xs - k
 
 pub is_absent_spec : {M : Type 1} → statement M
 is_absent_spec =
-    tie.close (tie.spec invariant-loop decreases-loop
+    tie.close (tie.spec invariant-loop-k decreases-loop-k
     (λ c. (omega arith, below_none _))
     (λ c. search rules)
     (λ c. search rules)
-    (λ c. absent_false _ _ c.before.before.before.loop.k (omega arith) c.if1.true)
+    (λ c. absent_false _ _ c.before.before.before.loop-k.k (omega arith) c.if-xs-k.true)
     (λ c. search rules)
     (λ c. search rules)
-    (λ c. (omega arith, below_more _ _ c.before.before.before.loop.invariant.1 c.if1.false))
-    (λ c. absent_true _ _ (λ k h. c.before.loop.invariant.1 k (omega arith))))
+    (λ c. (omega arith, below_more _ _ c.before.before.before.loop-k.invariant.1 c.if-xs-k.false))
+    (λ c. absent_true _ _ (λ k h. c.before.loop-k.invariant.1 k (omega arith))))

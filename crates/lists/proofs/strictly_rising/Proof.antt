@@ -6,15 +6,15 @@ use Rattle.lists.proofs.Numbered.{RisingTo, rising_false, rising_true, rising_no
 use Rattle.lists.proofs.strictly_rising.Statement.{statement}
 use Rattle.lists.proofs.strictly_rising.Tie as tie
 
-abbrev invariant-loop : tie.invariant-loop
-invariant-loop xs k₀ k = (1 ≤ k) × RisingTo xs k
+abbrev invariant-loop-k : tie.invariant-loop-k
+invariant-loop-k xs k₀ k = (1 ≤ k) × RisingTo xs k
 
-abbrev decreases-loop : tie.decreases-loop
-decreases-loop xs k₀ k = length xs - k
+abbrev decreases-loop-k : tie.decreases-loop-k
+decreases-loop-k xs k₀ k = length xs - k
 
 pub strictly_rising_spec : {M : Type 1} → statement M
 strictly_rising_spec =
-    tie.close (tie.spec invariant-loop decreases-loop
+    tie.close (tie.spec invariant-loop-k decreases-loop-k
     (λ c. (omega arith, rising_none c.args.xs.now))
     (λ c. search rules)
     (λ c. search rules)
@@ -22,13 +22,13 @@ strictly_rising_spec =
     (λ c. search rules)
     (λ c. search rules)
     (λ c.
-    rising_false c.before.before.before.before.before.args.xs.now c.before.before.before.before.loop.k
-    c.before.before.before.before.loop.invariant.0 (omega arith) c.if1.true)
+    rising_false c.before.before.before.before.before.args.xs.now c.before.before.before.before.loop-k.k
+    c.before.before.before.before.loop-k.invariant.0 (omega arith) c.if-xs-k.true)
     (λ c. search rules)
     (λ c. search rules)
     (λ c. (
       omega arith,
-      rising_more c.before.before.before.before.before.args.xs.now c.before.before.before.before.loop.k
-          c.before.before.before.before.loop.invariant.0 c.before.before.before.before.loop.invariant.1 (omega arith),
+      rising_more c.before.before.before.before.before.args.xs.now c.before.before.before.before.loop-k.k
+          c.before.before.before.before.loop-k.invariant.0 c.before.before.before.before.loop-k.invariant.1 (omega arith),
     ))
-    (λ c. rising_true c.before.before.args.xs.now c.before.loop.k (omega arith) c.before.loop.invariant.1))
+    (λ c. rising_true c.before.before.args.xs.now c.before.loop-k.k (omega arith) c.before.loop-k.invariant.1))

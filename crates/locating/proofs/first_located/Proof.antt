@@ -11,30 +11,30 @@ use Rattle.locating.proofs.Located.{count_fits, over_fits, none_more, first_foun
 use Rattle.locating.proofs.first_located.Statement.{statement}
 use Rattle.locating.proofs.first_located.Tie as tie
 
-abbrev invariant-loop : tie.invariant-loop
-invariant-loop l h helpers zeroth first row₀ k₀ row k =
+abbrev invariant-loop-k : tie.invariant-loop-k
+invariant-loop-k l h helpers zeroth first row₀ k₀ row k =
     (k ≤ length helpers) × (length row ≡ length row₀) × ((i : ℕ) → i < k → ¬ (PointsAt gf256 l h helpers zeroth first i (groups l)))
 
-abbrev decreases-loop : tie.decreases-loop
-decreases-loop l h helpers zeroth first row₀ k₀ row k = length helpers - k
+abbrev decreases-loop-k : tie.decreases-loop-k
+decreases-loop-k l h helpers zeroth first row₀ k₀ row k = length helpers - k
 
 pub first_located_spec : {M : Type 1} → statement M
 first_located_spec =
     tie.close (tie.spec
-    invariant-loop
-    decreases-loop
+    invariant-loop-k
+    decreases-loop-k
     (λ c. (omega arith, refl, λ k q. absurd (omega arith)))
     (λ c κs.
     let c1 = c.before.before in
     let c2 = c1.before.before.before.before.before in
     let p = c2.requires in
-    (p.0, rw (sym p.0.many) (omega arith), p.1, p.2, omega (arith, c1.loop.invariant.1, p.3)))
-    (λ c. let c1 = c.before.before.before in let c2 = c1.before.before.before in c1.is_located.auto.1.1.1.1.1.1.0 ∙ c2.loop.invariant.1)
+    (p.0, rw (sym p.0.many) (omega arith), p.1, p.2, omega (arith, c1.loop-k.invariant.1, p.3)))
+    (λ c. let c1 = c.before.before.before in let c2 = c1.before.before.before in c1.is_located.auto.1.1.1.1.1.1.0 ∙ c2.loop-k.invariant.1)
     (λ c.
     let c1 = c.before.before.before in
     let c2 = c1.before.before.before.before.before.before.before.before in
     let a = c2.args in
-    first_found working a.l a.h a.helpers.now a.zeroth.now a.first.now c2.requires.0 _ (omega arith) (says_true c1.is_located.result c.if1.true c1.is_located.ensures))
+    first_found working a.l a.h a.helpers.now a.zeroth.now a.first.now c2.requires.0 _ (omega arith) (says_true c1.is_located.result c.if-is_located.true c1.is_located.ensures))
     (λ c.
     let c1 = c.before.before.before.before.before.before.before.before.before.before.before in
     let a = c1.args in
@@ -46,16 +46,16 @@ first_located_spec =
     let c3 = c2.before.before.before.before.before in
     let a = c3.args in (
       omega arith,
-      c1.is_located.auto.1.1.1.1.1.1.0 ∙ c2.loop.invariant.1,
-      none_more working a.l a.h a.helpers.now a.zeroth.now a.first.now c3.requires.0 _ c2.loop.invariant.2 (says_false c1.is_located.result c.if1.false c1.is_located.ensures),
+      c1.is_located.auto.1.1.1.1.1.1.0 ∙ c2.loop-k.invariant.1,
+      none_more working a.l a.h a.helpers.now a.zeroth.now a.first.now c3.requires.0 _ c2.loop-k.invariant.2 (says_false c1.is_located.result c.if-is_located.false c1.is_located.ensures),
     ))
     (λ c.
     let c1 = c.before.before.before.before.before.before in
     let a = c1.args in
     over_fits a.l a.h a.helpers.now c1.requires.0)
-    (λ c. c.before.loop.invariant.1)
+    (λ c. c.before.loop-k.invariant.1)
     (λ c.
     let c1 = c.before in
     let c2 = c1.before.before.before.before.before in
     let a = c2.args in
-    first_none working a.l a.h a.helpers.now a.zeroth.now a.first.now c2.requires.0 _ _ (omega arith) refl c1.loop.invariant.2))
+    first_none working a.l a.h a.helpers.now a.zeroth.now a.first.now c2.requires.0 _ _ (omega arith) refl c1.loop-k.invariant.2))

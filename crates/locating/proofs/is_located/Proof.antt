@@ -13,17 +13,17 @@ use Rattle.locating.proofs.Blocks.{within_layers, next_fits, located_none, locat
 use Rattle.locating.proofs.is_located.Statement.{statement}
 use Rattle.locating.proofs.is_located.Tie as tie
 
-abbrev invariant-loop : tie.invariant-loop
-invariant-loop l h helpers k zeroth first row₀ u total p₀ row p = (p ≤ total) × (length row ≡ length row₀) × PointsAt gf256 l h helpers zeroth first k p
+abbrev invariant-loop-p : tie.invariant-loop-p
+invariant-loop-p l h helpers k zeroth first row₀ u total p₀ row p = (p ≤ total) × (length row ≡ length row₀) × PointsAt gf256 l h helpers zeroth first k p
 
-abbrev decreases-loop : tie.decreases-loop
-decreases-loop l h helpers k zeroth first row₀ u total p₀ row p = total - p
+abbrev decreases-loop-p : tie.decreases-loop-p
+decreases-loop-p l h helpers k zeroth first row₀ u total p₀ row p = total - p
 
 pub is_located_spec : {M : Type 1} → statement M
 is_located_spec =
     tie.close (tie.spec
-    invariant-loop
-    decreases-loop
+    invariant-loop-p
+    decreases-loop-p
     (λ c κs. c.before.before.before.before.requires.0.adm)
     (λ c.
     let c1 = c.before.before.before.before.before in
@@ -33,7 +33,7 @@ is_located_spec =
     (λ c κs.
     let c1 = c.before.before in
     let c2 = c1.before.before.before.before.before in
-    (c2.requires.0.adm, omega arith, within_layers c2.args.l _ _ c1.group-count.ensures (omega arith), omega arith))
+    (c2.requires.0.adm, omega arith, within_layers c2.args.l _ _ c1.group_count-total.ensures (omega arith), omega arith))
     (λ c. search rules)
     (λ c. search rules)
     (λ c. search rules)
@@ -43,16 +43,16 @@ is_located_spec =
     let c2 = c1.before.before in
     let c3 = c2.before.before.before.before.before.before in
     let p = c3.requires in (
-      c1.block_at.ensures.0,
+      c1.block_at-w.ensures.0,
       p.0.host_in,
       p.0.inside _ p.1,
       p.0.other _ p.1,
       size_high c3.args.l p.0.adm,
       omega (
         arith,
-        c2.loop.invariant.1,
+        c2.loop-p.invariant.1,
         p.4,
-        c1.block_at.ensures.1.small,
+        c1.block_at-w.ensures.1.small,
       ),
     ))
     (λ c. search rules)
@@ -65,20 +65,20 @@ is_located_spec =
     let c5 = c4.before in
     let c6 = c5.before.before.before.before.before in
     let p = c6.requires in (
-      omega (arith, c2.block_at.ensures.1.within, p.2, c5.group-count.ensures, c3.loop-test.true),
+      omega (arith, c2.block_at-w.ensures.1.within, p.2, c5.group_count-total.ensures, c3.loop-p-test.true),
       omega (
         arith,
-        c2.block_at.ensures.1.within,
+        c2.block_at-w.ensures.1.within,
         p.3,
-        c5.group-count.ensures,
-        c3.loop-test.true,
+        c5.group_count-total.ensures,
+        c3.loop-p-test.true,
       ),
-      omega (arith, c1.rack_powers.auto.0, c4.loop.invariant.1, p.4, c2.block_at.ensures.1.small),
+      omega (arith, c1.rack_powers.auto.0, c4.loop-p.invariant.1, p.4, c2.block_at-w.ensures.1.small),
     ))
     (λ c.
     let c1 = c.before.before.before.before.before in
     let c2 = c1.before.before.before.before.before in
-    c1.rack_powers.auto.0 ∙ c2.loop.invariant.1)
+    c1.rack_powers.auto.0 ∙ c2.loop-p.invariant.1)
     (λ c.
     let c1 = c.before in
     let c2 = c1.before.before.before.before in
@@ -90,19 +90,19 @@ is_located_spec =
     let p = c6.requires in
     located_not working a.l a.h a.helpers.now a.zeroth.now a.first.now a.k p.0 p.1 _ _ _ c2.rack_powers.ensures (omega (
       arith,
-      c3.block_at.ensures.1.within,
-      c5.group-count.ensures,
-      c4.loop-test.true,
-    )) (says_false c1.row-agrees.result (not-true c1.row-agrees.result c.if1.true) c1.row-agrees.ensures))
+      c3.block_at-w.ensures.1.within,
+      c5.group_count-total.ensures,
+      c4.loop-p-test.true,
+    )) (says_false c1.row_agrees.result (not-true c1.row_agrees.result c.if-not-row_agrees.true-raw) c1.row_agrees.ensures))
     (λ c.
     let c1 = c.before.before.before.before.before.before.before.before in
     let c2 = c1.before.before.before in
     let c3 = c2.before.before.before.before.before in
-    next_fits c3.args.l _ _ _ _ c3.requires.0.adm c2.group-count.ensures (omega arith) c1.block_at.ensures.1)
+    next_fits c3.args.l _ _ _ _ c3.requires.0.adm c2.group_count-total.ensures (omega arith) c1.block_at-w.ensures.1)
     (λ c.
     let c1 = c.before.before.before.before.before.before.before.before in
     let c2 = c1.before in
-    omega (arith, c1.block_at.ensures.2, c2.loop-test.true))
+    omega (arith, c1.block_at-w.ensures.2, c2.loop-p-test.true))
     (λ c.
     let c1 = c.before in
     let c2 = c1.before.before.before.before in
@@ -111,15 +111,15 @@ is_located_spec =
     let c5 = c4.before.before.before.before.before.before in
     let a = c5.args in
     let p = c5.requires in (
-      omega (arith, c3.block_at.ensures.1.within),
-      c2.rack_powers.auto.0 ∙ c4.loop.invariant.1,
+      omega (arith, c3.block_at-w.ensures.1.within),
+      c2.rack_powers.auto.0 ∙ c4.loop-p.invariant.1,
       located_more working a.l a.h a.helpers.now a.zeroth.now
-          a.first.now a.k p.0 p.1 _ _ _ c2.rack_powers.ensures (says_true c1.row-agrees.result (not-false c1.row-agrees.result c.if1.false) c1.row-agrees.ensures) c4.loop.invariant.2,
+          a.first.now a.k p.0 p.1 _ _ _ c2.rack_powers.ensures (says_true c1.row_agrees.result (not-false c1.row_agrees.result c.if-not-row_agrees.false-raw) c1.row_agrees.ensures) c4.loop-p.invariant.2,
     ))
-    (λ c. c.before.loop.invariant.1)
+    (λ c. c.before.loop-p.invariant.1)
     (λ c.
     let c1 = c.before in
     let c2 = c1.before in
     let c3 = c2.before.before.before.before.before in
     let a = c3.args in
-    located_end working a.l a.h a.helpers.now a.zeroth.now a.first.now a.k _ _ c1.loop.invariant.2 (omega arith) c2.group-count.ensures))
+    located_end working a.l a.h a.helpers.now a.zeroth.now a.first.now a.k _ _ c1.loop-p.invariant.2 (omega arith) c2.group_count-total.ensures))

@@ -8,15 +8,15 @@ use Rattle.locating.proofs.Rows.{agrees_none, agrees_more, agrees_end, agrees_no
 use Rattle.locating.proofs.row_agrees.Statement.{statement}
 use Rattle.locating.proofs.row_agrees.Tie as tie
 
-abbrev invariant-loop : tie.invariant-loop
-invariant-loop zeroth first at w row j₀ j = (j ≤ w) × RowAgrees gf256 zeroth first at j row
+abbrev invariant-loop-j : tie.invariant-loop-j
+invariant-loop-j zeroth first at w row j₀ j = (j ≤ w) × RowAgrees gf256 zeroth first at j row
 
-abbrev decreases-loop : tie.decreases-loop
-decreases-loop zeroth first at w row j₀ j = w - j
+abbrev decreases-loop-j : tie.decreases-loop-j
+decreases-loop-j zeroth first at w row j₀ j = w - j
 
 pub row_agrees_spec : {M : Type 1} → statement M
 row_agrees_spec =
-    tie.close (tie.spec invariant-loop decreases-loop
+    tie.close (tie.spec invariant-loop-j decreases-loop-j
     (λ c. (omega arith, search (agrees_none working)))
     (λ c κs. omega arith)
     (λ c. search rules)

@@ -7,15 +7,15 @@ use Rattle.margin.proofs.Counting.{live_none, live_more, live_fits, live_all, li
 use Rattle.margin.proofs.live_count.Statement.{statement}
 use Rattle.margin.proofs.live_count.Tie as tie
 
-abbrev invariant-loop : tie.invariant-loop
-invariant-loop states count₀ x₀ count x = (x ≤ length states) × (count ≡ live states x)
+abbrev invariant-loop-x : tie.invariant-loop-x
+invariant-loop-x states count₀ x₀ count x = (x ≤ length states) × (count ≡ live states x)
 
-abbrev decreases-loop : tie.decreases-loop
-decreases-loop states count₀ x₀ count x = length states - x
+abbrev decreases-loop-x : tie.decreases-loop-x
+decreases-loop-x states count₀ x₀ count x = length states - x
 
 pub live_count_spec : {M : Type 1} → statement M
 live_count_spec =
-    tie.close (tie.spec invariant-loop decreases-loop
+    tie.close (tie.spec invariant-loop-x decreases-loop-x
     (λ c. (search rules, search live_none))
     (λ c. search rules)
     (λ c κs. search rules)

@@ -10,26 +10,26 @@ use Rattle.multipliers.proofs.Sides.{first_layer, tray_fits, helper_tray, size_u
 use Rattle.multipliers.proofs.helper_points.Statement.{statement}
 use Rattle.multipliers.proofs.helper_points.Tie as tie
 
-abbrev invariant-loop : tie.invariant-loop
-invariant-loop row₀ l h p helpers u j k₀ row k = (k ≤ length helpers) × (length row ≡ length row₀) × HelperPoints gf256 l h p helpers k row
+abbrev invariant-loop-k : tie.invariant-loop-k
+invariant-loop-k row₀ l h p helpers u j k₀ row k = (k ≤ length helpers) × (length row ≡ length row₀) × HelperPoints gf256 l h p helpers k row
 
-abbrev decreases-loop : tie.decreases-loop
-decreases-loop row₀ l h p helpers u j k₀ row k = length helpers - k
+abbrev decreases-loop-k : tie.decreases-loop-k
+decreases-loop-k row₀ l h p helpers u j k₀ row k = length helpers - k
 
-loop_holds : tie.Need-loop-init invariant-loop decreases-loop
+loop_holds : tie.Need-loop-k-init invariant-loop-k decreases-loop-k
 loop_holds c = (omega arith, refl, search (points_none working))
 
-loop_again : tie.Need-loop-preserved invariant-loop decreases-loop
+loop_again : tie.Need-loop-k-preserved invariant-loop-k decreases-loop-k
 loop_again c =
     let d = c.before.before in
     let i = d.before.before.before.before in
     let s = i.before.before.before.before.before in
-    let v = d.before.before.point-power.ensures in
-    (omega arith, search rules, points_more working _ _ _ _ s.requires.0 _ _ _ _ _ i.before.before.layer-of.ensures.0 (omega arith) v d.fill.ensures i.before.loop.invariant.2)
+    let v = d.before.before.point_power-v.ensures in
+    (omega arith, search rules, points_more working _ _ _ _ s.requires.0 _ _ _ _ _ i.before.before.layer_of-j.ensures.0 (omega arith) v d.fill.ensures i.before.loop-k.invariant.2)
 
 pub helper_points_spec : {M : Type 1} → statement M
 helper_points_spec =
-    tie.close (tie.spec invariant-loop decreases-loop
+    tie.close (tie.spec invariant-loop-k decreases-loop-k
     (λ c κs. search first_layer)
     loop_holds
     (λ c. search rules)

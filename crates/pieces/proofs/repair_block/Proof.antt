@@ -6,7 +6,7 @@ use borrow.Author.Rules.{rules}
 use Rattle.pieces.proofs.repair_block.Statement.{statement}
 use Rattle.pieces.proofs.repair_block.Tie as tie
 
-shared_slice_read_h : tie.Need-shared-slice-read-h
+shared_slice_read_h : tie.Need-bounds-lost-0
 shared_slice_read_h c = search rules
 
 div_h : tie.Need-nonzero-div-h
@@ -15,7 +15,7 @@ div_h c = search rules
 cast_e : tie.Need-overflow-cast-e
 cast_e c = search rules
 
-block_sums_requires : tie.Need-block-sums-requires
+block_sums_requires : tie.Need-block_sums-requires
 block_sums_requires c κs =
     let s =
     c.before.before.before.before.before.before.before.before.before.before.before.before.before.before.before.before.before.before.before.before.before in
@@ -23,13 +23,13 @@ block_sums_requires c κs =
     summing_of gf256.order a.l a.lost.now a.helpers.now a.shares.now a.host.now a.w a.first a.spare.now a.sums.now
     a.sides.now a.found.now a.points.now a.coefs.now a.row.now a.cur.now s.pre.0 s.pre.1 s.pre.2 s.pre.3
 
-repair_block_requires : tie.Need-repair-block-requires
+repair_block_requires : tie.Need-repair_block-requires
 repair_block_requires c κs =
     let s =
     c.before.before.before.before.before.before.before.before.before.before.before.before.before.before.before.before.before.before.before.before.before.before.before.before.before.before.before.before.before.before.before.before.before.before.before.before.before.before.before.before.before.before.before.before in
     let a = s.args in
     let k =
-    c.before.before.before.before.before.before.before.before.before.before.before.before.before.before.before.before.before.before.before.before.before.before.block-sums.auto in (
+    c.before.before.before.before.before.before.before.before.before.before.before.before.before.before.before.before.before.before.before.before.before.before.block_sums.auto in (
       repairing_of gf256.order a.l a.lost.now a.helpers.now a.shares.now a.host.now a.w a.first a.spare.now a.sums.now
           a.sides.now a.found.now a.points.now a.coefs.now a.row.now a.cur.now s.pre.0 s.pre.1 s.pre.2 s.pre.3 gf256 _
           k.0,
@@ -40,28 +40,28 @@ repair_block_requires c κs =
       s.pre.0.spare_long,
     )
 
-same_length : tie.Need-same-length
+same_length : tie.Need-shape_of-spare
 same_length c = search rules
 
-same_length_2 : tie.Need-same-length-2
+same_length_2 : tie.Need-shape_of-sums
 same_length_2 c = search rules
 
-same_length_3 : tie.Need-same-length-3
+same_length_3 : tie.Need-shape_of-sides
 same_length_3 c = search rules
 
-same_length_4 : tie.Need-same-length-4
+same_length_4 : tie.Need-shape_of-found
 same_length_4 c = search rules
 
-same_length_5 : tie.Need-same-length-5
+same_length_5 : tie.Need-shape_of-points
 same_length_5 c = search rules
 
-same_length_6 : tie.Need-same-length-6
+same_length_6 : tie.Need-shape_of-coefs
 same_length_6 c = search rules
 
-same_length_7 : tie.Need-same-length-7
+same_length_7 : tie.Need-shape_of-row
 same_length_7 c = search rules
 
-same_length_8 : tie.Need-same-length-8
+same_length_8 : tie.Need-shape_of-cur
 same_length_8 c = search rules
 
 returns : tie.Need-returns
@@ -72,8 +72,8 @@ returns c =
     let a = s.args in
     repaired_piece working a.l a.lost.now a.helpers.now a.shares.now a.host.now a.w a.first _ s.pre.0.adm s.pre.0.losses
     s.pre.1.block s.pre.1.inside
-    c.before.before.before.before.before.before.before.before.before.before.before.before.before.before.before.before.before.before.before.before.before.before.before.before.before.before.before.before.before.before.before.before.before.before.before.before.before.block-sums.ensures a.spare.now _
-    c.before.before.before.before.before.before.before.before.before.before.before.before.before.before.repair-block.ensures
+    c.before.before.before.before.before.before.before.before.before.before.before.before.before.before.before.before.before.before.before.before.before.before.before.before.before.before.before.before.before.before.before.before.before.before.before.before.before.block_sums.ensures a.spare.now _
+    c.before.before.before.before.before.before.before.before.before.before.before.before.before.before.repair_block.ensures
 
 pub repair_block_spec : {M : Type 1} → statement M
 repair_block_spec =

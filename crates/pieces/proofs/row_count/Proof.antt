@@ -3,19 +3,19 @@ use borrow.Author.Rules.{rules}
 use Rattle.pieces.proofs.row_count.Statement.{statement}
 use Rattle.pieces.proofs.row_count.Tie as tie
 
-unknown_count_requires : tie.Need-unknown-count-requires
+unknown_count_requires : tie.Need-unknown_count-unknowns-requires
 unknown_count_requires c κs = search rules
 
-digit_count_requires : tie.Need-digit-count-requires
+digit_count_requires : tie.Need-digit_count-requires
 digit_count_requires c κs = search rules
 
 mul_host_sums : tie.Need-overflow-mul-host-sums
 mul_host_sums c = search rows_fit
 
-returns : tie.Need-returns
+returns : tie.Need-returns-then-unknowns-host_sums
 returns c = search rows_sums
 
-returns_2 : tie.Need-returns-2
+returns_2 : tie.Need-returns
 returns_2 c = search rows_unknowns
 
 pub row_count_spec : {M : Type 1} → statement M

@@ -11,30 +11,30 @@ use borrow.Author.Rules.{rules}
 use Rattle.pieces257.proofs.repair_blocks.Statement.{statement}
 use Rattle.pieces257.proofs.repair_blocks.Tie as tie
 
-abbrev invariant-loop : tie.invariant-loop
-invariant-loop l lost helpers shares host first count spare₀ sums₀ sides₀ found₀ points₀ coefs₀ row₀ cur₀ rows k₀ spare sums sides found points coefs row cur k =
+abbrev invariant-loop-k : tie.invariant-loop-k
+invariant-loop-k l lost helpers shares host first count spare₀ sums₀ sides₀ found₀ points₀ coefs₀ row₀ cur₀ rows k₀ spare sums sides found points coefs row cur k =
     (k ≤ count) × (length sums ≡ length sums₀) × (length sides ≡ length sides₀) × (length found ≡ length found₀) × (length points ≡ length points₀)
     × (length coefs ≡ length coefs₀) × (length row ≡ length row₀) × (length cur ≡ length cur₀) × Piece gf257 l lost helpers shares host first k spare₀ spare
 
-abbrev decreases-loop : tie.decreases-loop
-decreases-loop l lost helpers shares host first count spare₀ sums₀ sides₀ found₀ points₀ coefs₀ row₀ cur₀ rows k₀ spare sums sides found points coefs row cur k = count - k
+abbrev decreases-loop-k : tie.decreases-loop-k
+decreases-loop-k l lost helpers shares host first count spare₀ sums₀ sides₀ found₀ points₀ coefs₀ row₀ cur₀ rows k₀ spare sums sides found points coefs row cur k = count - k
 
-cast_row_count : tie.Need-overflow-cast-row-count invariant-loop decreases-loop
+cast_row_count : tie.Need-overflow-cast-row-count invariant-loop-k decreases-loop-k
 cast_row_count c = search rules
 
-row_count_requires : tie.Need-row-count-requires invariant-loop decreases-loop
+row_count_requires : tie.Need-row_count-rows-requires invariant-loop-k decreases-loop-k
 row_count_requires c κs = let p = c.before.before.before.before.before.before.before.before.before.before.before.before.requires.0 in (p.adm.admissible.cabinet, p.losses.few)
 
-loop_holds : tie.Need-loop-init invariant-loop decreases-loop
+loop_holds : tie.Need-loop-k-init invariant-loop-k decreases-loop-k
 loop_holds c = (omega arith, refl, refl, refl, refl, refl, refl, refl, piece_none _ _ _ _ _ _ _ _)
 
-add_block_at : tie.Need-overflow-add-block-at invariant-loop decreases-loop
+add_block_at : tie.Need-overflow-add-block-at invariant-loop-k decreases-loop-k
 add_block_at c = search start_fits
 
-sub_block_at : tie.Need-overflow-sub-block-at invariant-loop decreases-loop
+sub_block_at : tie.Need-overflow-sub-block-at invariant-loop-k decreases-loop-k
 sub_block_at c = search rules
 
-block_at_requires : tie.Need-block-at-requires invariant-loop decreases-loop
+block_at_requires : tie.Need-block_at-w-requires invariant-loop-k decreases-loop-k
 block_at_requires c κs = let p =
     c.before.before.before.before.before.before.before.before.before.before.before.before.before.before.before.requires.0 in (
       p.adm.admissible.cabinet,
@@ -44,44 +44,44 @@ block_at_requires c κs = let p =
         p.within,
         groups_under c.before.before.before.before.before.before.before.before.before.before.before.before.before.before.before.args.l,
       ),
-      c.before.before.row_count.ensures.few,
+      c.before.before.row_count-rows.ensures.few,
     )
 
-add_repair_block : tie.Need-overflow-add-repair-block invariant-loop decreases-loop
+add_repair_block : tie.Need-overflow-add-repair-block invariant-loop-k decreases-loop-k
 add_repair_block c = search rules
 
-repair_block_requires : tie.Need-repair-block-requires invariant-loop decreases-loop
+repair_block_requires : tie.Need-repair_block-requires invariant-loop-k decreases-loop-k
 repair_block_requires c κs =
     let s =
     c.before.before.before.before.before.before.before.before.before.before.before.before.before.before.before.before.before.before.before.before.before.before.before.before in
     let a = s.args in
-    let o = c.before.before.before.before.before.before.before.before.before.before.loop in
-    let w = c.before.before.before.before.before.before.before.before.block_at in (
+    let o = c.before.before.before.before.before.before.before.before.before.before.loop-k in
+    let w = c.before.before.before.before.before.before.before.before.block_at-w in (
       piecing_next gf257.order a.l a.lost.now a.helpers.now a.shares.now a.host.now a.first a.count o.k w.result a.spare.now _
           s.pre.0 (omega (arith, w.ensures.1.within)) o.invariant.8.long,
       groups_of a.l (a.first + o.k) (a.count - o.k) _ w.result (omega (arith, s.pre.0.within)) w.ensures.0 w.ensures.1,
       fitting_in a.l (length a.lost.now) _ _ _ _ a.count _ _
-          c.before.before.before.before.before.before.before.before.before.before.before.row_count.ensures w.ensures.1
+          c.before.before.before.before.before.before.before.before.before.before.before.row_count-rows.ensures w.ensures.1
           (omega (arith, w.ensures.1.within)) s.pre.1 o.invariant.1,
       rooms_next a.sums.now a.sides.now a.found.now a.points.now a.coefs.now a.row.now a.cur.now _ _ _ _ _ _ _ s.pre.2 o.invariant.1
           o.invariant.2 o.invariant.3 o.invariant.4 o.invariant.5 o.invariant.6 o.invariant.7,
     )
 
-add_k : tie.Need-overflow-add-k invariant-loop decreases-loop
+add_k : tie.Need-overflow-add-k invariant-loop-k decreases-loop-k
 add_k c = search rules
 
-loop_less : tie.Need-loop-smaller invariant-loop decreases-loop
+loop_less : tie.Need-loop-k-smaller invariant-loop-k decreases-loop-k
 loop_less c = omega arith
 
-loop_again : tie.Need-loop-preserved invariant-loop decreases-loop
+loop_again : tie.Need-loop-k-preserved invariant-loop-k decreases-loop-k
 loop_again c =
     let a =
     c.before.before.before.before.before.before.before.before.before.before.before.before.before.before.before.before.before.before.before.before.before.before.before.before.before.before.before.before.before.before.before.before.before.before.before.before.before.before.before.before.before.args in
     let o =
-    c.before.before.before.before.before.before.before.before.before.before.before.before.before.before.before.before.before.before.before.before.before.before.before.before.before.before.before.loop in
-    let m = c.before.before.before.before.before.before.before.before.before.before.before.before.before.before.before.before.repair-block in
+    c.before.before.before.before.before.before.before.before.before.before.before.before.before.before.before.before.before.before.before.before.before.before.before.before.before.before.before.loop-k in
+    let m = c.before.before.before.before.before.before.before.before.before.before.before.before.before.before.before.before.repair_block in
     let w =
-    c.before.before.before.before.before.before.before.before.before.before.before.before.before.before.before.before.before.before.before.before.before.before.before.before.before.block_at.ensures.1.within in (
+    c.before.before.before.before.before.before.before.before.before.before.before.before.before.before.before.before.before.before.before.before.before.before.before.before.before.block_at-w.ensures.1.within in (
       omega arith,
       m.auto.1.1.1.1.1.1.1.1.0 ∙ o.inv.1,
       m.auto.1.1.1.1.1.1.1.1.1.0 ∙ o.inv.2,
@@ -91,45 +91,45 @@ loop_again c =
       m.auto.1.1.1.1.1.1.1.1.1.1.1.1.0 ∙ o.inv.5,
       m.auto.1.1.1.1.1.1.1.1.1.1.1.1.1.0 ∙ o.inv.6,
       m.auto.1.1.1.1.1.1.1.1.1.1.1.1.1.1.0 ∙ o.inv.7,
-      piece_more gf257 a.l a.lost.now a.helpers.now a.shares.now a.host.now a.first o.k _ a.spare.now o.spare _ o.inv.8
+      piece_more gf257 a.l a.lost.now a.helpers.now a.shares.now a.host.now a.first o.k _ a.spare.now o.spare-1 _ o.inv.8
           m.ensures,
     )
 
-same_length : tie.Need-same-length invariant-loop decreases-loop
+same_length : tie.Need-shape_of-spare invariant-loop-k decreases-loop-k
 same_length c = search rules
 
-same_length_2 : tie.Need-same-length-2 invariant-loop decreases-loop
+same_length_2 : tie.Need-shape_of-sums invariant-loop-k decreases-loop-k
 same_length_2 c = search rules
 
-same_length_3 : tie.Need-same-length-3 invariant-loop decreases-loop
+same_length_3 : tie.Need-shape_of-sides invariant-loop-k decreases-loop-k
 same_length_3 c = search rules
 
-same_length_4 : tie.Need-same-length-4 invariant-loop decreases-loop
+same_length_4 : tie.Need-shape_of-found invariant-loop-k decreases-loop-k
 same_length_4 c = search rules
 
-same_length_5 : tie.Need-same-length-5 invariant-loop decreases-loop
+same_length_5 : tie.Need-shape_of-points invariant-loop-k decreases-loop-k
 same_length_5 c = search rules
 
-same_length_6 : tie.Need-same-length-6 invariant-loop decreases-loop
+same_length_6 : tie.Need-shape_of-coefs invariant-loop-k decreases-loop-k
 same_length_6 c = search rules
 
-same_length_7 : tie.Need-same-length-7 invariant-loop decreases-loop
+same_length_7 : tie.Need-shape_of-row invariant-loop-k decreases-loop-k
 same_length_7 c = search rules
 
-same_length_8 : tie.Need-same-length-8 invariant-loop decreases-loop
+same_length_8 : tie.Need-shape_of-cur invariant-loop-k decreases-loop-k
 same_length_8 c = search rules
 
-returns : tie.Need-returns invariant-loop decreases-loop
+returns : tie.Need-returns invariant-loop-k decreases-loop-k
 returns c =
     let a = c.before.before.before.before.before.before.before.before.before.before.before.before.before.before.before.args in
-    subst (λ n. Piece gf257 a.l a.lost.now a.helpers.now a.shares.now a.host.now a.first n a.spare.now c.before.loop.spare) (omega arith) c.before.loop.invariant.8
+    subst (λ n. Piece gf257 a.l a.lost.now a.helpers.now a.shares.now a.host.now a.first n a.spare.now c.before.loop-k.spare) (omega arith) c.before.loop-k.invariant.8
 
 pub repair_blocks_spec : {M : Type 1} → statement M
 repair_blocks_spec =
     tie.close
     (tie.spec
-    invariant-loop
-    decreases-loop
+    invariant-loop-k
+    decreases-loop-k
     cast_row_count
     row_count_requires
     loop_holds

@@ -18,8 +18,8 @@ repair_groups_spec =
     let p = c.before.before.before.before.before.before.requires in
     let b = bounds _ p.adm.admissible.cabinet in
     let n : c.before.before.before.before.before.before.args.count ≤ 4096 = omega (arith, p.within, b.groups_high) in
-    omega (arith, mul-le-mul c.row_count.ensures.few n))
-    (λ c κs. (c.before.before.before.before.before.before.before.before.requires, few_of _ _ _ _ c.before.before.row_count.ensures c.before.if1.true))
+    omega (arith, mul-le-mul c.row_count-rows.ensures.few n))
+    (λ c κs. (c.before.before.before.before.before.before.before.before.requires, few_of _ _ _ _ c.before.before.row_count-rows.ensures c.before.if-rows-count-le-BLOCK.true))
     (λ c. search rules)
     (λ c. search rules)
     (λ c κs. search rules)

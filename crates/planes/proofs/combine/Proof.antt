@@ -8,15 +8,15 @@ use Rattle.planes.proofs.Planes.{upper_none, upper_more, summed_end, whole_in, w
 use Rattle.planes.proofs.combine.Statement.{statement}
 use Rattle.planes.proofs.combine.Tie as tie
 
-abbrev invariant-loop : tie.invariant-loop
-invariant-loop found₀ w m i sums coefs at k₀ found k = (k ≤ 8) × (length found ≡ length found₀) × Upper w m i k sums coefs at found₀ found
+abbrev invariant-loop-k : tie.invariant-loop-k
+invariant-loop-k found₀ w m i sums coefs at k₀ found k = (k ≤ 8) × (length found ≡ length found₀) × Upper w m i k sums coefs at found₀ found
 
-abbrev decreases-loop : tie.decreases-loop
-decreases-loop found₀ w m i sums coefs at k₀ found k = k
+abbrev decreases-loop-k : tie.decreases-loop-k
+decreases-loop-k found₀ w m i sums coefs at k₀ found k = k
 
 pub combine_spec : {M : Type 1} → statement M
 combine_spec =
-    tie.close (tie.spec invariant-loop decreases-loop
+    tie.close (tie.spec invariant-loop-k decreases-loop-k
     (λ c. search whole_fits)
     (λ c κs. search whole_in)
     (λ c. (omega arith, refl, search upper_none))

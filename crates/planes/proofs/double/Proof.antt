@@ -10,15 +10,15 @@ use Rattle.planes.proofs.Planes.{double_more}
 use Rattle.planes.proofs.double.Statement.{statement}
 use Rattle.planes.proofs.double.Tie as tie
 
-abbrev invariant-loop : tie.invariant-loop
-invariant-loop out₀ to len j₀ out j = (j ≤ len) × (length out ≡ length out₀) × Run (doubled out₀ to) out₀ out to j
+abbrev invariant-loop-j : tie.invariant-loop-j
+invariant-loop-j out₀ to len j₀ out j = (j ≤ len) × (length out ≡ length out₀) × Run (doubled out₀ to) out₀ out to j
 
-abbrev decreases-loop : tie.decreases-loop
-decreases-loop out₀ to len j₀ out j = len - j
+abbrev decreases-loop-j : tie.decreases-loop-j
+decreases-loop-j out₀ to len j₀ out j = len - j
 
 pub double_spec : {M : Type 1} → statement M
 double_spec =
-    tie.close (tie.spec invariant-loop decreases-loop
+    tie.close (tie.spec invariant-loop-j decreases-loop-j
     (λ c. (omega arith, refl, run_none _ _ _))
     (λ c. omega arith)
     (λ c. omega arith)

@@ -11,15 +11,15 @@ use Rattle.planes257.proofs.Sums.{summed_none, summed_more, summed_end, sums_in,
 use Rattle.planes257.proofs.combine.Statement.{statement}
 use Rattle.planes257.proofs.combine.Tie as tie
 
-abbrev invariant-loop : tie.invariant-loop
-invariant-loop found₀ w m i sums coefs at t₀ found t = (t ≤ m) × (length found ≡ length found₀) × Summed gf257 w t i sums coefs at found₀ found
+abbrev invariant-loop-t : tie.invariant-loop-t
+invariant-loop-t found₀ w m i sums coefs at t₀ found t = (t ≤ m) × (length found ≡ length found₀) × Summed gf257 w t i sums coefs at found₀ found
 
-abbrev decreases-loop : tie.decreases-loop
-decreases-loop found₀ w m i sums coefs at t₀ found t = m - t
+abbrev decreases-loop-t : tie.decreases-loop-t
+decreases-loop-t found₀ w m i sums coefs at t₀ found t = m - t
 
 pub combine_spec : {M : Type 1} → statement M
 combine_spec =
-    tie.close (tie.spec invariant-loop decreases-loop
+    tie.close (tie.spec invariant-loop-t decreases-loop-t
     (λ c. search whole_fits)
     (λ c κs. search whole_in)
     (λ c. (omega arith, refl, search (summed_none working)))

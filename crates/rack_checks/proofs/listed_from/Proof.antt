@@ -6,15 +6,15 @@ use Rattle.rack_checks.proofs.Numbers.{from_none, from_more}
 use Rattle.rack_checks.proofs.listed_from.Statement.{statement}
 use Rattle.rack_checks.proofs.listed_from.Tie as tie
 
-abbrev invariant-loop : tie.invariant-loop
-invariant-loop es n x₀ x = (x ≤ n) × ListedFrom es x n
+abbrev invariant-loop-x : tie.invariant-loop-x
+invariant-loop-x es n x₀ x = (x ≤ n) × ListedFrom es x n
 
-abbrev decreases-loop : tie.decreases-loop
-decreases-loop es n x₀ x = x
+abbrev decreases-loop-x : tie.decreases-loop-x
+decreases-loop-x es n x₀ x = x
 
 pub listed_from_spec : {M : Type 1} → statement M
 listed_from_spec =
-    tie.close (tie.spec invariant-loop decreases-loop
+    tie.close (tie.spec invariant-loop-x decreases-loop-x
     (λ c. (omega arith, from_none _ _))
     (λ c. omega arith)
     (λ c κs. search rules)

@@ -11,16 +11,16 @@ use Rattle.rack_checks.proofs.Raising.{weights_none, weights_more, weights_end}
 use Rattle.rack_checks.proofs.raise_rack.Statement.{statement}
 use Rattle.rack_checks.proofs.raise_rack.Tie as tie
 
-abbrev invariant-loop : tie.invariant-loop
-invariant-loop sums₀ l w first total r c es i cur₀ row u n m₀ sums cur m = (m ≤ n) × (length sums ≡ length sums₀) × (length cur ≡ length cur₀)
+abbrev invariant-loop-m : tie.invariant-loop-m
+invariant-loop-m sums₀ l w first total r c es i cur₀ row u n m₀ sums cur m = (m ≤ n) × (length sums ≡ length sums₀) × (length cur ≡ length cur₀)
     × Weights gf256 l w first r c es i sums₀ sums m × LastSums gf256 l w first c es i m cur
 
-abbrev decreases-loop : tie.decreases-loop
-decreases-loop sums₀ l w first total r c es i cur₀ row u n m₀ sums cur m = n - m
+abbrev decreases-loop-m : tie.decreases-loop-m
+decreases-loop-m sums₀ l w first total r c es i cur₀ row u n m₀ sums cur m = n - m
 
 pub raise_rack_spec : {M : Type 1} → statement M
 raise_rack_spec =
-    tie.close (tie.spec invariant-loop decreases-loop
+    tie.close (tie.spec invariant-loop-m decreases-loop-m
     (λ c. search rules)
     (λ c κs. search rules)
     (λ c. omega arith)
@@ -37,8 +37,8 @@ raise_rack_spec =
       let c1 = c.before.before.before.before.before.before.before.before.before.before.before in let a =
           c1.before.before.before.before.before.before.before.before.before.before.before.args in let s =
           c.before.before.before.before.before.before.before.before.rack_sum in weights_more working a.l a.w a.first a.r a.c.now a.es.now
-          a.i a.sums.now c1.loop.sums c.before.before.raise-weight.new.0 s.last.0 c1.loop.m c1.loop.invariant.3 s.ensures
-          c.before.before.raise-weight.ensures,
+          a.i a.sums-1.now c1.loop-m.sums c.before.before.raise_weight.new.0 s.last.0 c1.loop-m.m c1.loop-m.invariant.3 s.ensures
+          c.before.before.raise_weight.ensures,
       last_next working _ _ _ _ _ _ _ _
           c.before.before.before.before.before.before.before.before.rack_sum.ensures,
     ))

@@ -12,16 +12,16 @@ use Rattle.rack_checks.proofs.Above.{above_none, above_more, above_end}
 use Rattle.rack_checks.proofs.sum_racks.Statement.{statement}
 use Rattle.rack_checks.proofs.sum_racks.Tie as tie
 
-abbrev invariant-loop : tie.invariant-loop
-invariant-loop sums₀ l w first r c es h cur₀ row₀ total i₀ sums cur row i = (i ≤ l.racks) × (length sums ≡ length sums₀) × (length cur ≡ length cur₀)
+abbrev invariant-loop-i : tie.invariant-loop-i
+invariant-loop-i sums₀ l w first r c es h cur₀ row₀ total i₀ sums cur row i = (i ≤ l.racks) × (length sums ≡ length sums₀) × (length cur ≡ length cur₀)
     × (length row ≡ length row₀) × Above gf256 l w first r c es i sums
 
-abbrev decreases-loop : tie.decreases-loop
-decreases-loop sums₀ l w first r c es h cur₀ row₀ total i₀ sums cur row i = i
+abbrev decreases-loop-i : tie.decreases-loop-i
+decreases-loop-i sums₀ l w first r c es h cur₀ row₀ total i₀ sums cur row i = i
 
 pub sum_racks_spec : {M : Type 1} → statement M
 sum_racks_spec =
-    tie.close (tie.spec invariant-loop decreases-loop
+    tie.close (tie.spec invariant-loop-i decreases-loop-i
     (λ c κs. search rules)
     (λ c. search rules)
     (λ c. search sums_fits)

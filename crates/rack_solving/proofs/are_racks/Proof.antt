@@ -7,15 +7,15 @@ use Rattle.rack_solving.proofs.Lists.{racks_none, racks_more, racks_end, rack_in
 use Rattle.rack_solving.proofs.are_racks.Statement.{statement}
 use Rattle.rack_solving.proofs.are_racks.Tie as tie
 
-abbrev invariant-loop : tie.invariant-loop
-invariant-loop l es n u i₀ i = (i ≤ n) × RacksTo l.size es i
+abbrev invariant-loop-i : tie.invariant-loop-i
+invariant-loop-i l es n u i₀ i = (i ≤ n) × RacksTo l.size es i
 
-abbrev decreases-loop : tie.decreases-loop
-decreases-loop l es n u i₀ i = n - i
+abbrev decreases-loop-i : tie.decreases-loop-i
+decreases-loop-i l es n u i₀ i = n - i
 
 pub are_racks_spec : {M : Type 1} → statement M
 are_racks_spec =
-    tie.close (tie.spec invariant-loop decreases-loop
+    tie.close (tie.spec invariant-loop-i decreases-loop-i
     (λ c. search rules)
     (λ c κs. search rules)
     (λ c e. absurd (false≢true e))

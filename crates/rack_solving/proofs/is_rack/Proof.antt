@@ -7,15 +7,15 @@ use Rattle.rack_solving.proofs.Lists.{rack_first, rack_more, rack_end, entry_fit
 use Rattle.rack_solving.proofs.is_rack.Statement.{statement}
 use Rattle.rack_solving.proofs.is_rack.Tie as tie
 
-abbrev invariant-loop : tie.invariant-loop
-invariant-loop es i u k x g₀ g = (g ≤ u) × RackTo u es i g
+abbrev invariant-loop-g : tie.invariant-loop-g
+invariant-loop-g es i u k x g₀ g = (g ≤ u) × RackTo u es i g
 
-abbrev decreases-loop : tie.decreases-loop
-decreases-loop es i u k x g₀ g = u - g
+abbrev decreases-loop-g : tie.decreases-loop-g
+decreases-loop-g es i u k x g₀ g = u - g
 
 pub is_rack_spec : {M : Type 1} → statement M
 is_rack_spec =
-    tie.close (tie.spec invariant-loop decreases-loop
+    tie.close (tie.spec invariant-loop-g decreases-loop-g
     (λ c. search rules)
     (λ c. search rules)
     (λ c. search rules)

@@ -10,15 +10,15 @@ use Rattle.rack_solving.proofs.Points.{racks_none, racks_more, racks_end, rack_t
 use Rattle.rack_solving.proofs.rack_points.Statement.{statement}
 use Rattle.rack_solving.proofs.rack_points.Tie as tie
 
-abbrev invariant-loop : tie.invariant-loop
-invariant-loop points₀ l w first es n v run row₀ u i₀ points row i = (i ≤ n) × (length points ≡ length points₀) × (length row ≡ length row₀) × RackPoints gf256 l first es v run i points
+abbrev invariant-loop-i : tie.invariant-loop-i
+invariant-loop-i points₀ l w first es n v run row₀ u i₀ points row i = (i ≤ n) × (length points ≡ length points₀) × (length row ≡ length row₀) × RackPoints gf256 l first es v run i points
 
-abbrev decreases-loop : tie.decreases-loop
-decreases-loop points₀ l w first es n v run row₀ u i₀ points row i = n - i
+abbrev decreases-loop-i : tie.decreases-loop-i
+decreases-loop-i points₀ l w first es n v run row₀ u i₀ points row i = n - i
 
 pub rack_points_spec : {M : Type 1} → statement M
 rack_points_spec =
-    tie.close (tie.spec invariant-loop decreases-loop
+    tie.close (tie.spec invariant-loop-i decreases-loop-i
     (λ c. search rules)
     (λ c. (omega arith, refl, refl, search (racks_none working)))
     (λ c. search rack_starts)
@@ -43,8 +43,8 @@ rack_points_spec =
           let c2 = c1.before.before.before.before.before in
           let c3 = c2.before.before.before.before in
           let c4 = c3.before.before.before.before.before in
-          let a = c4.args in racks_more working a.l a.w a.first a.es.now a.v a.run c3.loop.i c2.power_row.new.0 c3.loop.points
-          c1.sample.new.0 c4.requires.0.width c4.requires.0.run_low c3.loop.invariant.3 c2.power_row.ensures c1.sample.ensures,
+          let a = c4.args in racks_more working a.l a.w a.first a.es.now a.v a.run c3.loop-i.i c2.power_row.new.0 c3.loop-i.points
+          c1.sample.new.0 c4.requires.0.width c4.requires.0.run_low c3.loop-i.invariant.3 c2.power_row.ensures c1.sample.ensures,
     ))
     (λ c. search rules)
     (λ c. search rules)

@@ -10,16 +10,16 @@ use Rattle.rack_solving.proofs.Symbols.{places_none, places_more, places_end, la
 use Rattle.rack_solving.proofs.rack_symbols.Statement.{statement}
 use Rattle.rack_solving.proofs.rack_symbols.Tie as tie
 
-abbrev invariant-loop : tie.invariant-loop
-invariant-loop found₀ u w i ys row₀ from m₀ found row m = (m ≤ u) × (length found ≡ length found₀) × (length row ≡ length row₀)
+abbrev invariant-loop-m : tie.invariant-loop-m
+invariant-loop-m found₀ u w i ys row₀ from m₀ found row m = (m ≤ u) × (length found ≡ length found₀) × (length row ≡ length row₀)
     × (0 < m → Weighed gf256 u (m - 1) ys from w w row) × RackFound gf256 u w i ys found₀ found m
 
-abbrev decreases-loop : tie.decreases-loop
-decreases-loop found₀ u w i ys row₀ from m₀ found row m = u - m
+abbrev decreases-loop-m : tie.decreases-loop-m
+decreases-loop-m found₀ u w i ys row₀ from m₀ found row m = u - m
 
 pub rack_symbols_spec : {M : Type 1} → statement M
 rack_symbols_spec =
-    tie.close (tie.spec invariant-loop decreases-loop
+    tie.close (tie.spec invariant-loop-m decreases-loop-m
     (λ c. search start_fits)
     (λ c. search rack_fits)
     (λ c. (omega arith, refl, refl, (λ h. absurd (omega arith)), search places_none))
@@ -40,8 +40,8 @@ rack_symbols_spec =
           let c2 = c1.before.before in
           let c3 = c2.before.before.before.before in
           let c4 = c3.before.before.before in
-          let a = c4.before.before.before.before.args in places_more gf256 a.u a.w a.i a.ys.now c4.loop.m c2.opposite-place.result a.found.now
-          c4.loop.found c1.copy.new.0 c3.weigh-rows.new.0 (omega arith) c2.opposite-place.ensures.0 c4.loop.invariant.4 c3.weigh-rows.ensures c1.copy.ensures,
+          let a = c4.before.before.before.before.args in places_more gf256 a.u a.w a.i a.ys.now c4.loop-m.m c2.opposite_place.result a.found.now
+          c4.loop-m.found c1.copy.new.0 c3.weigh_rows.new.0 (omega arith) c2.opposite_place.ensures.0 c4.loop-m.invariant.4 c3.weigh_rows.ensures c1.copy.ensures,
     ))
     (λ c. search rules)
     (λ c. search rules)

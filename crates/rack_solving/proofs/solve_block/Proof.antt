@@ -11,7 +11,7 @@ solve_block_spec =
     (λ c κs. (search rules, search rules, search racks_in))
     (λ c κs.
     let d = c.before.before.before.before in
-    let r = d.before.are-racks.ensures d.if1.true in
+    let r = d.before.are_racks.ensures d.if-are_racks.true in
     (search rules, search rules, search rules, search rules, search rules, r.0, r.1))
     (λ c. search rules)
     (λ c. search rules)

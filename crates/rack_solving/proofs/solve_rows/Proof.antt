@@ -19,10 +19,10 @@ solve_rows_spec =
     let y = p.before.before.before in
     let s = y.before.before.before.before.before.before.before.before.before in
     let a = s.args in
-    let r = y.cycle-of.result in
+    let r = y.cycle_of-p.result in
     (rooms_of a.l a.w a.first a.es.now a.n a.sums.now a.found.now a.points.now a.coefs.now a.row.now
-    s.requires.0 s.requires.3 s.requires.6 s.requires.4).wide_of a.e r.run r.columns r.turns a.ys.now p.rack-points.new.0 a.wide.now
-    s.requires.2 y.cycle-of.ensures s.requires.7 s.requires.8 (search rules))
+    s.requires.0 s.requires.3 s.requires.6 s.requires.4).wide_of a.e r.run r.columns r.turns a.ys.now p.rack_points.new.0 a.wide.now
+    s.requires.2 y.cycle_of-p.ensures s.requires.7 s.requires.8 (search rules))
     (λ c κs.
     let z = c.before.before.before.before.before.before.before.before in
     let p = z.before.before.before.before.before.before.before.before.before in
@@ -33,8 +33,8 @@ solve_rows_spec =
       s.requires.0,
       s.requires.5,
       s.requires.3,
-      m.rows_in a.ys.now z.weighted-sums.new.0 s.requires.7 (search rules),
-      row_left a.w a.row.now p.rack-points.new.1.1.1.1.1.1.1.1.0 s.requires.4.row_long p.rack-points.auto.1.1.1.1.1.1.1.1.0,
+      m.rows_in a.ys.now z.weighted_sums.new.0 s.requires.7 (search rules),
+      row_left a.w a.row.now p.rack_points.new.1.1.1.1.1.1.1.1.0 s.requires.4.row_long p.rack_points.auto.1.1.1.1.1.1.1.1.0,
     ))
     (λ c κs.
     let z = c.before.before.before.before.before.before.before in
@@ -47,9 +47,9 @@ solve_rows_spec =
       s.requires.5,
       m.some_layers,
       m.symbols_in a.found.now refl,
-      m.sums_in a.ys.now z.lower-rows.new.0 s.requires.7 (z.lower-rows.auto.0 ∙ y.weighted-sums.auto.0),
-      row_left a.w a.row.now z.lower-rows.new.1.1.1.1.1.0 s.requires.4.row_long
-          (z.lower-rows.auto.1.1.1.1.1.0 ∙ p.rack-points.auto.1.1.1.1.1.1.1.1.0),
+      m.sums_in a.ys.now z.lower_rows.new.0 s.requires.7 (z.lower_rows.auto.0 ∙ y.weighted_sums.auto.0),
+      row_left a.w a.row.now z.lower_rows.new.1.1.1.1.1.0 s.requires.4.row_long
+          (z.lower_rows.auto.1.1.1.1.1.0 ∙ p.rack_points.auto.1.1.1.1.1.1.1.1.0),
     ))
     (λ c. search rules)
     (λ c. search rules)
@@ -65,9 +65,9 @@ solve_rows_spec =
     let y = p.before.before.before in
     let s = y.before.before.before.before.before.before.before.before.before in
     let a = s.args in
-    let r = y.cycle-of.result in
-    found_racks a.l a.w a.first a.es.now a.n a.sums.now z.weighted-sums.new.0 x.lower-rows.new.0 q.racks-symbols.new.0 s.requires.0.adm s.requires.3 s.requires.6
+    let r = y.cycle_of-p.result in
+    found_racks a.l a.w a.first a.es.now a.n a.sums.now z.weighted_sums.new.0 x.lower_rows.new.0 q.racks_symbols.new.0 s.requires.0.adm s.requires.3 s.requires.6
     s.requires.5
-    (weighted_solved working a.l a.w a.first a.es.now a.n a.e r.run r.columns r.turns s.requires.0 s.requires.2 y.cycle-of.ensures s.requires.6
-    p.rack-points.new.0 p.rack-points.ensures a.sums.now z.weighted-sums.new.0 z.weighted-sums.ensures)
-    x.lower-rows.ensures q.racks-symbols.ensures.0 q.racks-symbols.ensures.1))
+    (weighted_solved working a.l a.w a.first a.es.now a.n a.e r.run r.columns r.turns s.requires.0 s.requires.2 y.cycle_of-p.ensures s.requires.6
+    p.rack_points.new.0 p.rack_points.ensures a.sums.now z.weighted_sums.new.0 z.weighted_sums.ensures)
+    x.lower_rows.ensures q.racks_symbols.ensures.0 q.racks_symbols.ensures.1))

@@ -6,15 +6,15 @@ use Rattle.range.proofs.Symbols.{highest_none, highest_more, highest_end}
 use Rattle.range.proofs.highest.Statement.{statement}
 use Rattle.range.proofs.highest.Tie as tie
 
-abbrev invariant-loop : tie.invariant-loop
-invariant-loop xs from len top₀ k₀ top k = (k ≤ len) × Highest xs from k top
+abbrev invariant-loop-k : tie.invariant-loop-k
+invariant-loop-k xs from len top₀ k₀ top k = (k ≤ len) × Highest xs from k top
 
-abbrev decreases-loop : tie.decreases-loop
-decreases-loop xs from len top₀ k₀ top k = len - k
+abbrev decreases-loop-k : tie.decreases-loop-k
+decreases-loop-k xs from len top₀ k₀ top k = len - k
 
 pub highest_spec : {M : Type 1} → statement M
 highest_spec =
-    tie.close (tie.spec invariant-loop decreases-loop
+    tie.close (tie.spec invariant-loop-k decreases-loop-k
     (λ c. (omega arith, highest_none _ _))
     (λ c. omega arith)
     (λ c κs. omega arith)
@@ -24,5 +24,5 @@ highest_spec =
     (λ c.
     let c1 = c.before in
     let c2 = c1.before.before in
-    let t = c.higher.ensures in (omega arith, highest_more _ _ c2.loop.k c2.loop.top _ _ c2.loop.invariant.1 c1.at.ensures t.0 t.1 t.2))
-    (λ c. highest_end _ _ c.before.loop.k _ c.before.loop.top c.before.loop.invariant.1 (omega arith) (omega arith)))
+    let t = c.higher-top.ensures in (omega arith, highest_more _ _ c2.loop-k.k c2.loop-k.top _ _ c2.loop-k.invariant.1 c1.at.ensures t.0 t.1 t.2))
+    (λ c. highest_end _ _ c.before.loop-k.k _ c.before.loop-k.top c.before.loop-k.invariant.1 (omega arith) (omega arith)))

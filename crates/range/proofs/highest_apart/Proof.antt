@@ -26,4 +26,4 @@ highest_apart_spec =
     let c4 = c3.before in
     let c5 = c4.before in
     let c6 = c5.before in
-    apart_of _ _ _ _ _ _ _ _ _ _ c6.at.ensures c5.at2.ensures c3.at3.ensures c2.at4.ensures c4.higher.ensures c1.higher2.ensures c.higher3.ensures))
+    apart_of _ _ _ _ _ _ _ _ _ _ c6.at.ensures c5.at-2.ensures c3.at-3.ensures c2.at-4.ensures c4.higher-low.ensures c1.higher-high.ensures c.higher.ensures))

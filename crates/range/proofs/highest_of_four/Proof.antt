@@ -5,15 +5,15 @@ use Rattle.range.proofs.Symbols.{Four, four_none, four_more, four_end}
 use Rattle.range.proofs.highest_of_four.Statement.{statement}
 use Rattle.range.proofs.highest_of_four.Tie as tie
 
-abbrev invariant-loop : tie.invariant-loop
-invariant-loop xs from gap top₀ k₀ top k = (k ≤ gap) × Four xs from gap k top
+abbrev invariant-loop-k : tie.invariant-loop-k
+invariant-loop-k xs from gap top₀ k₀ top k = (k ≤ gap) × Four xs from gap k top
 
-abbrev decreases-loop : tie.decreases-loop
-decreases-loop xs from gap top₀ k₀ top k = gap - k
+abbrev decreases-loop-k : tie.decreases-loop-k
+decreases-loop-k xs from gap top₀ k₀ top k = gap - k
 
 pub highest_of_four_spec : {M : Type 1} → statement M
 highest_of_four_spec =
-    tie.close (tie.spec invariant-loop decreases-loop
+    tie.close (tie.spec invariant-loop-k decreases-loop-k
     (λ c. (omega arith, four_none _ _ _))
     (λ c. omega arith)
     (λ c κs. omega arith)
@@ -24,5 +24,5 @@ highest_of_four_spec =
     let c1 = c.before in
     let c2 = c1.before in
     let c3 = c2.before in
-    let t = c.higher.ensures in (omega arith, four_more _ _ _ c3.loop.k c3.loop.top _ _ c3.loop.invariant.1 c2.loop-test.true c1.highest-apart.ensures t.0 t.1 t.2))
-    (λ c. four_end _ _ _ c.before.loop.k c.before.loop.top c.before.loop.invariant.1 (omega arith)))
+    let t = c.higher-top.ensures in (omega arith, four_more _ _ _ c3.loop-k.k c3.loop-k.top _ _ c3.loop-k.invariant.1 c2.loop-k-test.true c1.highest_apart.ensures t.0 t.1 t.2))
+    (λ c. four_end _ _ _ c.before.loop-k.k c.before.loop-k.top c.before.loop-k.invariant.1 (omega arith)))

@@ -11,19 +11,19 @@ use Rattle.range.proofs.Symbols.{row_in, rows_false, rows_true}
 use Rattle.range.proofs.rows_are_symbols.Statement.{statement}
 use Rattle.range.proofs.rows_are_symbols.Tie as tie
 
-abbrev invariant-loop : tie.invariant-loop
-invariant-loop xs rows width first count r₀ r = (r ≤ rows) × ((i : ℕ) → i < r → symbols_from gf256 xs (i * width + first) count ≡ true)
+abbrev invariant-loop-r : tie.invariant-loop-r
+invariant-loop-r xs rows width first count r₀ r = (r ≤ rows) × ((i : ℕ) → i < r → symbols_from gf256 xs (i * width + first) count ≡ true)
 
-abbrev decreases-loop : tie.decreases-loop
-decreases-loop xs rows width first count r₀ r = rows - r
+abbrev decreases-loop-r : tie.decreases-loop-r
+decreases-loop-r xs rows width first count r₀ r = rows - r
 
-inside : (c : tie.In-loop invariant-loop decreases-loop) → let a = c.before.before.before.args in c.before.loop.r * a.width + a.first + a.count ≤ length a.xs.now
+inside : (c : tie.In-loop-r invariant-loop-r decreases-loop-r) → let a = c.before.before.before.args in c.before.loop-r.r * a.width + a.first + a.count ≤ length a.xs.now
 inside c = let a = c.before.before.before.args in let p = c.before.before.before.requires in row_in a.xs.now a.rows a.width a.first a.count
-    c.before.loop.r p.1 p.0 c.loop-test.true
+    c.before.loop-r.r p.1 p.0 c.loop-r-test.true
 
 pub rows_are_symbols_spec : {M : Type 1} → statement M
 rows_are_symbols_spec =
-    tie.close (tie.spec invariant-loop decreases-loop
+    tie.close (tie.spec invariant-loop-r decreases-loop-r
     (λ c. (omega arith, below_none _))
     (λ c. omega (arith, inside c))
     (λ c. omega (arith, inside c))
@@ -31,5 +31,5 @@ rows_are_symbols_spec =
     (λ c. search rows_false)
     (λ c. omega arith)
     (λ c. omega arith)
-    (λ c. (omega arith, below_more _ _ c.before.before.before.loop.invariant.1 (told_true c.before.are-symbols.ensures c.if1.false)))
-    (λ c. rows_true _ _ _ _ _ _ c.before.loop.r (omega arith) c.before.loop.invariant.1))
+    (λ c. (omega arith, below_more _ _ c.before.before.before.loop-r.invariant.1 (told_true c.before.are_symbols.ensures c.if-not-are_symbols.false-raw)))
+    (λ c. rows_true _ _ _ _ _ _ c.before.loop-r.r (omega arith) c.before.loop-r.invariant.1))

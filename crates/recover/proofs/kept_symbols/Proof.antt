@@ -10,15 +10,15 @@ use Rattle.recover.proofs.Grounds.{tray_so, tray_in, kept_false, kept_true}
 use Rattle.recover.proofs.kept_symbols.Statement.{statement}
 use Rattle.recover.proofs.kept_symbols.Tie as tie
 
-abbrev invariant-loop : tie.invariant-loop
-invariant-loop es c n total x₀ x = (x ≤ n) × ((i : ℕ) → i < x → kept_tray gf256 es c total i ≡ true)
+abbrev invariant-loop-x : tie.invariant-loop-x
+invariant-loop-x es c n total x₀ x = (x ≤ n) × ((i : ℕ) → i < x → kept_tray gf256 es c total i ≡ true)
 
-abbrev decreases-loop : tie.decreases-loop
-decreases-loop es c n total x₀ x = n - x
+abbrev decreases-loop-x : tie.decreases-loop-x
+decreases-loop-x es c n total x₀ x = n - x
 
 pub kept_symbols_spec : {M : Type 1} → statement M
 kept_symbols_spec =
-    tie.close (tie.spec invariant-loop decreases-loop
+    tie.close (tie.spec invariant-loop-x decreases-loop-x
     (λ c κs. search rules)
     (λ c κs. search rules)
     (λ c. search rules)
@@ -27,5 +27,5 @@ kept_symbols_spec =
     (λ c. search kept_false)
     (λ c. omega arith)
     (λ c. omega arith)
-    (λ c. (omega arith, below_more _ _ c.before.before.before.loop.invariant.1 (tray_so gf256 _ _ _ _ _ c.before.kept-tray.ensures c.if1.false)))
-    (λ c. kept_true _ _ _ _ c.before.loop.x _ _ c.before.before.before.tray-count.ensures c.before.before.layer-count.ensures (omega arith) c.before.loop.invariant.1))
+    (λ c. (omega arith, below_more _ _ c.before.before.before.loop-x.invariant.1 (tray_so gf256 _ _ _ _ _ c.before.kept_tray.ensures c.if-not-kept_tray.false-raw)))
+    (λ c. kept_true _ _ _ _ c.before.loop-x.x _ _ c.before.before.before.tray_count-n.ensures c.before.before.layer_count-total.ensures (omega arith) c.before.loop-x.invariant.1))

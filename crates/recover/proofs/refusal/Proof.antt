@@ -15,52 +15,52 @@ use Rattle.recover.proofs.Grounds.{ground_1, ground_2, ground_3, ground_3_symbol
 use Rattle.recover.proofs.refusal.Statement.{statement}
 use Rattle.recover.proofs.refusal.Tie as tie
 
-adm : (c : tie.Else1) → admissible gf256.order c.before.before.before.before.args.l ≡ true
-adm c = sym c.before.admitted.ensures ∙ not-false _ c.if1.false
+adm : (c : tie.Else-not-admitted) → admissible gf256.order c.before.before.before.before.args.l ≡ true
+adm c = sym c.before.admitted.ensures ∙ not-false _ c.if-not-admitted.false-raw
 
-facts : (c : tie.Else1) → Cabinet c.before.before.before.before.args.l
+facts : (c : tie.Else-not-admitted) → Cabinet c.before.before.before.before.args.l
 facts c = (admissible_facts gf256.order _ (adm c)).cabinet
 
-size : (c : tie.After-tray-count) → let l = c.before.before.before.before.before.before.args.l in c.tray-count.result * c.before.layer-count.result ≡ trays l * layers l
-size c = ap₂ ◌*◌ c.tray-count.ensures c.before.layer-count.ensures
+size : (c : tie.After-tray_count-n) → let l = c.before.before.before.before.before.before.args.l in c.tray_count-n.result * c.before.layer_count-total.result ≡ trays l * layers l
+size c = ap₂ ◌*◌ c.tray_count-n.ensures c.before.layer_count-total.ensures
 
-long : (c : tie.Else2) → let a = c.before.before.before.before.before.before.before.args in length a.c.now ≡ trays a.l * layers a.l
-long c = c.if2.false ∙ size c.before
+long : (c : tie.Else-c-n) → let a = c.before.before.before.before.before.before.before.args in length a.c.now ≡ trays a.l * layers a.l
+long c = c.if-c-n.false ∙ size c.before
 
-inside : (c : tie.After-all-below) → let a = c.before.before.before.before.before.before.before.before.args in c.all_below.result ≡ all_below a.es.now (trays a.l)
-inside c = c.all_below.ensures ∙ ap (all_below c.before.before.before.before.before.before.before.before.args.es.now) c.before.before.tray-count.ensures
+inside : (c : tie.After-all_below) → let a = c.before.before.before.before.before.before.before.before.args in c.all_below.result ≡ all_below a.es.now (trays a.l)
+inside c = c.all_below.ensures ∙ ap (all_below c.before.before.before.before.before.before.before.before.args.es.now) c.before.before.tray_count-n.ensures
 
-below : (c : tie.Else3) → let a = c.before.before.before.before.before.before.before.before.before.args in all_below a.es.now (trays a.l) ≡ true
-below c = sym (inside c.before) ∙ not-false _ c.if3.false
+below : (c : tie.Else-not-all_below) → let a = c.before.before.before.before.before.before.before.before.before.args in all_below a.es.now (trays a.l) ≡ true
+below c = sym (inside c.before) ∙ not-false _ c.if-not-all_below.false-raw
 
-symbols : (c : tie.Else4) → let a = c.before.before.before.before.before.before.before.before.before.before.before.args in kept_symbols gf256 a.l
+symbols : (c : tie.Else-not-kept_symbols) → let a = c.before.before.before.before.before.before.before.before.before.before.before.args in kept_symbols gf256 a.l
     a.es.now a.c.now ≡ true
-symbols c = sym c.before.kept-symbols.ensures ∙ not-false _ c.if4.false
+symbols c = sym c.before.kept_symbols.ensures ∙ not-false _ c.if-not-kept_symbols.false-raw
 
-up : (c : tie.Else5) → strictly_rising c.before.before.before.before.before.before.before.before.before.before.before.before.before.args.es.now ≡ true
-up c = sym c.before.strictly-rising.ensures ∙ not-false _ c.if5.false
+up : (c : tie.Else-not-strictly_rising) → strictly_rising c.before.before.before.before.before.before.before.before.before.before.before.before.before.args.es.now ≡ true
+up c = sym c.before.strictly_rising.ensures ∙ not-false _ c.if-not-strictly_rising.false-raw
 
 pub refusal_spec : {M : Type 1} → statement M
 refusal_spec =
     tie.close (tie.spec
     (λ c. search rules)
     (λ c κs. omega arith)
-    (λ c. ground_1 _ _ _ _ (sym c.before.admitted.ensures ∙ not-true _ c.if1.true))
+    (λ c. ground_1 _ _ _ _ (sym c.before.admitted.ensures ∙ not-true _ c.if-not-admitted.true-raw))
     (λ c κs. facts c)
     (λ c. search rules)
     (λ c κs. facts c.before)
     (λ c. search rules)
     (λ c. let a = facts c.before.before in record { fits = mul_below tray_limit layer_limit (omega arith) (omega arith) tt })
-    (λ c. ground_2 _ _ _ _ (adm c.before.before.before) (λ e. c.if2.true (e ∙ sym (size c.before))))
+    (λ c. ground_2 _ _ _ _ (adm c.before.before.before) (λ e. c.if-c-n.true (e ∙ sym (size c.before))))
     (λ c κs. search rules)
-    (λ c. ground_3 _ _ _ _ (adm c.before.before.before.before.before) (long c.before.before) (sym (inside c.before) ∙ not-true _ c.if3.true))
+    (λ c. ground_3 _ _ _ _ (adm c.before.before.before.before.before) (long c.before.before) (sym (inside c.before) ∙ not-true _ c.if-not-all_below.true-raw))
     (λ c κs. (facts c.before.before.before.before.before, long c.before.before))
     (λ c.
     let c1 = c.before in
     let c2 = c1.before in
     let c3 = c2.before.before in
     let c4 = c3.before.before.before in
-    ground_3_symbols _ _ _ _ (adm c4) (long c3) (below c2) (sym c1.kept-symbols.ensures ∙ not-true _ c.if4.true))
+    ground_3_symbols _ _ _ _ (adm c4) (long c3) (below c2) (sym c1.kept_symbols.ensures ∙ not-true _ c.if-not-kept_symbols.true-raw))
     (λ c κs. search rules)
     (λ c.
     let c1 = c.before in
@@ -68,7 +68,7 @@ refusal_spec =
     let c3 = c2.before.before in
     let c4 = c3.before.before in
     let c5 = c4.before.before.before in
-    ground_4 _ _ _ _ (adm c5) (long c4) (below c3) (symbols c2) (sym c1.strictly-rising.ensures ∙ not-true _ c.if5.true))
+    ground_4 _ _ _ _ (adm c5) (long c4) (below c3) (symbols c2) (sym c1.strictly_rising.ensures ∙ not-true _ c.if-not-strictly_rising.true-raw))
     (λ c κs. facts c.before.before.before.before.before.before.before.before.before)
     (λ c. search rules)
     (λ c. ground_5 _ _ _ _ (adm c.before.before.before.before.before.before.before.before.before.before.before)

@@ -10,21 +10,21 @@ recover_correcting_spec =
     (tie.spec
     (λ c κs. search rules)
     (λ c κs. let a = c.before.before.before.before.before.before.before.before.args in correct_told working a.l
-    a.erased.now a.c.now _ _ c.before.before.before.before.recover.ensures c.before.if1.true)
+    a.erased.now a.c.now _ _ c.before.before.before.before.recover-number.ensures c.before.if-number-eq8.true)
     (λ c. search rules)
     (λ c. let a = c.before.before.before.before.before.before.before.before.before.before.before.args in
     correction_answer working a.l a.erased.now a.c.now _ _
-    c.before.before.before.before.before.before.before.recover.ensures c.before.before.correct.new.1.0
-    c.before.before.correct.result c.before.before.before.before.if1.true c.before.before.correct.ensures)
+    c.before.before.before.before.before.before.before.recover-number.ensures c.before.before.correct.new.1.0
+    c.before.before.correct.result c.before.before.before.before.if-number-eq8.true c.before.before.correct.ensures)
     (λ c. search rules)
     (λ c. let a = c.before.before.before.before.before.before.before.before.args in answer_refused working a.l
-    a.erased.now a.c.now _ _ c.before.before.before.before.recover.ensures c.before.if1.false c.if2.true)
+    a.erased.now a.c.now _ _ c.before.before.before.before.recover-number.ensures c.before.if-number-eq8.false c.if-number-ne0.true)
     (λ c κs. let a = c.before.before.before.before.before.before.before.before.args in (done_told working a.l a.erased.now
-    a.c.now _ _ c.before.before.before.before.recover.ensures c.before.if1.false c.if2.false).0)
+    a.c.now _ _ c.before.before.before.before.recover-number.ensures c.before.if-number-eq8.false c.if-number-ne0.false).0)
     (λ c κs. let a = c.before.before.before.before.before.before.before.before.before.args in done_told working a.l
-    a.erased.now a.c.now _ _ c.before.before.before.before.before.recover.ensures c.before.before.if1.false
-    c.before.if2.false)
+    a.erased.now a.c.now _ _ c.before.before.before.before.before.recover-number.ensures c.before.before.if-number-eq8.false
+    c.before.if-number-ne0.false)
     (λ c. search rules)
     (λ c. let a = c.before.before.before.before.before.before.before.before.before.before.args in answer_sound working a.l
-    a.erased.now a.c.now _ _ c.before.before.before.before.before.before.recover.ensures _ _
-    c.before.before.if2.false c.before.tray-count.ensures c.left_over.ensures))
+    a.erased.now a.c.now _ _ c.before.before.before.before.before.before.recover-number.ensures _ _
+    c.before.before.if-number-ne0.false c.before.tray_count.ensures c.left_over.ensures))

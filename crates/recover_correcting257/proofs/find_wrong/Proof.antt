@@ -8,18 +8,18 @@ use Rattle.recover_correcting.proofs.Trials.{NoneBelow, none_more, found_one, fo
 use Rattle.recover_correcting257.proofs.find_wrong.Statement.{statement}
 use Rattle.recover_correcting257.proofs.find_wrong.Tie as tie
 
-abbrev invariant-loop : tie.invariant-loop
-invariant-loop l total c es list₀ n x₀ list x = (x ≤ n) × Begun es list × NoneBelow gf257 l es c x
+abbrev invariant-loop-x : tie.invariant-loop-x
+invariant-loop-x l total c es list₀ n x₀ list x = (x ≤ n) × Begun es list × NoneBelow gf257 l es c x
 
-abbrev decreases-loop : tie.decreases-loop
-decreases-loop l total c es list₀ n x₀ list x = n - x
+abbrev decreases-loop-x : tie.decreases-loop-x
+decreases-loop-x l total c es list₀ n x₀ list x = n - x
 
 pub find_wrong_spec : {M : Type 1} → statement M
 find_wrong_spec =
     tie.close
     (tie.spec
-    invariant-loop
-    decreases-loop
+    invariant-loop-x
+    decreases-loop-x
     (λ c κs. search rules)
     (λ c. search rules)
     (λ c κs. search rules)
@@ -29,10 +29,10 @@ find_wrong_spec =
     (λ c. search rules)
     (λ c. (
       omega arith,
-      c.before.before.before.fits-without.ensures.begun,
+      c.before.before.before.fits_without.ensures.begun,
       none_more gf257 _ _ _
-          c.before.before.before.before.before.before.loop.x _ _ c.before.before.before.before.before.before.loop.invariant.2
-          c.before.before.before.fits-without.ensures c.if1.false,
+          c.before.before.before.before.before.before.loop-x.x _ _ c.before.before.before.before.before.before.loop-x.invariant.2
+          c.before.before.before.fits_without.ensures c.if-fits_without.false,
     ))
     (λ c. search rules)
     (λ c. search found_none))

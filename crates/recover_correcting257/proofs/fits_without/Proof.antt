@@ -12,6 +12,6 @@ fits_without_spec =
     (λ c κs. let a = c.before.before.before.before.before.before.before.before.before.before.args in
     let p = c.before.before.before.before.before.before.before.before.before.before.requires in try_told gf257 a.l
     a.es.now a.c.now a.x a.total a.list.now _ p.0 p.1 p.2 _
-    c.before.before.before.before.before.before.is-absent.ensures
-    c.before.before.before.before.before.if1.false c.before.before.before.put_last.ensures)
+    c.before.before.before.before.before.before.is_absent.ensures
+    c.before.before.before.before.before.if-not-is_absent.false-raw c.before.before.before.put_last.ensures)
     (λ c. search rules) (λ c. search tried_so))

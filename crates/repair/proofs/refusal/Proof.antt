@@ -15,38 +15,38 @@ use Rattle.repair.proofs.Refusals.{traffic_pos, ground_1, ground_2, ground_numbe
 use Rattle.repair.proofs.refusal.Statement.{statement}
 use Rattle.repair.proofs.refusal.Tie as tie
 
-adm : (c : tie.Else1) → admissible_with gf256.order 0 c.before.before.before.before.before.before.before.before.args.l ≡ true
-adm c = told_true c.before.admitted-with.ensures c.if1.false
+adm : (c : tie.Else-not-admitted_with) → admissible_with gf256.order 0 c.before.before.before.before.before.before.before.before.args.l ≡ true
+adm c = told_true c.before.admitted_with.ensures c.if-not-admitted_with.false-raw
 
-facts : (c : tie.Else1) → Cabinet c.before.before.before.before.before.before.before.before.args.l
+facts : (c : tie.Else-not-admitted_with) → Cabinet c.before.before.before.before.before.before.before.before.args.l
 facts c = (with_facts gf256.order 0 _ (adm c)).admissible.cabinet
 
 -- the lengths, as worked out
-unit_is : (c : tie.After-group-count) → c.before.before.before.before.before.before.before.before.before.before.args.l.helpers * c.group-count.result
+unit_is : (c : tie.After-group_count) → c.before.before.before.before.before.before.before.before.before.before.args.l.helpers * c.group_count.result
     ≡ traffic c.before.before.before.before.before.before.before.before.before.before.args.l
-unit_is c = ap (λ n. c.before.before.before.before.before.before.before.before.before.before.args.l.helpers * n) c.group-count.ensures
+unit_is c = ap (λ n. c.before.before.before.before.before.before.before.before.before.before.args.l.helpers * n) c.group_count.ensures
 
-shares_are : (c : tie.After-is-times) → c.is-times.result
+shares_are : (c : tie.After-is_times) → c.is_times.result
     ≡ eqb (length c.before.before.before.before.before.before.before.before.before.before.before.args.shares.now)
     (length c.before.before.before.before.before.before.before.before.before.before.before.args.lost.now * traffic
     c.before.before.before.before.before.before.before.before.before.before.before.args.l)
-shares_are c = c.is-times.ensures ∙ ap (λ n. eqb
+shares_are c = c.is_times.ensures ∙ ap (λ n. eqb
     (length c.before.before.before.before.before.before.before.before.before.before.before.args.shares.now)
     (length c.before.before.before.before.before.before.before.before.before.before.before.args.lost.now * n)) (unit_is c.before)
 
-host_is : (c : tie.After-layer-count) → c.before.before.before.before.before.before.before.before.before.args.l.size * c.layer-count.result
+host_is : (c : tie.After-layer_count-total) → c.before.before.before.before.before.before.before.before.before.args.l.size * c.layer_count-total.result
     ≡ c.before.before.before.before.before.before.before.before.before.args.l.size * layers
     c.before.before.before.before.before.before.before.before.before.args.l
-host_is c = ap (λ n. c.before.before.before.before.before.before.before.before.before.args.l.size * n) c.layer-count.ensures
+host_is c = ap (λ n. c.before.before.before.before.before.before.before.before.before.args.l.size * n) c.layer_count-total.ensures
 
-spare_is : (c : tie.After-is-times2) → c.is-times2.result
+spare_is : (c : tie.After-is_times-2) → c.is_times-2.result
     ≡ eqb c.before.before.before.before.before.before.before.before.before.before.before.before.before.before.args.spare
     (length c.before.before.before.before.before.before.before.before.before.before.before.before.before.before.args.lost.now * layers
     c.before.before.before.before.before.before.before.before.before.before.before.before.before.before.args.l)
-spare_is c = c.is-times2.ensures
+spare_is c = c.is_times-2.ensures
     ∙ ap (λ n. eqb c.before.before.before.before.before.before.before.before.before.before.before.before.before.before.args.spare
     (length c.before.before.before.before.before.before.before.before.before.before.before.before.before.before.args.lost.now * n))
-    c.before.before.before.before.before.layer-count.ensures
+    c.before.before.before.before.before.layer_count-total.ensures
 
 pub refusal_spec : {M : Type 1} → statement M
 refusal_spec =
@@ -59,7 +59,7 @@ refusal_spec =
     let c1 = c.before in
     let c2 = c1.before.before.before.before.before.before.before in
     let a = c2.args in ground_1 gf256 a.l a.lost.now a.helpers.now a.shares.now a.host.now a.spare a.first a.budget
-    (told_false c1.admitted-with.ensures c.if1.true))
+    (told_false c1.admitted_with.ensures c.if-not-admitted_with.true-raw))
     (λ c κs. facts c)
     (λ c. search rules)
     (λ c κs. facts c.before)
@@ -67,51 +67,51 @@ refusal_spec =
     (λ c.
     let a = facts c.before.before in
     let b = bounds _ a in
-    record { fits = mul_below tray_limit layer_limit (omega arith) (omega (arith, c.group-count.ensures)) tt })
+    record { fits = mul_below tray_limit layer_limit (omega arith) (omega (arith, c.group_count.ensures)) tt })
     (λ c κs. omega (arith, unit_is c, traffic_pos _ (facts c.before.before)))
     (λ c.
     let c1 = c.before in
     let c2 = c1.before.before.before in
     let c3 = c2.before.before.before.before.before.before.before.before in
     let a = c3.args in ground_2 gf256 a.l a.lost.now a.helpers.now a.shares.now a.host.now a.spare a.first a.budget (adm c2)
-    (λ p q r. eqb-false _ _ (told_false (shares_are c1) c.if2.true) p))
+    (λ p q r. eqb-false _ _ (told_false (shares_are c1) c.if-not-is_times.true-raw) p))
     (λ c.
     let a = facts c.before.before.before.before in
     let b = bounds _ a in
-    record { fits = mul_below tray_limit layer_limit (omega arith) (omega (arith, c.before.before.before.layer-count.ensures)) tt })
+    record { fits = mul_below tray_limit layer_limit (omega arith) (omega (arith, c.before.before.before.layer_count-total.ensures)) tt })
     (λ c.
     let c1 = c.before.before.before.before in
     let c2 = c1.before in
     let c3 = c2.before.before.before.before.before.before.before.before in
     let a = c3.args in ground_2 gf256 a.l a.lost.now a.helpers.now a.shares.now a.host.now a.spare a.first a.budget (adm c2)
-    (λ p q r. c.if3.true (q ∙ sym (host_is c1))))
-    (λ c κs. let b = bounds _ (facts c.before.before.before.before.before) in omega (arith, c.before.before.before.before.layer-count.ensures))
+    (λ p q r. c.if-host-u.true (q ∙ sym (host_is c1))))
+    (λ c κs. let b = bounds _ (facts c.before.before.before.before.before) in omega (arith, c.before.before.before.before.layer_count-total.ensures))
     (λ c.
     let c1 = c.before in
     let c2 = c1.before.before.before.before.before.before in
     let c3 = c2.before.before.before.before.before.before.before.before in
     let a = c3.args in ground_2 gf256 a.l a.lost.now a.helpers.now a.shares.now a.host.now a.spare a.first a.budget (adm c2)
-    (λ p q r. eqb-false _ _ (told_false (spare_is c1) c.if4.true) r))
+    (λ p q r. eqb-false _ _ (told_false (spare_is c1) c.if-not-is_times-2.true-raw) r))
     (λ c κs. (
       facts c.before.before.before.before.before.before.before,
-      eqb-true _ _ (told_true (shares_are c.before.before.before.before) c.before.before.before.if2.false),
-      c.before.before.if3.false
+      eqb-true _ _ (told_true (shares_are c.before.before.before.before) c.before.before.before.if-not-is_times.false-raw),
+      c.before.before.if-host-u.false
           ∙ host_is c.before.before.before.before.before.before,
     ))
     (λ c.
     let a = c.before.before.before.before.before.before.before.before.before.before.before.before.before.before.before.before.before.args in
     ground_numbers gf256 a.l a.lost.now a.helpers.now a.shares.now a.host.now a.spare a.first a.budget
     (adm c.before.before.before.before.before.before.before.before.before)
-    (eqb-true _ _ (told_true (shares_are c.before.before.before.before.before.before) c.before.before.before.before.before.if2.false))
-    (c.before.before.before.before.if3.false ∙ host_is c.before.before.before.before.before.before.before.before)
-    (eqb-true _ _ (told_true (spare_is c.before.before.before) c.before.before.if4.false)) _ c.before.number-refusal.ensures c.if5.true)
+    (eqb-true _ _ (told_true (shares_are c.before.before.before.before.before.before) c.before.before.before.before.before.if-not-is_times.false-raw))
+    (c.before.before.before.before.if-host-u.false ∙ host_is c.before.before.before.before.before.before.before.before)
+    (eqb-true _ _ (told_true (spare_is c.before.before.before) c.before.before.if-not-is_times-2.false-raw)) _ c.before.number_refusal-ground.ensures c.if-ground-ne0.true)
     (λ c κs. facts c.before.before.before.before.before.before.before.before.before)
     (λ c.
     let a = c.before.before.before.before.before.before.before.before.before.before.before.before.before.before.before.before.before.before.args in
     ground_counts gf256 a.l a.lost.now a.helpers.now a.shares.now a.host.now a.spare a.first a.budget
     (adm c.before.before.before.before.before.before.before.before.before.before)
     (eqb-true _ _ (told_true (shares_are c.before.before.before.before.before.before.before)
-    c.before.before.before.before.before.before.if2.false)) (c.before.before.before.before.before.if3.false
+    c.before.before.before.before.before.before.if-not-is_times.false-raw)) (c.before.before.before.before.before.if-host-u.false
     ∙ host_is c.before.before.before.before.before.before.before.before.before)
-    (eqb-true _ _ (told_true (spare_is c.before.before.before.before) c.before.before.before.if4.false)) _ _ c.before.before.number-refusal.ensures
-    c.before.if5.false c.count-refusal.ensures))
+    (eqb-true _ _ (told_true (spare_is c.before.before.before.before) c.before.before.before.if-not-is_times-2.false-raw)) _ _ c.before.before.number_refusal-ground.ensures
+    c.before.if-ground-ne0.false c.count_refusal.ensures))

@@ -11,16 +11,16 @@ use Rattle.restore.proofs.Fits.{terms_none, terms_more, terms_end, term_tray, te
 use Rattle.restore.proofs.found_terms.Statement.{statement}
 use Rattle.restore.proofs.found_terms.Tie as tie
 
-abbrev invariant-loop : tie.invariant-loop
-invariant-loop sums₀ l w first r es found row₀ cur₀ k₀ sums row cur k = (k ≤ length es) × (length sums ≡ length sums₀) × (length row ≡ length row₀)
+abbrev invariant-loop-k : tie.invariant-loop-k
+invariant-loop-k sums₀ l w first r es found row₀ cur₀ k₀ sums row cur k = (k ≤ length es) × (length sums ≡ length sums₀) × (length row ≡ length row₀)
     × (length cur ≡ length cur₀) × FoundTerms gf256 l w first r es found sums₀ sums k
 
-abbrev decreases-loop : tie.decreases-loop
-decreases-loop sums₀ l w first r es found row₀ cur₀ k₀ sums row cur k = length es - k
+abbrev decreases-loop-k : tie.decreases-loop-k
+decreases-loop-k sums₀ l w first r es found row₀ cur₀ k₀ sums row cur k = length es - k
 
 pub found_terms_spec : {M : Type 1} → statement M
 found_terms_spec =
-    tie.close (tie.spec invariant-loop decreases-loop
+    tie.close (tie.spec invariant-loop-k decreases-loop-k
     (λ c. (omega arith, refl, refl, refl, terms_none working _ _ _ _ _ _ _))
     (λ c. search term_fits)
     (λ c κs. (omega arith, search term_from))
@@ -30,10 +30,10 @@ found_terms_spec =
     (λ c κs. let a =
     c.before.before.before.before.before.before.before.before.before.before.before.before.before.before.before.before.before.before.before.args
     in room_next a.w a.r a.sums.now a.cur.now a.row.now
-    c.before.before.before.before.before.before.before.before.before.before.before.before.before.loop.sums
+    c.before.before.before.before.before.before.before.before.before.before.before.before.before.loop-k.sums
     c.before.before.before.before.before.before.before.before.before.before.copy.new.0
-    c.before.before.before.before.before.tray-points.new.0
-    c.before.before.before.before.before.before.before.before.before.before.before.before.before.before.before.before.before.before.before.requires.2 c.before.before.before.before.before.before.before.before.before.before.before.before.before.loop.invariant.1 (search rules)
+    c.before.before.before.before.before.tray_points.new.0
+    c.before.before.before.before.before.before.before.before.before.before.before.before.before.before.before.before.before.before.before.requires.2 c.before.before.before.before.before.before.before.before.before.before.before.before.before.loop-k.invariant.1 (search rules)
     (search rules))
     (λ c. omega arith)
     (λ c. omega arith)
@@ -47,9 +47,9 @@ found_terms_spec =
           let c3 = c2.before.before.before.before.before in
           let c4 = c3.before.before.before in
           let c5 = c4.before.before.before.before.before.before in
-          let a = c5.args in terms_more working a.l a.w a.first a.r a.es.now a.found.now c4.loop.k c4.loop.cur c3.copy.new.0
-          c2.tray-points.new.0 a.sums.now c4.loop.sums c1.add-terms.new.0 c4.loop.invariant.4 c3.copy.ensures c2.tray-points.ensures
-          c1.add-terms.ensures,
+          let a = c5.args in terms_more working a.l a.w a.first a.r a.es.now a.found.now c4.loop-k.k c4.loop-k.cur c3.copy.new.0
+          c2.tray_points.new.0 a.sums.now c4.loop-k.sums c1.add_terms.new.0 c4.loop-k.invariant.4 c3.copy.ensures c2.tray_points.ensures
+          c1.add_terms.ensures,
     ))
     (λ c. search rules)
     (λ c. search rules)

@@ -27,18 +27,18 @@ restore_block_spec =
       p.1,
       p.2,
       p.3.listed,
-      space_next a.l a.w a.sums.now a.found.now a.points.now a.coefs.now a.row.now
-          c.before.before.before.before.before.before.before.before.before.before.before.sum_kept.new.0 a.found.now a.points.now a.coefs.now
+      space_next a.l a.w a.sums-1.now a.found-1.now a.points-1.now a.coefs-1.now a.row-1.now
+          c.before.before.before.before.before.before.before.before.before.before.before.sum_kept.new.0 a.found-1.now a.points-1.now a.coefs-1.now
           c.before.before.before.before.before.before.before.before.before.before.before.sum_kept.new.1.1.1.1.1.1.1.1.0 p.4
           (search rules) refl refl refl (search rules),
     ))
     (λ c κs. let a =
     c.before.before.before.before.before.before.before.before.before.before.before.before.before.before.before.before.before.before.before.before.before.before.before.before.before.before.before.before.before.before.before.before.before.before.before.args in cells_of a.l
-    a.total a.w a.first a.es.now a.c.now c.before.before.before.before.before.before.before.before.before.before.solve-block.new.0
+    a.total a.w a.first a.es.now a.c-1.now c.before.before.before.before.before.before.before.before.before.before.solve_block.new.0
     c.before.before.before.before.before.before.before.before.before.before.before.before.before.before.before.before.before.before.before.before.before.before.before.before.before.before.before.before.before.before.before.before.before.before.before.requires.0
     c.before.before.before.before.before.before.before.before.before.before.before.before.before.before.before.before.before.before.before.before.before.before.before.before.before.before.before.before.before.before.before.before.before.before.before.requires.3
-    (found_next a.l a.w a.sums.now a.found.now
-    c.before.before.before.before.before.before.before.before.before.before.solve-block.new.0 a.points.now a.coefs.now a.row.now
+    (found_next a.l a.w a.sums-1.now a.found-1.now
+    c.before.before.before.before.before.before.before.before.before.before.solve_block.new.0 a.points-1.now a.coefs-1.now a.row-1.now
     c.before.before.before.before.before.before.before.before.before.before.before.before.before.before.before.before.before.before.before.before.before.before.before.before.before.before.before.before.before.before.before.before.before.before.before.requires.4 (search rules)))
     (λ c. search rules)
     (λ c. search rules)
@@ -53,5 +53,5 @@ restore_block_spec =
     let c3 = c2.before.before.before.before.before.before.before.before.before.before.before.before in
     let c4 = c3.before.before.before.before.before.before.before.before.before.before.before.before.before in
     block_restored working c4.args.l c4.args.total c4.args.w c4.args.first c4.args.es.now c4.args.c.now c3.sum_kept.new.0
-    c2.solve-block.new.0 c1.put-block.new.0 c4.requires.0 c4.requires.3 c3.sum_kept.ensures c2.solve-block.ensures
-    c1.put-block.ensures))
+    c2.solve_block.new.0 c1.put_block.new.0 c4.requires.0 c4.requires.3 c3.sum_kept.ensures c2.solve_block.ensures
+    c1.put_block.ensures))

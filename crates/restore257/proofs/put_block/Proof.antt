@@ -9,19 +9,19 @@ use Rattle.restore.proofs.Put.{put_none, put_more, put_end, put_in, put_from, pu
 use Rattle.restore257.proofs.put_block.Statement.{statement}
 use Rattle.restore257.proofs.put_block.Tie as tie
 
-abbrev invariant-loop : tie.invariant-loop
-invariant-loop c₀ total w first es found k₀ c k = (k ≤ length es) × (length c ≡ length c₀) × PutBlock total w first es found c₀ c k
+abbrev invariant-loop-k : tie.invariant-loop-k
+invariant-loop-k c₀ total w first es found k₀ c k = (k ≤ length es) × (length c ≡ length c₀) × PutBlock total w first es found c₀ c k
 
-abbrev decreases-loop : tie.decreases-loop
-decreases-loop c₀ total w first es found k₀ c k = length es - k
+abbrev decreases-loop-k : tie.decreases-loop-k
+decreases-loop-k c₀ total w first es found k₀ c k = length es - k
 
 pub put_block_spec : {M : Type 1} → statement M
 put_block_spec =
-    tie.close (tie.spec invariant-loop decreases-loop
+    tie.close (tie.spec invariant-loop-k decreases-loop-k
     (λ c. (omega arith, refl, put_none _ _ _ _ _ _))
     (λ c. search rules)
     (λ c. omega arith)
-    (λ c. record { fits = omega (arith, c.shared-slice-known3.given c.before.before.before.loop.k) })
+    (λ c. record { fits = omega (arith, c.shared_slice_known-in-loop-k-1.given c.before.before.before.loop-k.k) })
     (λ c. search put_fits)
     (λ c. search put_fits_2)
     (λ c. search put_fits_3)

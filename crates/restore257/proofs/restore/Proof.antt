@@ -18,8 +18,8 @@ restore_spec =
     (λ c κs.
     let c2 = c.before.before.before.before.before.before.before in
     let c3 = c2.before.before.before in
-    let s = space c3.args.l c2.block-digits.result c2.block-digits.ensures.1 c2.block-digits.ensures.2 in (
-      c2.block-digits.ensures.0,
+    let s = space c3.args.l c2.block_digits-e.result c2.block_digits-e.ensures.1 c2.block_digits-e.ensures.2 in (
+      c2.block_digits-e.ensures.0,
       c3.requires,
       s,
       s.row_long,

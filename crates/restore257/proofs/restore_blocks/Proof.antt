@@ -13,21 +13,21 @@ use Rattle.restore.proofs.Room.{space_next, space_as, erasing_next, count_fits}
 use Rattle.restore257.proofs.restore_blocks.Statement.{statement}
 use Rattle.restore257.proofs.restore_blocks.Tie as tie
 
-abbrev invariant-loop : tie.invariant-loop
-invariant-loop c₀ l total e es sums₀ found₀ points₀ coefs₀ row₀ cur₀ w count q₀ c sums found points coefs row cur q = (q ≤ count) × (length c ≡ length c₀)
+abbrev invariant-loop-q : tie.invariant-loop-q
+invariant-loop-q c₀ l total e es sums₀ found₀ points₀ coefs₀ row₀ cur₀ w count q₀ c sums found points coefs row cur q = (q ≤ count) × (length c ≡ length c₀)
     × (length sums ≡ length sums₀) × (length found ≡ length found₀) × (length points ≡ length points₀) × (length coefs ≡ length coefs₀) × (length row ≡ length row₀)
     × (length cur ≡ length cur₀) × RestoredTo gf257 l es c₀ (q * w) c
 
-abbrev decreases-loop : tie.decreases-loop
-decreases-loop c₀ l total e es sums₀ found₀ points₀ coefs₀ row₀ cur₀ w count q₀ c sums found points coefs row cur q = count - q
+abbrev decreases-loop-q : tie.decreases-loop-q
+decreases-loop-q c₀ l total e es sums₀ found₀ points₀ coefs₀ row₀ cur₀ w count q₀ c sums found points coefs row cur q = count - q
 
 pub restore_blocks_spec : {M : Type 1} → statement M
 restore_blocks_spec =
-    tie.close (tie.spec invariant-loop decreases-loop
+    tie.close (tie.spec invariant-loop-q decreases-loop-q
     (λ c κs. (search rules, omega arith))
     (λ c.
     let c1 = c.before.before.before.before.before.before.before.before.before in
-    width_pos c1.args.l c1.args.e c.block-width.result c1.args.total c1.requires.1.adm c1.requires.0 c.block-width.ensures
+    width_pos c1.args.l c1.args.e c.block_width-w.result c1.args.total c1.requires.1.adm c1.requires.0 c.block_width-w.ensures
     c1.requires.1.total_is)
     (λ c. (omega arith, refl, refl, refl, refl, refl, refl, refl, restored_none working _ _ _ _))
     (λ c.
@@ -35,38 +35,38 @@ restore_blocks_spec =
     let c2 = c1.before in
     let c3 = c2.before in
     let c4 = c3.before.before.before.before.before.before.before.before.before in
-    start_fits c4.args.l c3.block-width.result (c2.loop.q * c3.block-width.result) (block_of c4.args.l c4.args.e
-    c3.block-width.result c4.args.total c4.requires.1.adm c4.requires.0 c3.block-width.ensures c4.requires.1.total_is c2.loop.q
-    c1.loop-test.true))
+    start_fits c4.args.l c3.block_width-w.result (c2.loop-q.q * c3.block_width-w.result) (block_of c4.args.l c4.args.e
+    c3.block_width-w.result c4.args.total c4.requires.1.adm c4.requires.0 c3.block_width-w.ensures c4.requires.1.total_is c2.loop-q.q
+    c1.loop-q-test.true))
     (λ c κs.
     let c1 = c.before.before.before.before.before.before.before in
     let c2 = c1.before in
     let c3 = c2.before in
     let c4 = c3.before.before.before.before.before.before.before.before.before in
     let a = c4.args in let p = c4.requires in (
-      (block_of a.l a.e c3.block-width.result a.total c4.requires.1.adm c4.requires.0 c3.block-width.ensures
-          c4.requires.1.total_is c2.loop.q c1.loop-test.true),
+      (block_of a.l a.e c3.block_width-w.result a.total c4.requires.1.adm c4.requires.0 c3.block_width-w.ensures
+          c4.requires.1.total_is c2.loop-q.q c1.loop-q-test.true),
       p.0,
-      c3.block-width.ensures,
+      c3.block_width-w.ensures,
       erasing_next a.l a.total a.es.now a.c.now
-          c2.loop.c p.1 c2.loop.invariant.1,
-      space_next a.l c3.block-width.result a.sums.now a.found.now a.points.now a.coefs.now
-          a.row.now c2.loop.sums c2.loop.found c2.loop.points c2.loop.coefs c2.loop.row
-          (space_as a.l a.e c3.block-width.result a.sums.now a.found.now a.points.now a.coefs.now a.row.now c3.block-width.ensures
-          p.2) c2.loop.invariant.2 c2.loop.invariant.3 c2.loop.invariant.4 c2.loop.invariant.5 c2.loop.invariant.6,
-      omega (arith, c3.block-width.ensures, p.3, c2.loop.invariant.7),
+          c2.loop-q.c p.1 c2.loop-q.invariant.1,
+      space_next a.l c3.block_width-w.result a.sums.now a.found.now a.points.now a.coefs.now
+          a.row.now c2.loop-q.sums c2.loop-q.found c2.loop-q.points c2.loop-q.coefs c2.loop-q.row
+          (space_as a.l a.e c3.block_width-w.result a.sums.now a.found.now a.points.now a.coefs.now a.row.now c3.block_width-w.ensures
+          p.2) c2.loop-q.invariant.2 c2.loop-q.invariant.3 c2.loop-q.invariant.4 c2.loop-q.invariant.5 c2.loop-q.invariant.6,
+      omega (arith, c3.block_width-w.ensures, p.3, c2.loop-q.invariant.7),
     ))
     (λ c.
     let c1 = c.before.before.before.before.before.before.before.before.before.before.before.before.before.before.before.before.before.before.before.before.before.before in
     let c2 = c1.before in
     let c3 = c2.before in
     let c4 = c3.before.before.before.before.before.before.before.before.before in
-    count_fits c4.args.l c4.args.total c3.block-width.result c2.loop.q c4.args.es.now c4.args.c.now c4.requires.1
-    c1.loop-test.true)
+    count_fits c4.args.l c4.args.total c3.block_width-w.result c2.loop-q.q c4.args.es.now c4.args.c.now c4.requires.1
+    c1.loop-q-test.true)
     (λ c. omega arith)
     (λ c. (
       let c1 = c.before.before.before.before.before.before.before.before.before.before.before.before.before.before.before.before.before.before.before.before.before.before in
-          omega (arith, c1.loop-test.true),
+          omega (arith, c1.loop-q-test.true),
       search rules,
       search rules,
       search rules,
@@ -79,9 +79,9 @@ restore_blocks_spec =
           let c3 = c2.before in
           let c4 = c3.before in
           let c5 = c4.before.before.before.before.before.before.before.before.before in
-          let a = c5.args in restored_more working a.l a.es.now a.c.now c4.block-width.result c3.loop.q c3.loop.c c1.restore-block.new.0
-          c5.requires.1.listed.places (block_of a.l a.e c4.block-width.result a.total c5.requires.1.adm c5.requires.0 c4.block-width.ensures
-          c5.requires.1.total_is c3.loop.q c2.loop-test.true).inside c3.loop.invariant.8 c1.restore-block.ensures,
+          let a = c5.args in restored_more working a.l a.es.now a.c.now c4.block_width-w.result c3.loop-q.q c3.loop-q.c c1.restore_block.new.0
+          c5.requires.1.listed.places (block_of a.l a.e c4.block_width-w.result a.total c5.requires.1.adm c5.requires.0 c4.block_width-w.ensures
+          c5.requires.1.total_is c3.loop-q.q c2.loop-q-test.true).inside c3.loop-q.invariant.8 c1.restore_block.ensures,
     ))
     (λ c. search rules)
     (λ c. search rules)
@@ -94,6 +94,6 @@ restore_blocks_spec =
     let c1 = c.before in
     let c2 = c1.before in
     let c3 = c2.before.before.before.before.before.before.before.before.before in
-    let a = c3.args in restored_end working a.l a.es.now a.c.now c2.block-width.result c1.loop.q (a.total / c2.block-width.result)
-    c1.loop.c c1.loop.invariant.8 c1.loop.invariant.0 (omega arith) (count_whole a.l a.e c2.block-width.result a.total c3.requires.1.adm c3.requires.0
-    c2.block-width.ensures c3.requires.1.total_is)))
+    let a = c3.args in restored_end working a.l a.es.now a.c.now c2.block_width-w.result c1.loop-q.q (a.total / c2.block_width-w.result)
+    c1.loop-q.c c1.loop-q.invariant.8 c1.loop-q.invariant.0 (omega arith) (count_whole a.l a.e c2.block_width-w.result a.total c3.requires.1.adm c3.requires.0
+    c2.block_width-w.ensures c3.requires.1.total_is)))

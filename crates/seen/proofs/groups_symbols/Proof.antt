@@ -5,7 +5,7 @@ use Rattle.seen.proofs.Groups.{head_false, whole_false, rest_told}
 use Rattle.seen.proofs.groups_symbols.Statement.{statement}
 use Rattle.seen.proofs.groups_symbols.Tie as tie
 
-cut : (c : tie.Else1) → let a = c.before.before.args in Parts a.host.now a.at a.s a.unit a.first a.count
+cut : (c : tie.Else-low-count) → let a = c.before.before.args in Parts a.host.now a.at a.s a.unit a.first a.count
 cut c = parts _ _ _ _ _ _ c.before.before.requires (omega arith)
 
 pub groups_symbols_spec : {M : Type 1} → statement M
@@ -17,7 +17,7 @@ groups_symbols_spec =
     (λ c. search rules)
     (λ c. let k = cut c in omega arith)
     (λ c κs. let k = cut c in (places_less _ _ _ _ _ _ c.before.before.requires (omega arith), omega arith))
-    (λ c. let p = c.before.before.before.before.requires in head_false _ _ _ _ _ _ _ p.unit_pos p.digits_pos (omega arith) _ c.before.part-symbols2.ensures c.if2.true)
+    (λ c. let p = c.before.before.before.before.requires in head_false _ _ _ _ _ _ _ p.unit_pos p.digits_pos (omega arith) _ c.before.part_symbols-2.ensures c.if-not-part_symbols.true-raw)
     (λ c. let k = cut c.before.before in omega arith)
     (λ c. let k = cut c.before.before in omega arith)
     (λ c. let k = cut c.before.before in omega arith)
@@ -30,9 +30,9 @@ groups_symbols_spec =
     (λ c. let k = cut c.before.before in omega arith)
     (λ c. (cut c.before.before).runs_ordered)
     (λ c κs. let k = cut c.before.before in omega arith)
-    (λ c. let p = c.before.before.before.before.before.before.requires in whole_false _ _ _ _ _ _ _ p.unit_pos p.digits_pos (omega arith) _ c.before.are-symbols.ensures c.if3.true)
+    (λ c. let p = c.before.before.before.before.before.before.requires in whole_false _ _ _ _ _ _ _ p.unit_pos p.digits_pos (omega arith) _ c.before.are_symbols.ensures c.if-not-are_symbols.true-raw)
     (λ c κs. let k = cut c.before.before.before.before in (places_less _ _ _ _ _ _ c.before.before.before.before.before.before.requires (omega arith), k.rest_small))
     (λ c.
     let p = c.before.before.before.before.before.before.before.requires in
-    rest_told _ _ _ _ _ _ _ p.unit_pos p.digits_pos (omega arith) _ _ _ c.before.before.before.before.part-symbols2.ensures c.before.before.before.if2.false
-    c.before.before.are-symbols.ensures c.before.if3.false c.part-symbols3.ensures))
+    rest_told _ _ _ _ _ _ _ p.unit_pos p.digits_pos (omega arith) _ _ _ c.before.before.before.before.part_symbols-2.ensures c.before.before.before.if-not-part_symbols.false-raw
+    c.before.before.are_symbols.ensures c.before.if-not-are_symbols.false-raw c.part_symbols-3.ensures))

@@ -12,24 +12,24 @@ use Rattle.seen.proofs.Trays.{tray_fits, place_fits, start_fits, places_told, tr
 use Rattle.seen.proofs.host_symbols.Statement.{statement}
 use Rattle.seen.proofs.host_symbols.Tie as tie
 
-abbrev invariant-loop : tie.invariant-loop
-invariant-loop lost h host first count u total s unit g₀ g = (g ≤ u) × ((i : ℕ) → i < g → tray_symbols gf256 lost (h * u + i) host (i * total) s unit first count ≡ true)
+abbrev invariant-loop-g : tie.invariant-loop-g
+invariant-loop-g lost h host first count u total s unit g₀ g = (g ≤ u) × ((i : ℕ) → i < g → tray_symbols gf256 lost (h * u + i) host (i * total) s unit first count ≡ true)
 
-abbrev decreases-loop : tie.decreases-loop
-decreases-loop lost h host first count u total s unit g₀ g = u - g
+abbrev decreases-loop-g : tie.decreases-loop-g
+decreases-loop-g lost h host first count u total s unit g₀ g = u - g
 
 -- what the test of a tray answers
-sound : (c : tie.After-block-width invariant-loop decreases-loop) (i : ℕ) (r : Bool) →
+sound : (c : tie.After-block_width-unit invariant-loop-g decreases-loop-g) (i : ℕ) (r : Bool) →
     let a = c.before.before.before.before.before.args in
-    let n = c.before.before.layer-count.result in
-    r ≡ tray_symbols gf256 a.lost.now (a.h * a.l.size + i) a.host.now (i * n) c.before.digit-count.result c.block-width.result a.first a.count →
+    let n = c.before.before.layer_count-total.result in
+    r ≡ tray_symbols gf256 a.lost.now (a.h * a.l.size + i) a.host.now (i * n) c.before.digit_count-s.result c.block_width-unit.result a.first a.count →
     r ≡ sound_symbols gf256 a.l a.lost.now a.h a.host.now a.first a.count i
 sound c i r e =
-    tray_sound gf256 _ _ _ _ _ _ c.before.before.before.before.before.requires i _ _ _ r c.before.before.layer-count.ensures c.before.digit-count.ensures c.block-width.ensures e
+    tray_sound gf256 _ _ _ _ _ _ c.before.before.before.before.before.requires i _ _ _ r c.before.before.layer_count-total.ensures c.before.digit_count-s.ensures c.block_width-unit.ensures e
 
 pub host_symbols_spec : {M : Type 1} → statement M
 host_symbols_spec =
-    tie.close (tie.spec invariant-loop decreases-loop
+    tie.close (tie.spec invariant-loop-g decreases-loop-g
     (λ c κs. search rules)
     (λ c. search rules)
     (λ c κs. search rules)
@@ -37,14 +37,14 @@ host_symbols_spec =
     (λ c κs. let p = c.before.before.before.before.requires in (p.adm, omega (arith, p.host_in)))
     (λ c. (omega arith, below_none _))
     (λ c. tray_fits _ _ _ _ _ c.before.before.before.before.before.before.before.requires)
-    (λ c. place_fits _ _ _ _ _ c.before.before.before.before.before.before.before.requires _ c.loop-test.true)
+    (λ c. place_fits _ _ _ _ _ c.before.before.before.before.before.before.before.requires _ c.loop-g-test.true)
     (λ c. search rules)
-    (λ c. start_fits _ _ _ _ _ c.before.before.before.before.before.before.before.requires _ _ c.before.before.before.before.layer-count.ensures c.loop-test.true)
+    (λ c. start_fits _ _ _ _ _ c.before.before.before.before.before.before.before.requires _ _ c.before.before.before.before.layer_count-total.ensures c.loop-g-test.true)
     (λ c κs.
-    places_told _ _ _ _ _ c.before.before.before.before.before.before.before.requires _ _ _ _ c.before.before.before.before.layer-count.ensures
-    c.before.before.before.digit-count.ensures c.before.before.block-width.ensures c.loop-test.true)
-    (λ c. trays_false _ _ _ _ _ _ _ _ _ c.before.before.loop-test.true (sound c.before.before.before.before _ _ c.before.tray-symbols.ensures) c.if1.true)
+    places_told _ _ _ _ _ c.before.before.before.before.before.before.before.requires _ _ _ _ c.before.before.before.before.layer_count-total.ensures
+    c.before.before.before.digit_count-s.ensures c.before.before.block_width-unit.ensures c.loop-g-test.true)
+    (λ c. trays_false _ _ _ _ _ _ _ _ _ c.before.before.loop-g-test.true (sound c.before.before.before.before _ _ c.before.tray_symbols.ensures) c.if-not-tray_symbols.true-raw)
     (λ c. omega arith)
     (λ c. omega arith)
-    (λ c. (omega arith, below_more _ _ c.before.before.before.loop.invariant.1 (told_true c.before.tray-symbols.ensures c.if1.false)))
-    (λ c. trays_true _ _ _ _ _ _ _ c.before.loop.g (omega arith) (λ i h. sym (sound c.before.before i true (sym (c.before.loop.invariant.1 i h))))))
+    (λ c. (omega arith, below_more _ _ c.before.before.before.loop-g.invariant.1 (told_true c.before.tray_symbols.ensures c.if-not-tray_symbols.false-raw)))
+    (λ c. trays_true _ _ _ _ _ _ _ c.before.loop-g.g (omega arith) (λ i h. sym (sound c.before.before i true (sym (c.before.loop-g.invariant.1 i h))))))

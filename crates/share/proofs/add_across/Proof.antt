@@ -8,32 +8,32 @@ use Rattle.share.proofs.Runs.{period_in, first_in, spacing, across_none, across_
 use Rattle.share.proofs.add_across.Statement.{statement}
 use Rattle.share.proofs.add_across.Tie as tie
 
-abbrev invariant-loop : tie.invariant-loop
-invariant-loop s run count symbols at far m sums₀ i₀ sums i = (i ≤ run) × AcrossAdded gf256 s run count i symbols at far m sums₀ sums
+abbrev invariant-loop-i : tie.invariant-loop-i
+invariant-loop-i s run count symbols at far m sums₀ i₀ sums i = (i ≤ run) × AcrossAdded gf256 s run count i symbols at far m sums₀ sums
 
-abbrev decreases-loop : tie.decreases-loop
-decreases-loop s run count symbols at far m sums₀ i₀ sums i = run - i
+abbrev decreases-loop-i : tie.decreases-loop-i
+decreases-loop-i s run count symbols at far m sums₀ i₀ sums i = run - i
 
 -- the first symbol of the turn, and one period of them
-first : (c : tie.In-loop invariant-loop decreases-loop) → let a = c.before.before.before.before.args in a.at + c.before.loop.i ≤ length a.symbols.now
+first : (c : tie.In-loop-i invariant-loop-i decreases-loop-i) → let a = c.before.before.before.before.args in a.at + c.before.loop-i.i ≤ length a.symbols.now
 first c = let a = c.before.before.before.before.args in first_in a.s a.run a.count a.symbols.now a.at a.far a.m a.sums.now
-    c.before.before.before.before.requires c.before.loop.i c.loop-test.true
+    c.before.before.before.before.requires c.before.loop-i.i c.loop-i-test.true
 
-period : (c : tie.In-loop invariant-loop decreases-loop) → let a = c.before.before.before.before.args in a.at + a.s * a.run ≤ length a.symbols.now
+period : (c : tie.In-loop-i invariant-loop-i decreases-loop-i) → let a = c.before.before.before.before.args in a.at + a.s * a.run ≤ length a.symbols.now
 period c = let a = c.before.before.before.before.args in period_in a.s a.run a.count a.symbols.now a.at a.far a.m a.sums.now c.before.before.before.before.requires
 
 pub add_across_spec : {M : Type 1} → statement M
 add_across_spec =
-    tie.close (tie.spec invariant-loop decreases-loop
+    tie.close (tie.spec invariant-loop-i decreases-loop-i
     (λ c. (omega arith, across_none working _ _ _ _ _ _ _ _))
     (λ c. omega (arith, first c.before))
     (λ c. omega (arith, period c.before))
     (λ c κs.
     let a = c.before.before.before.before.before.args in
-    spacing a.s a.run a.count a.symbols.now a.at a.far a.m a.sums.now c.before.before.before.before.before.requires c.before.before.loop.i _
-    c.before.loop-test.true c.before.before.loop.invariant.1)
+    spacing a.s a.run a.count a.symbols.now a.at a.far a.m a.sums.now c.before.before.before.before.before.requires c.before.before.loop-i.i _
+    c.before.loop-i-test.true c.before.before.loop-i.invariant.1)
     (λ c. omega arith)
     (λ c. omega arith)
     (λ c. (omega arith, search (across_more working)))
-    (λ c. c.before.loop.invariant.1.same)
+    (λ c. c.before.loop-i.invariant.1.same)
     (λ c. search (across_end working)))

@@ -29,10 +29,10 @@ add_later_spec =
     (λ c. search rules)
     (λ c κs.
     let p = c.before.before.before.before.before.before.before.requires.0 in
-    record { adm = p.adm.cabinet; long = rw c.before.before.before.add-sums.ensures.same (bounds _ p.adm.cabinet).groups_high; room = p.room; some = p.some; few = p.few })
+    record { adm = p.adm.cabinet; long = rw c.before.before.before.add_sums.ensures.same (bounds _ p.adm.cabinet).groups_high; room = p.room; some = p.some; few = p.few })
     (λ c. search rules)
     (λ c.
     let a = c.before.before.before.before.before.before.before.before.before.before.args in
-    c.before.before.add-weighted.ensures a.h _ (sums_only working a.l a.h 4096 a.symbols.now a.at _ (bounds _
+    c.before.before.add_weighted.ensures a.h _ (sums_only working a.l a.h 4096 a.symbols.now a.at _ (bounds _
     c.before.before.before.before.before.before.before.before.before.before.requires.0.adm.cabinet).groups_high
-    c.before.before.before.before.before.before.add-sums.ensures)))
+    c.before.before.before.before.before.before.add_sums.ensures)))

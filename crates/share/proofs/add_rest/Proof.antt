@@ -14,47 +14,47 @@ use Rattle.share.proofs.Parts.{feeding_one, rested_none, rested_more, rested_end
 use Rattle.share.proofs.add_rest.Statement.{statement}
 use Rattle.share.proofs.add_rest.Tie as tie
 
-abbrev invariant-loop : tie.invariant-loop
-invariant-loop l count h x r symbols at m shares₀ total k₀ shares k = (k ≤ m) × Rested gf256 l count h x symbols at k shares₀ shares
+abbrev invariant-loop-k : tie.invariant-loop-k
+invariant-loop-k l count h x r symbols at m shares₀ total k₀ shares k = (k ≤ m) × Rested gf256 l count h x symbols at k shares₀ shares
 
-abbrev decreases-loop : tie.decreases-loop
-decreases-loop l count h x r symbols at m shares₀ total k₀ shares k = m - k
+abbrev decreases-loop-k : tie.decreases-loop-k
+decreases-loop-k l count h x r symbols at m shares₀ total k₀ shares k = m - k
 
 -- where the tray of the turn begins, and that it lies within
-place : (c : tie.After-cell invariant-loop decreases-loop) → let a = c.before.before.before.before.before.before.args in a.at + c.cell.result ≡ a.at + c.before.before.loop.k * layers a.l
+place : (c : tie.After-cell invariant-loop-k decreases-loop-k) → let a = c.before.before.before.before.before.before.args in a.at + c.cell.result ≡ a.at + c.before.before.loop-k.k * layers a.l
 place c =
     let a = c.before.before.before.before.before.before.args in
-    ap (λ n. a.at + n) (c.cell.ensures ∙ ap (λ n. c.before.before.loop.k * n + 0) c.before.before.before.layer-count.ensures ∙ add-zero _)
+    ap (λ n. a.at + n) (c.cell.ensures ∙ ap (λ n. c.before.before.loop-k.k * n + 0) c.before.before.before.layer_count-total.ensures ∙ add-zero _)
 
-inside : (c : tie.After-cell invariant-loop decreases-loop) → let a = c.before.before.before.before.before.before.args in a.at + c.cell.result ≤ length a.symbols.now
+inside : (c : tie.After-cell invariant-loop-k decreases-loop-k) → let a = c.before.before.before.before.before.before.args in a.at + c.cell.result ≤ length a.symbols.now
 inside c = let a = c.before.before.before.before.before.before.args in omega (
   arith,
   place c,
   c.before.before.before.before.before.before.requires.0.long,
-  row_before c.before.before.loop.k a.m (layers a.l) c.before.loop-test.true,
+  row_before c.before.before.loop-k.k a.m (layers a.l) c.before.loop-k-test.true,
 )
 
 pub add_rest_spec : {M : Type 1} → statement M
 add_rest_spec =
-    tie.close (tie.spec invariant-loop decreases-loop
+    tie.close (tie.spec invariant-loop-k decreases-loop-k
     (λ c κs. c.before.before.requires.0.adm.cabinet)
     (λ c. (omega arith, rested_none working _ _ _ _ _ _ _ c.before.before.before.requires.0.held))
     (λ c κs.
     let p = c.before.before.before.before.before.requires.0 in
     let a = p.adm.cabinet in
     let b = bounds _ a in
-    let e = c.before.before.layer-count.ensures in
+    let e = c.before.before.layer_count-total.ensures in
     (omega (arith, a.layers_high), omega (arith, p.at_once), omega (arith, b.layers_low)))
     (λ c. omega (arith, inside c))
     (λ c.
     let c1 = c.before in
     let c2 = c1.before.before.before.before.before in
-    let b = bounds _ c2.requires.0.adm.cabinet in omega (arith, c2.requires.2, c1.loop-test.true, c2.requires.0.adm.cabinet.trays_high))
+    let b = bounds _ c2.requires.0.adm.cabinet in omega (arith, c2.requires.2, c1.loop-k-test.true, c2.requires.0.adm.cabinet.trays_high))
     (λ c κs.
     let a = c.before.before.before.before.before.before.before.args in
-    let d = c.before.before.before.loop.invariant.1 in (
+    let d = c.before.before.before.loop-k.invariant.1 in (
       feeding_one gf256 a.l a.count a.h a.symbols.now a.at a.m a.shares.now c.before.before.before.before.before.before.before.requires.0
-          c.before.before.before.loop.k _ _ c.before.before.loop-test.true (place c.before) d.same
+          c.before.before.before.loop-k.k _ _ c.before.before.loop-k-test.true (place c.before) d.same
           d.range,
       c.before.before.before.before.before.before.before.requires.1,
     ))
@@ -63,9 +63,9 @@ add_rest_spec =
     (λ c.
     let a = c.before.before.before.before.before.before.before.before.before.before.args in (
       omega arith,
-      rested_more working a.l a.count a.h a.x a.symbols.now a.at a.shares.now c.before.before.before.before.before.before.loop.k _ _
-          c.before.before.before.before.before.before.loop.shares _ c.before.before.before.before.before.before.before.before.before.before.requires.0.room
-          (place c.before.before.before.before) refl c.before.before.before.before.before.before.loop.invariant.1 c.before.before.add-later.ensures,
+      rested_more working a.l a.count a.h a.x a.symbols.now a.at a.shares.now c.before.before.before.before.before.before.loop-k.k _ _
+          c.before.before.before.before.before.before.loop-k.shares _ c.before.before.before.before.before.before.before.before.before.before.requires.0.room
+          (place c.before.before.before.before) refl c.before.before.before.before.before.before.loop-k.invariant.1 c.before.before.add_later.ensures,
     ))
-    (λ c. c.before.loop.invariant.1.same)
+    (λ c. c.before.loop-k.invariant.1.same)
     (λ c. search (rested_end working)))

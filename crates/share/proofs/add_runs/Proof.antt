@@ -9,11 +9,11 @@ use Rattle.share.proofs.Runs.{sums_run, run_in, run_number, gridding, runs_none,
 use Rattle.share.proofs.add_runs.Statement.{statement}
 use Rattle.share.proofs.add_runs.Tie as tie
 
-abbrev invariant-loop : tie.invariant-loop
-invariant-loop s run count symbols at far m width sums₀ q₀ sums q = (q ≤ count) × TraysAdded gf256 s run q symbols at far m sums₀ sums
+abbrev invariant-loop-q : tie.invariant-loop-q
+invariant-loop-q s run count symbols at far m width sums₀ q₀ sums q = (q ≤ count) × TraysAdded gf256 s run q symbols at far m sums₀ sums
 
-abbrev decreases-loop : tie.decreases-loop
-decreases-loop s run count symbols at far m width sums₀ q₀ sums q = count - q
+abbrev decreases-loop-q : tie.decreases-loop-q
+decreases-loop-q s run count symbols at far m width sums₀ q₀ sums q = count - q
 
 -- the runs of the turn
 record Lies (s run q at : ℕ) (symbols sums : List ℕ) : Type 0 where
@@ -21,13 +21,13 @@ record Lies (s run q at : ℕ) (symbols sums : List ℕ) : Type 0 where
   in_tray : at + q * s * run + run ≤ length symbols
   number : q * s ≤ length symbols
 
-lies : (c : tie.After-add-row-arg invariant-loop decreases-loop) → let a = c.before.before.before.before.before.args in Lies a.s a.run c.before.before.loop.q
+lies : (c : tie.After-add_row-arg-1 invariant-loop-q decreases-loop-q) → let a = c.before.before.before.before.before.args in Lies a.s a.run c.before.before.loop-q.q
     a.at a.symbols.now a.sums.now
 lies c =
     let a = c.before.before.before.before.before.args in
     let p = c.before.before.before.before.before.requires.0 in
-    let q = c.before.before.loop.q in
-    let t = c.before.loop-test.true in
+    let q = c.before.before.loop-q.q in
+    let t = c.before.loop-q-test.true in
     record {
       in_sums = sums_run a.s a.run a.count a.symbols.now a.at a.far a.m a.sums.now p q t;
       in_tray = run_in a.s a.run a.count a.symbols.now a.at a.far a.m a.sums.now p q t;
@@ -36,7 +36,7 @@ lies c =
 
 pub add_runs_spec : {M : Type 1} → statement M
 add_runs_spec =
-    tie.close (tie.spec invariant-loop decreases-loop
+    tie.close (tie.spec invariant-loop-q decreases-loop-q
     (λ c. (omega arith, runs_none working _ _ _ _ _ _ _))
     (λ c. let r = lies c in omega arith)
     (λ c. let r = lies c in omega arith)
@@ -45,13 +45,13 @@ add_runs_spec =
     (λ c κs.
     let a = c.before.before.before.before.before.args in
     let p = c.before.before.before.before.before.requires in
-    let d = c.before.before.loop.invariant.1 in (
-      gridding a.s a.run a.count a.symbols.now a.at a.far a.m a.sums.now p.0 c.before.before.loop.q _ c.before.loop-test.true d.same
+    let d = c.before.before.loop-q.invariant.1 in (
+      gridding a.s a.run a.count a.symbols.now a.at a.far a.m a.sums.now p.0 c.before.before.loop-q.q _ c.before.loop-q-test.true d.same
           d.rest,
       p.1,
     ))
     (λ c. omega arith)
     (λ c. omega arith)
     (λ c. (omega arith, search (runs_more working)))
-    (λ c. c.before.loop.invariant.1.same)
+    (λ c. c.before.loop-q.invariant.1.same)
     (λ c. search (runs_end working)))

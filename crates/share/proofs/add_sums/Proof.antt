@@ -17,7 +17,7 @@ add_sums_spec =
     let a = c.before.before.before.before.before.before.before.args in
     let p = c.before.before.before.before.before.before.before.requires in
     summed a.l a.h a.r.digits a.r.length a.r.count a.r.layers p.0.adm.cabinet p.0.host_in p.1 working p.0.adm a.symbols.now a.at a.m
-    a.sums.now _ p.0.some_trays c.before.before.add-short.ensures)
+    a.sums.now _ p.0.some_trays c.before.before.add_short.ensures)
     (λ c κs.
     let a = c.before.before.before.before.args in
     let p = c.before.before.before.before.requires in
@@ -27,4 +27,4 @@ add_sums_spec =
     let a = c.before.before.before.before.before.before.before.args in
     let p = c.before.before.before.before.before.before.before.requires in
     summed a.l a.h a.r.digits a.r.length a.r.count a.r.layers p.0.adm.cabinet p.0.host_in p.1 working p.0.adm a.symbols.now a.at a.m
-    a.sums.now _ p.0.some_trays c.before.before.add-long.ensures))
+    a.sums.now _ p.0.some_trays c.before.before.add_long.ensures))

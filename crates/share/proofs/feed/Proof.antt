@@ -17,14 +17,14 @@ feed_spec =
     (λ c.
     let a = c.before.before.before.before.before.before.before.args in
     let p = c.before.before.before.before.before.before.before.requires in
-    fed_one working a.l a.count a.h a.x a.symbols.now a.at a.shares.now a.m p.0.room _ c.before.before.before.add-sums.ensures p.0.some c.if1.true)
+    fed_one working a.l a.count a.h a.x a.symbols.now a.at a.shares.now a.m p.0.room _ c.before.before.before.add_sums.ensures p.0.some c.if-count-lt2.true)
     (λ c κs.
     let a = c.before.before.before.before.before.before.before.before.args in
     let p = c.before.before.before.before.before.before.before.before.requires in
-    (feeding_next gf256 a.l a.count a.h a.symbols.now a.at a.m a.shares.now p.0 _ c.before.before.before.before.add-sums.ensures, p.1, p.2))
+    (feeding_next gf256 a.l a.count a.h a.symbols.now a.at a.m a.shares.now p.0 _ c.before.before.before.before.add_sums.ensures, p.1, p.2))
     (λ c. search rules)
     (λ c.
     let a = c.before.before.before.before.before.before.before.before.before.before.before.args in
     let p = c.before.before.before.before.before.before.before.before.before.before.before.requires in
     fed_more working a.l a.count a.h a.x a.symbols.now a.at a.shares.now a.m p.0.room _
-    c.before.before.before.before.before.before.before.add-sums.ensures _ c.before.before.add-rest.ensures))
+    c.before.before.before.before.before.before.before.add_sums.ensures _ c.before.before.add_rest.ensures))

@@ -17,17 +17,17 @@ use Rattle.share.proofs.Parts.{weight_in, added_none, added_more, added_end}
 use Rattle.share257.proofs.add_weighted.Statement.{statement}
 use Rattle.share257.proofs.add_weighted.Tie as tie
 
-abbrev invariant-loop : tie.invariant-loop
-invariant-loop l count x sums shares₀ u total m₀ shares m =
+abbrev invariant-loop-m : tie.invariant-loop-m
+invariant-loop-m l count x sums shares₀ u total m₀ shares m =
     (1 ≤ m) × (m ≤ count) × (length shares ≡ length shares₀)
     × ((h : ℕ) (symbols : List ℕ) → ((p : ℕ) → p < groups l → gf257.coding.elem (get_or sums p 0) ≡ sum_at gf257 l h symbols p) → Added gf257 l h x symbols shares₀ shares m)
 
-abbrev decreases-loop : tie.decreases-loop
-decreases-loop l count x sums shares₀ u total m₀ shares m = count - m
+abbrev decreases-loop-m : tie.decreases-loop-m
+decreases-loop-m l count x sums shares₀ u total m₀ shares m = count - m
 
 pub add_weighted_spec : {M : Type 1} → statement M
 add_weighted_spec =
-    tie.close (tie.spec invariant-loop decreases-loop
+    tie.close (tie.spec invariant-loop-m decreases-loop-m
     (λ c κs. c.before.before.requires.adm)
     (λ c. let p = c.before.before.before.requires in (omega arith, omega (arith, p.some), refl, λ h symbols e. added_none working _ _ _ _ _))
     (λ c. size_pos _ c.before.before.before.before.before.requires.adm)
@@ -38,16 +38,16 @@ add_weighted_spec =
     (λ c κs.
     let p = c.before.before.before.before.before.before.requires in
     let b = bounds _ p.adm in
-    let e = c.before.before.before.group-count.ensures in
-    (omega arith, omega (arith, p.few, c.before.loop-test.true), omega (arith, groups_pos _ p.adm)))
+    let e = c.before.before.before.group_count-total.ensures in
+    (omega arith, omega (arith, p.few, c.before.loop-m-test.true), omega (arith, groups_pos _ p.adm)))
     (λ c. search rules)
     (λ c κs.
     let a = c.before.before.before.before.before.before.before.before.args in
     let p = c.before.before.before.before.before.before.before.before.requires in (
-      weight_in a.l a.count c.before.before.before.before.loop.m _ _ a.sums.now a.shares.now
-          c.before.before.before.before.loop.shares p c.before.before.before.before.before.group-count.ensures c.before.cell.ensures
-          c.before.before.before.loop-test.true c.before.before.before.before.loop.invariant.2,
-      omega (arith, p.long, c.before.before.before.before.before.group-count.ensures),
+      weight_in a.l a.count c.before.before.before.before.loop-m.m _ _ a.sums.now a.shares.now
+          c.before.before.before.before.loop-m.shares p c.before.before.before.before.before.group_count-total.ensures c.before.cell-to.ensures
+          c.before.before.before.loop-m-test.true c.before.before.before.before.loop-m.invariant.2,
+      omega (arith, p.long, c.before.before.before.before.before.group_count-total.ensures),
     ))
     (λ c. omega arith)
     (λ c. omega arith)
@@ -55,15 +55,15 @@ add_weighted_spec =
     let a = c.before.before.before.before.before.before.before.before.before.before.before.args in (
       omega arith,
       omega arith,
-      c.before.before.add-multiple.ensures.long ∙ c.before.before.before.before.before.before.before.loop.invariant.2,
-      λ h symbols e. added_more working a.l h a.x c.before.before.before.before.before.before.before.loop.m _ _ _ symbols a.shares.now a.sums.now
-          c.before.before.before.before.before.before.before.loop.shares _ c.before.before.before.before.before.before.before.loop.invariant.0
-          c.before.before.before.before.before.before.before.before.group-count.ensures c.before.before.before.before.cell.ensures
-          c.before.before.before.before.before.place-power.ensures e c.before.before.add-multiple.ensures
-          (c.before.before.before.before.before.before.before.loop.invariant.3 h symbols e),
+      c.before.before.add_multiple.ensures.long ∙ c.before.before.before.before.before.before.before.loop-m.invariant.2,
+      λ h symbols e. added_more working a.l h a.x c.before.before.before.before.before.before.before.loop-m.m _ _ _ symbols a.shares.now a.sums.now
+          c.before.before.before.before.before.before.before.loop-m.shares _ c.before.before.before.before.before.before.before.loop-m.invariant.0
+          c.before.before.before.before.before.before.before.before.group_count-total.ensures c.before.before.before.before.cell-to.ensures
+          c.before.before.before.before.before.place_power-weight.ensures e c.before.before.add_multiple.ensures
+          (c.before.before.before.before.before.before.before.loop-m.invariant.3 h symbols e),
     ))
-    (λ c. c.before.loop.invariant.2)
+    (λ c. c.before.loop-m.invariant.2)
     (λ c h symbols e.
     let a = c.before.before.before.before.before.args in
-    added_end working a.l h a.x c.before.loop.m a.count symbols a.shares.now c.before.loop.shares (c.before.loop.invariant.3 h symbols e) c.before.loop.invariant.1
+    added_end working a.l h a.x c.before.loop-m.m a.count symbols a.shares.now c.before.loop-m.shares (c.before.loop-m.invariant.3 h symbols e) c.before.loop-m.invariant.1
     (omega arith)))

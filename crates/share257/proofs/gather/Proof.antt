@@ -15,23 +15,23 @@ use Rattle.share.proofs.Parts.{partly, partly_none, partly_long, partly_all, gat
 use Rattle.share257.proofs.gather.Statement.{statement}
 use Rattle.share257.proofs.gather.Tie as tie
 
-abbrev invariant-loop : tie.invariant-loop
-invariant-loop l count h helper rack out₀ u r total g₀ out g = (g ≤ u) × (out ≡ partly gf257 working.field l count h helper rack g)
+abbrev invariant-loop-g : tie.invariant-loop-g
+invariant-loop-g l count h helper rack out₀ u r total g₀ out g = (g ≤ u) × (out ≡ partly gf257 working.field l count h helper rack g)
 
-abbrev decreases-loop : tie.decreases-loop
-decreases-loop l count h helper rack out₀ u r total g₀ out g = u - g
+abbrev decreases-loop-g : tie.decreases-loop-g
+decreases-loop-g l count h helper rack out₀ u r total g₀ out g = u - g
 
 -- where the trays of the turn begin
-start : (c : tie.After-at-once invariant-loop decreases-loop) →
+start : (c : tie.After-at_once-m invariant-loop-g decreases-loop-g) →
     let l = c.before.before.before.before.before.before.before.before.before.before.args.l in
-    c.before.before.loop.g * c.before.before.before.before.before.before.before.runs_of.result.layers ≡ c.before.before.loop.g * layers l + 0
+    c.before.before.loop-g.g * c.before.before.before.before.before.before.before.runs_of-r.result.layers ≡ c.before.before.loop-g.g * layers l + 0
 start c =
     let l = c.before.before.before.before.before.before.before.before.before.before.args.l in
-    ap (λ n. c.before.before.loop.g * n) c.before.before.before.before.before.before.before.runs_of.ensures.layers_are ∙ sym (add-zero (c.before.before.loop.g * layers l))
+    ap (λ n. c.before.before.loop-g.g * n) c.before.before.before.before.before.before.before.runs_of-r.ensures.layers_are ∙ sym (add-zero (c.before.before.loop-g.g * layers l))
 
 pub gather_spec : {M : Type 1} → statement M
 gather_spec =
-    tie.close (tie.spec invariant-loop decreases-loop
+    tie.close (tie.spec invariant-loop-g decreases-loop-g
     (λ c κs. let p = c.before.before.requires in (p.0.adm.cabinet, p.0.host_in, p.1))
     (λ c κs. omega arith)
     (λ c. (omega arith, partly_none working _ _ _ _ _ _ _ _ c.before.before.before.before.before.before.before.requires.0.room refl c.before.before.fill.ensures))
@@ -44,38 +44,38 @@ gather_spec =
     (λ c.
     let p = c.before.before.before.before.before.before.before.before.before.before.requires.0 in
     let a = p.adm.cabinet in
-    omega (arith, cell_in _ _ _ _ p.helper_in c.before.loop-test.true))
+    omega (arith, cell_in _ _ _ _ p.helper_in c.before.loop-g-test.true))
     (λ c. search rules)
     (λ c.
     let c1 = c.before in
     let c2 = c1.before in
     let c3 = c2.before.before.before.before.before.before.before.before in
-    let a = c3.args in omega (arith, start c, c3.requires.0.long, row_before c2.loop.g a.l.size (layers a.l) c1.loop-test.true))
+    let a = c3.args in omega (arith, start c, c3.requires.0.long, row_before c2.loop-g.g a.l.size (layers a.l) c1.loop-g-test.true))
     (λ c κs.
     let a = c.before.before.before.before.before.before.before.before.before.before.before.args in
     let p = c.before.before.before.before.before.before.before.before.before.before.before.requires.0 in
-    let m = c.before.at_once.ensures in
-    let t = c.before.before.loop-test.true in (
-      gather_told working a.l a.count a.h a.helper a.rack.now a.out.now p c.before.before.before.loop.g _ _ _
-          (omega (arith, m.1, t)) m.0 m.2 (start c.before) c.before.before.before.loop.invariant.1,
-      c.before.before.before.before.before.before.before.before.runs_of.ensures,
+    let m = c.before.at_once-m.ensures in
+    let t = c.before.before.loop-g-test.true in (
+      gather_told working a.l a.count a.h a.helper a.rack.now a.out.now p c.before.before.before.loop-g.g _ _ _
+          (omega (arith, m.1, t)) m.0 m.2 (start c.before) c.before.before.before.loop-g.invariant.1,
+      c.before.before.before.before.before.before.before.before.runs_of-r.ensures,
       omega (arith, m.1, t, row_before a.helper a.l.racks a.l.size p.helper_in),
     ))
     (λ c.
     let b = bounds _ c.before.before.before.before.before.before.before.before.before.before.before.before.before.before.requires.0.adm.cabinet in
-    let m = c.before.before.before.before.at_once.ensures in
-    omega (arith, m.1, c.before.before.before.before.before.loop-test.true, b.size_high))
-    (λ c. let m = c.before.before.before.before.at_once.ensures in omega (arith, m.0, m.1, c.before.before.before.before.before.loop-test.true))
+    let m = c.before.before.before.before.at_once-m.ensures in
+    omega (arith, m.1, c.before.before.before.before.before.loop-g-test.true, b.size_high))
+    (λ c. let m = c.before.before.before.before.at_once-m.ensures in omega (arith, m.0, m.1, c.before.before.before.before.before.loop-g-test.true))
     (λ c.
     let c1 = c.before.before in
     let c2 = c1.before.before in
     let c3 = c2.before in
     let c4 = c3.before in
     let c5 = c4.before.before.before.before.before.before.before.before in
-    let a = c5.args in let m = c2.at_once.ensures in (
-      omega (arith, m.1, c3.loop-test.true),
+    let a = c5.args in let m = c2.at_once-m.ensures in (
+      omega (arith, m.1, c3.loop-g-test.true),
       gather_turn working a.l a.count a.h a.helper
-          a.rack.now c4.loop.g _ _ _ c4.loop.out _ (start c2) refl c4.loop.invariant.1 c1.feed.ensures,
+          a.rack.now c4.loop-g.g _ _ _ c4.loop-g.out _ (start c2) refl c4.loop-g.invariant.1 c1.feed.ensures,
     ))
-    (λ c. ap length c.before.loop.invariant.1 ∙ partly_long gf257 working.field _ _ _ _ _ _ ∙ sym c.before.before.before.before.before.before.before.before.before.requires.0.room)
-    (λ c. c.before.loop.invariant.1 ∙ partly_all gf257 working.field _ _ _ _ _ _ (omega arith)))
+    (λ c. ap length c.before.loop-g.invariant.1 ∙ partly_long gf257 working.field _ _ _ _ _ _ ∙ sym c.before.before.before.before.before.before.before.before.before.requires.0.room)
+    (λ c. c.before.loop-g.invariant.1 ∙ partly_all gf257 working.field _ _ _ _ _ _ (omega arith)))

@@ -15,18 +15,18 @@ use Rattle.share.proofs.Refusals.{tray_ground_1, tray_grounds_lem}
 use Rattle.share257.proofs.tray_refusal.Statement.{statement}
 use Rattle.share257.proofs.tray_refusal.Tie as tie
 
-facts : (c : tie.Else1) → Admissible gf257.order c.before.before.before.before.args.l
-facts c = admitted_so gf257.order _ _ c.before.admitted.ensures c.if1.false
+facts : (c : tie.Else-not-admitted) → Admissible gf257.order c.before.before.before.before.args.l
+facts c = admitted_so gf257.order _ _ c.before.admitted.ensures c.if-not-admitted.false-raw
 
-adm : (c : tie.Else1) → admissible gf257.order c.before.before.before.before.args.l ≡ true
-adm c = sym c.before.admitted.ensures ∙ not-false _ c.if1.false
+adm : (c : tie.Else-not-admitted) → admissible gf257.order c.before.before.before.before.args.l ≡ true
+adm c = sym c.before.admitted.ensures ∙ not-false _ c.if-not-admitted.false-raw
 
 pub tray_refusal_spec : {M : Type 1} → statement M
 tray_refusal_spec =
     tie.close (tie.spec
     (λ c. search rules)
     (λ c κs. omega arith)
-    (λ c. tray_ground_1 working _ _ _ _ _ _ (sym c.before.admitted.ensures ∙ not-true _ c.if1.true))
+    (λ c. tray_ground_1 working _ _ _ _ _ _ (sym c.before.admitted.ensures ∙ not-true _ c.if-not-admitted.true-raw))
     (λ c κs. search rules)
     (λ c κs. (facts c.before).cabinet)
     (λ c. size_pos _ (facts c.before.before).cabinet)
@@ -34,5 +34,5 @@ tray_refusal_spec =
     (λ c.
     let a = c.before.before.before.before.before.before.before.args in
     c.refusal.ensures
-    ∙ ap (grounds gf257.order a.l a.count 1 a.host (a.x / a.l.size) (length a.symbols.now) (length a.shares.now)) c.before.before.both-symbols.ensures
+    ∙ ap (grounds gf257.order a.l a.count 1 a.host (a.x / a.l.size) (length a.symbols.now) (length a.shares.now)) c.before.before.both_symbols-both.ensures
     ∙ tray_grounds_lem working _ _ _ _ _ _ (facts c.before.before.before)))

@@ -11,15 +11,15 @@ use Rattle.solving.proofs.Runs.{listed_none, listed_more, listed_end, listed_tra
 use Rattle.solving257.proofs.listed_points.Statement.{statement}
 use Rattle.solving257.proofs.listed_points.Tie as tie
 
-abbrev invariant-loop : tie.invariant-loop
-invariant-loop points₀ l w first es v run row₀ k₀ points row k = (k ≤ length es) × (length points ≡ length points₀) × (length row ≡ length row₀) × ListedPoints gf257 l first es v run k points
+abbrev invariant-loop-k : tie.invariant-loop-k
+invariant-loop-k points₀ l w first es v run row₀ k₀ points row k = (k ≤ length es) × (length points ≡ length points₀) × (length row ≡ length row₀) × ListedPoints gf257 l first es v run k points
 
-abbrev decreases-loop : tie.decreases-loop
-decreases-loop points₀ l w first es v run row₀ k₀ points row k = length es - k
+abbrev decreases-loop-k : tie.decreases-loop-k
+decreases-loop-k points₀ l w first es v run row₀ k₀ points row k = length es - k
 
 pub listed_points_spec : {M : Type 1} → statement M
 listed_points_spec =
-    tie.close (tie.spec invariant-loop decreases-loop
+    tie.close (tie.spec invariant-loop-k decreases-loop-k
     (λ c. (omega arith, refl, refl, listed_none working _ _ _ _ _ _))
     (λ c. search rules)
     (λ c. omega arith)
@@ -28,7 +28,7 @@ listed_points_spec =
     (λ c κs. (
       search listed_in,
       let a = c.before.before.before.before.before.before.before.before.before.before.before.before.args in sampled_in a.l
-          a.w a.first a.es.now a.v a.run a.points.now a.row.now c.before.before.before.before.tray-points.new.0
+          a.w a.first a.es.now a.v a.run a.points.now a.row.now c.before.before.before.before.tray_points.new.0
           c.before.before.before.before.before.before.before.before.before.before.before.before.requires (search rules),
       search rules,
     ))
@@ -42,8 +42,8 @@ listed_points_spec =
           let c2 = c1.before.before.before.before.before in
           let c3 = c2.before.before.before.before in
           let c4 = c3.before.before.before.before in
-          let a = c4.args in listed_more working a.l a.w a.first a.es.now a.v a.run c3.loop.k c2.tray-points.new.0 c3.loop.points
-          c1.sample.new.0 c4.requires.width c4.requires.run_low c3.loop.invariant.3 c2.tray-points.ensures c1.sample.ensures,
+          let a = c4.args in listed_more working a.l a.w a.first a.es.now a.v a.run c3.loop-k.k c2.tray_points.new.0 c3.loop-k.points
+          c1.sample.new.0 c4.requires.width c4.requires.run_low c3.loop-k.invariant.3 c2.tray_points.ensures c1.sample.ensures,
     ))
     (λ c. search rules)
     (λ c. search rules)

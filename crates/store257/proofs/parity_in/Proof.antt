@@ -13,8 +13,8 @@ use Rattle.store.proofs.Trays.{parity_told}
 use Rattle.store257.proofs.parity_in.Statement.{statement}
 use Rattle.store257.proofs.parity_in.Tie as tie
 
-listed : (c : tie.After-count-from) → c.count-from.new.1.0 ≡ parity_trays c.before.before.before.before.args.l
-listed c = c.count-from.ensures ∙ ap (table (λ (i : ℕ). c.before.before.before.before.args.l.dimension + i)) c.before.before.before.before.requires.1
+listed : (c : tie.After-count_from) → c.count_from.new.1.0 ≡ parity_trays c.before.before.before.before.args.l
+listed c = c.count_from.ensures ∙ ap (table (λ (i : ℕ). c.before.before.before.before.args.l.dimension + i)) c.before.before.before.before.requires.1
 
 pub parity_in_spec : {M : Type 1} → statement M
 parity_in_spec =
@@ -23,8 +23,8 @@ parity_in_spec =
     (λ c κs. search rules)
     (λ c κs.
     let s = c.before.before.before.before.before.before.before.before.before in
-    subst (λ es. Erasing s.args.l c.before.before.layer-count.result es s.args.out.now) (sym (listed c.before.before.before.before.before))
-    (parity_told s.args.l _ s.args.out.now s.requires.0 c.before.before.layer-count.ensures))
+    subst (λ es. Erasing s.args.l c.before.before.layer_count.result es s.args.out.now) (sym (listed c.before.before.before.before.before))
+    (parity_told s.args.l _ s.args.out.now s.requires.0 c.before.before.layer_count.ensures))
     (λ c. search rules)
     (λ c. search rules)
     (λ c.

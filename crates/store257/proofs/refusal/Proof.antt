@@ -14,42 +14,42 @@ use Rattle.store.proofs.Answers.{ground_1, ground_2, ground_3, ground_0}
 use Rattle.store257.proofs.refusal.Statement.{statement}
 use Rattle.store257.proofs.refusal.Tie as tie
 
-adm : (c : tie.Else1) → admissible gf257.order c.before.before.before.args.l ≡ true
-adm c = sym c.before.admitted.ensures ∙ not-false _ c.if1.false
+adm : (c : tie.Else-not-admitted) → admissible gf257.order c.before.before.before.args.l ≡ true
+adm c = sym c.before.admitted.ensures ∙ not-false _ c.if-not-admitted.false-raw
 
-facts : (c : tie.Else1) → Cabinet c.before.before.before.args.l
+facts : (c : tie.Else-not-admitted) → Cabinet c.before.before.before.args.l
 facts c = (admissible_facts gf257.order _ (adm c)).cabinet
 
-width : (c : tie.After-layer-count) → let l = c.before.before.before.before.args.l in l.dimension * c.layer-count.result ≡ l.dimension * layers l
-width c = ap (λ (n : ℕ). c.before.before.before.before.args.l.dimension * n) c.layer-count.ensures
+width : (c : tie.After-layer_count-total) → let l = c.before.before.before.before.args.l in l.dimension * c.layer_count-total.result ≡ l.dimension * layers l
+width c = ap (λ (n : ℕ). c.before.before.before.before.args.l.dimension * n) c.layer_count-total.ensures
 
-size : (c : tie.After-tray-count) → let l = c.before.before.before.before.before.before.args.l in c.tray-count.result * c.before.before.layer-count.result ≡ trays l * layers l
-size c = ap₂ ◌*◌ c.tray-count.ensures c.before.before.layer-count.ensures
+size : (c : tie.After-tray_count) → let l = c.before.before.before.before.before.before.args.l in c.tray_count.result * c.before.before.layer_count-total.result ≡ trays l * layers l
+size c = ap₂ ◌*◌ c.tray_count.ensures c.before.before.layer_count-total.ensures
 
 -- both lengths are right
-given_long : (c : tie.Else3) → let a = c.before.before.before.before.before.before.before.args in length a.given.now ≡ a.l.dimension * layers a.l
-given_long c = c.before.before.if2.false ∙ width c.before.before.before
+given_long : (c : tie.Else-room-tray_count) → let a = c.before.before.before.before.before.before.before.args in length a.given.now ≡ a.l.dimension * layers a.l
+given_long c = c.before.before.if-given-k.false ∙ width c.before.before.before
 
-room_long : (c : tie.Else3) → let a = c.before.before.before.before.before.before.before.args in a.room ≡ trays a.l * layers a.l
-room_long c = c.if3.false ∙ size c.before
+room_long : (c : tie.Else-room-tray_count) → let a = c.before.before.before.before.before.before.before.args in a.room ≡ trays a.l * layers a.l
+room_long c = c.if-room-tray_count.false ∙ size c.before
 
 pub refusal_spec : {M : Type 1} → statement M
 refusal_spec =
     tie.close (tie.spec
     (λ c. search rules)
     (λ c κs. omega arith)
-    (λ c. ground_1 _ _ _ _ (sym c.before.admitted.ensures ∙ not-true _ c.if1.true))
+    (λ c. ground_1 _ _ _ _ (sym c.before.admitted.ensures ∙ not-true _ c.if-not-admitted.true-raw))
     (λ c κs. facts c)
     (λ c. search rules)
     (λ c. search rules)
     (λ c. let a = facts c.before in let b = dimension_in _ a in record { fits = mul_below tray_limit layer_limit (omega arith) (omega arith) tt })
-    (λ c. ground_2 _ _ _ _ (adm c.before.before) (λ e f. c.if2.true (e ∙ sym (width c.before))))
+    (λ c. ground_2 _ _ _ _ (adm c.before.before) (λ e f. c.if-given-k.true (e ∙ sym (width c.before))))
     (λ c κs. facts c.before.before)
     (λ c. search rules)
     (λ c. let a = facts c.before.before.before in record { fits = mul_below tray_limit layer_limit (omega arith) (omega arith) tt })
-    (λ c. ground_2 _ _ _ _ (adm c.before.before.before.before) (λ e f. c.if3.true (f ∙ sym (size c.before))))
+    (λ c. ground_2 _ _ _ _ (adm c.before.before.before.before) (λ e f. c.if-room-tray_count.true (f ∙ sym (size c.before))))
     (λ c κs. omega arith)
-    (λ c. let p = c.before.before in ground_3 _ _ _ _ (adm p.before.before.before.before) (given_long p) (room_long p) (sym c.before.are-symbols.ensures
-    ∙ not-true _ c.if4.true))
-    (λ c. let p = c.before.before in ground_0 _ _ _ _ (adm p.before.before.before.before) (given_long p) (room_long p) (sym c.before.are-symbols.ensures
-    ∙ not-false _ c.if4.false)))
+    (λ c. let p = c.before.before in ground_3 _ _ _ _ (adm p.before.before.before.before) (given_long p) (room_long p) (sym c.before.are_symbols.ensures
+    ∙ not-true _ c.if-not-are_symbols.true-raw))
+    (λ c. let p = c.before.before in ground_0 _ _ _ _ (adm p.before.before.before.before) (given_long p) (room_long p) (sym c.before.are_symbols.ensures
+    ∙ not-false _ c.if-not-are_symbols.false-raw)))

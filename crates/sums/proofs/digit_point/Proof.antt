@@ -4,7 +4,7 @@ use borrow.Author.Rules.{rules}
 use Rattle.sums.proofs.digit_point.Statement.{statement}
 use Rattle.sums.proofs.digit_point.Tie as tie
 
-digit_count_requires : tie.Need-digit-count-requires
+digit_count_requires : tie.Need-digit_count-s-requires
 digit_count_requires c κs = search rules
 
 mul_root_power : tie.Need-overflow-mul-root-power
@@ -19,7 +19,7 @@ mul_root_power_2 c = search power_fits
 cast_root_power : tie.Need-overflow-cast-root-power
 cast_root_power c = search power_wide
 
-root_power_requires : tie.Need-root-power-requires
+root_power_requires : tie.Need-root_power-requires
 root_power_requires c κs = search rules
 
 returns : tie.Need-returns

@@ -3,13 +3,13 @@ use borrow.Author.Rules.{rules}
 use Rattle.sums.proofs.group_digit.Statement.{statement}
 use Rattle.sums.proofs.group_digit.Tie as tie
 
-returns : tie.Need-returns
+returns : tie.Need-returns-then-i-h
 returns c = search digit_below_host
 
 sub_result : tie.Need-overflow-sub-result
 sub_result c = search rules
 
-returns_2 : tie.Need-returns-2
+returns_2 : tie.Need-returns
 returns_2 c = search digit_above_host
 
 pub group_digit_spec : {M : Type 1} → statement M

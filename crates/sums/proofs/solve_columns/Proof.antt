@@ -5,34 +5,34 @@ use borrow.Author.Rules.{rules}
 use Rattle.sums.proofs.solve_columns.Statement.{statement}
 use Rattle.sums.proofs.solve_columns.Tie as tie
 
-unknown_count_requires : tie.Need-unknown-count-requires
+unknown_count_requires : tie.Need-unknown_count-n-requires
 unknown_count_requires c κs = search rules
 
 cast_n : tie.Need-overflow-cast-n
 cast_n c = search rules
 
-digit_count_requires : tie.Need-digit-count-requires
+digit_count_requires : tie.Need-digit_count-s-requires
 digit_count_requires c κs = search rules
 
 cast_s : tie.Need-overflow-cast-s
 cast_s c = search rules
 
-unknown_points_requires : tie.Need-unknown-points-requires
+unknown_points_requires : tie.Need-unknown_points-requires
 unknown_points_requires c κs = search (pointed_of working)
 
-solve_first_requires : tie.Need-solve-first-requires
+solve_first_requires : tie.Need-solve_first-requires
 solve_first_requires c κs = (search (systems_of working), search (points_room working), search (first_under working), search (points_few working))
 
-same_length : tie.Need-same-length
+same_length : tie.Need-shape_of-found
 same_length c = search rules
 
-same_length_2 : tie.Need-same-length-2
+same_length_2 : tie.Need-shape_of-points
 same_length_2 c = search rules
 
-same_length_3 : tie.Need-same-length-3
+same_length_3 : tie.Need-shape_of-coefs
 same_length_3 c = search rules
 
-same_length_4 : tie.Need-same-length-4
+same_length_4 : tie.Need-shape_of-row
 same_length_4 c = search rules
 
 returns : tie.Need-returns
@@ -41,10 +41,10 @@ returns c =
     c.before.before.before.before.before.before.before.before.before.before.before.before.before.before.before.before.before.before.before.before.before.before.before.before.before.before in
     let a = s.args in
     found_of working a.l a.h a.w a.first a.helpers.now a.v a.run s.pre.2 _ _ a.sides.now _ _ s.pre.0.adm
-    c.before.before.before.before.before.before.before.before.before.before.before.before.before.before.before.before.before.before.before.unknown-count.ensures
-    c.before.before.before.before.before.before.before.before.before.before.before.before.before.before.before.before.before.before.digit-count.ensures
-    c.before.before.before.before.before.before.before.before.before.before.before.before.before.before.before.unknown-points.ensures
-    c.before.before.before.before.before.before.solve-first.ensures
+    c.before.before.before.before.before.before.before.before.before.before.before.before.before.before.before.before.before.before.before.unknown_count-n.ensures
+    c.before.before.before.before.before.before.before.before.before.before.before.before.before.before.before.before.before.before.digit_count-s.ensures
+    c.before.before.before.before.before.before.before.before.before.before.before.before.before.before.before.unknown_points.ensures
+    c.before.before.before.before.before.before.solve_first.ensures
 
 pub solve_columns_spec : {M : Type 1} → statement M
 solve_columns_spec =

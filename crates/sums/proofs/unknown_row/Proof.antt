@@ -5,16 +5,16 @@ use borrow.Author.Rules.{rules}
 use Rattle.sums.proofs.unknown_row.Statement.{statement}
 use Rattle.sums.proofs.unknown_row.Tie as tie
 
-digit_count_requires : tie.Need-digit-count-requires
+digit_count_requires : tie.Need-digit_count-s-requires
 digit_count_requires c κs = search rules
 
 cast_free_place : tie.Need-overflow-cast-free-place
 cast_free_place c = search rules
 
-free_place_requires : tie.Need-free-place-requires
+free_place_requires : tie.Need-free_place-x-requires
 free_place_requires c κs = search choosing_of
 
-digit_point_requires : tie.Need-digit-point-requires
+digit_point_requires : tie.Need-digit_point-p-requires
 digit_point_requires c κs = (search pointed_layout, search pointed_host, search host_digit_lem, search pointed_size)
 
 mul_fill : tie.Need-overflow-mul-fill
@@ -23,16 +23,16 @@ mul_fill c = search point_fits
 fill_requires : tie.Need-fill-requires
 fill_requires c κs = search point_row
 
-same_length : tie.Need-same-length
+same_length : tie.Need-shape_of-points-then-x-s
 same_length c = search rules
 
-returns : tie.Need-returns
+returns : tie.Need-returns-then-x-s
 returns c = search (host_row working)
 
 skipped_requires : tie.Need-skipped-requires
 skipped_requires c κs = search other_high
 
-rack_powers_requires : tie.Need-rack-powers-requires
+rack_powers_requires : tie.Need-rack_powers-requires
 rack_powers_requires c κs = (search pointed_block, search pointed_host, search other_rack, search other_not, search pointed_size, search rules)
 
 mul_sample : tie.Need-overflow-mul-sample
@@ -41,13 +41,13 @@ mul_sample c = search point_fits
 sample_requires : tie.Need-sample-requires
 sample_requires c κs = (search point_row, search row_there, search run_there)
 
-same_length_2 : tie.Need-same-length-2
+same_length_2 : tie.Need-shape_of-points
 same_length_2 c = search rules
 
-same_length_3 : tie.Need-same-length-3
+same_length_3 : tie.Need-shape_of-row
 same_length_3 c = search rules
 
-returns_2 : tie.Need-returns-2
+returns_2 : tie.Need-returns
 returns_2 c = search (other_row working)
 
 pub unknown_row_spec : {M : Type 1} → statement M

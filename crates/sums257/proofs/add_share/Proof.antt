@@ -5,39 +5,39 @@ use borrow.Author.Rules.{rules}
 use Rattle.sums257.proofs.add_share.Statement.{statement}
 use Rattle.sums257.proofs.add_share.Tie as tie
 
-unknown_count_requires : tie.Need-unknown-count-requires
+unknown_count_requires : tie.Need-unknown_count-r-requires
 unknown_count_requires c κs = search rules
 
 cast_r : tie.Need-overflow-cast-r
 cast_r c = search rules
 
-share_terms_requires : tie.Need-share-terms-requires
+share_terms_requires : tie.Need-share_terms-requires
 share_terms_requires c κs = search rules
 
 mul_rack_powers : tie.Need-overflow-mul-rack-powers
 mul_rack_powers c = search rules
 
-shared_slice_read_rack_powers : tie.Need-shared-slice-read-rack-powers
+shared_slice_read_rack_powers : tie.Need-bounds-helpers-k
 shared_slice_read_rack_powers c = search rules
 
-rack_powers_requires : tie.Need-rack-powers-requires
+rack_powers_requires : tie.Need-rack_powers-requires
 rack_powers_requires c κs = (search block_there, search host_there, search helper_rack, search helper_other, search size_under, search row_next)
 
-add_terms_requires : tie.Need-add-terms-requires
+add_terms_requires : tie.Need-add_terms-requires
 add_terms_requires c κs =
     let s = c.before.before.before.before.before.before.before.before.before.before.before.before.before.before.before.before.before.before.before.before.before in
     let a = s.args in
     room_of a.l a.h a.w a.first a.helpers.now a.shares.now a.e a.m a.k a.cur.now a.row.now s.requires.0 s.requires.1 _ _ _ _
-    s.requires.2 c.before.before.before.before.before.before.before.before.before.before.before.before.before.before.before.unknown-count.ensures
+    s.requires.2 c.before.before.before.before.before.before.before.before.before.before.before.before.before.before.before.unknown_count-r.ensures
     (search rules) (search rules)
 
-same_length : tie.Need-same-length
+same_length : tie.Need-shape_of-sides
 same_length c = search rules
 
-same_length_2 : tie.Need-same-length-2
+same_length_2 : tie.Need-shape_of-cur
 same_length_2 c = search rules
 
-same_length_3 : tie.Need-same-length-3
+same_length_3 : tie.Need-shape_of-row
 same_length_3 c = search rules
 
 returns : tie.Need-returns

@@ -4,7 +4,7 @@ use borrow.Author.Rules.{rules}
 use Rattle.sums257.proofs.rack_place.Statement.{statement}
 use Rattle.sums257.proofs.rack_place.Tie as tie
 
-group_digit_requires : tie.Need-group-digit-requires
+group_digit_requires : tie.Need-group_digit-requires
 group_digit_requires c κs = search rules
 
 add_result : tie.Need-overflow-add-result

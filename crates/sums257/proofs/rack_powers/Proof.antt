@@ -5,19 +5,19 @@ use borrow.Author.Rules.{rules}
 use Rattle.sums257.proofs.rack_powers.Statement.{statement}
 use Rattle.sums257.proofs.rack_powers.Tie as tie
 
-digit_point_requires : tie.Need-digit-point-requires
+digit_point_requires : tie.Need-digit_point-start-requires
 digit_point_requires c κs = (search block_layout, search rules, search digits_some, search rules)
 
-root_power_requires : tie.Need-root-power-requires
+root_power_requires : tie.Need-root_power-z-requires
 root_power_requires c κs = search rules
 
-group_digit_requires : tie.Need-group-digit-requires
+group_digit_requires : tie.Need-group_digit-at-requires
 group_digit_requires c κs = search rules
 
-digit_powers_requires : tie.Need-digit-powers-requires
+digit_powers_requires : tie.Need-digit_powers-requires
 digit_powers_requires c κs = (search rules, search digit_in, search rules)
 
-same_length : tie.Need-same-length
+same_length : tie.Need-shape_of-row
 same_length c = search rules
 
 returns : tie.Need-returns

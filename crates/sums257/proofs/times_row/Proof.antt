@@ -17,10 +17,10 @@ mul_add_multiple c = search rules
 mul_add_multiple_2 : tie.Need-overflow-mul-add-multiple-2
 mul_add_multiple_2 c = search rules
 
-add_multiple_requires : tie.Need-add-multiple-requires
+add_multiple_requires : tie.Need-add_multiple-requires
 add_multiple_requires c κs = search rules
 
-same_length : tie.Need-same-length
+same_length : tie.Need-shape_of-sums
 same_length c = search rules
 
 returns : tie.Need-returns

@@ -11,71 +11,71 @@ use borrow.Author.Rules.{rules}
 use Rattle.sums257.proofs.weigh_sums.Statement.{statement}
 use Rattle.sums257.proofs.weigh_sums.Tie as tie
 
-abbrev invariant-loop : tie.invariant-loop
-invariant-loop sums₀ l h w e m found s a₀ sums a = (a ≤ s) × (length sums ≡ length sums₀) × Weighed gf257 l h w m a found sums₀ sums
+abbrev invariant-loop-a : tie.invariant-loop-a
+invariant-loop-a sums₀ l h w e m found s a₀ sums a = (a ≤ s) × (length sums ≡ length sums₀) × Weighed gf257 l h w m a found sums₀ sums
 
-abbrev decreases-loop : tie.decreases-loop
-decreases-loop sums₀ l h w e m found s a₀ sums a = s - a
+abbrev decreases-loop-a : tie.decreases-loop-a
+decreases-loop-a sums₀ l h w e m found s a₀ sums a = s - a
 
-digit_count_requires : tie.Need-digit-count-requires invariant-loop decreases-loop
+digit_count_requires : tie.Need-digit_count-s-requires invariant-loop-a decreases-loop-a
 digit_count_requires c κs = search rules
 
-loop_holds : tie.Need-loop-init invariant-loop decreases-loop
+loop_holds : tie.Need-loop-a-init invariant-loop-a decreases-loop-a
 loop_holds c = (omega arith, refl, search (weighed_none working))
 
-digit_point_requires : tie.Need-digit-point-requires invariant-loop decreases-loop
+digit_point_requires : tie.Need-digit_point-requires invariant-loop-a decreases-loop-a
 digit_point_requires c κs = (search weigh_layout, search weigh_host, search digit_low, search weigh_under)
 
-inverse_requires : tie.Need-inverse-requires invariant-loop decreases-loop
+inverse_requires : tie.Need-inverse-requires invariant-loop-a decreases-loop-a
 inverse_requires c κs = search rules
 
-difference_requires : tie.Need-difference-requires invariant-loop decreases-loop
+difference_requires : tie.Need-difference-v-requires invariant-loop-a decreases-loop-a
 difference_requires c κs = search rules
 
-mul_times_row : tie.Need-overflow-mul-times-row invariant-loop decreases-loop
+mul_times_row : tie.Need-overflow-mul-times-row invariant-loop-a decreases-loop-a
 mul_times_row c = search row_fits
 
-add_times_row : tie.Need-overflow-add-times-row invariant-loop decreases-loop
+add_times_row : tie.Need-overflow-add-times-row invariant-loop-a decreases-loop-a
 add_times_row c = search row_fits_2
 
-cast_times_row : tie.Need-overflow-cast-times-row invariant-loop decreases-loop
+cast_times_row : tie.Need-overflow-cast-times-row invariant-loop-a decreases-loop-a
 cast_times_row c = search row_wide
 
-cast_times_row_2 : tie.Need-overflow-cast-times-row-2 invariant-loop decreases-loop
+cast_times_row_2 : tie.Need-overflow-cast-times-row-2 invariant-loop-a decreases-loop-a
 cast_times_row_2 c = search rules
 
-times_row_requires : tie.Need-times-row-requires invariant-loop decreases-loop
+times_row_requires : tie.Need-times_row-requires invariant-loop-a decreases-loop-a
 times_row_requires c κs = (search sums_row, search found_row)
 
-add_a : tie.Need-overflow-add-a invariant-loop decreases-loop
+add_a : tie.Need-overflow-add-a invariant-loop-a decreases-loop-a
 add_a c = omega arith
 
-loop_less : tie.Need-loop-smaller invariant-loop decreases-loop
+loop_less : tie.Need-loop-a-smaller invariant-loop-a decreases-loop-a
 loop_less c = omega arith
 
-loop_again : tie.Need-loop-preserved invariant-loop decreases-loop
+loop_again : tie.Need-loop-a-preserved invariant-loop-a decreases-loop-a
 loop_again c = (
   omega arith,
   search rules,
   let a = c.before.before.before.before.before.before.before.before.before.before.before.before.args in let k =
-      c.before.before.before.before.before.before.before.before.loop in weighed_more working a.l a.h a.w a.m a.found.now a.sums.now
-      k.a _ _ _ _ k.sums _ c.before.before.before.before.before.before.before.before.before.digit-count.ensures
-      c.before.before.before.before.before.before.digit-point.ensures c.before.before.before.before.before.inverse.ensures
-      c.before.before.before.before.difference.ensures k.inv.2 c.before.before.times-row.ensures,
+      c.before.before.before.before.before.before.before.before.loop-a in weighed_more working a.l a.h a.w a.m a.found.now a.sums.now
+      k.a _ _ _ _ k.sums-1 _ c.before.before.before.before.before.before.before.before.before.digit_count-s.ensures
+      c.before.before.before.before.before.before.digit_point.ensures c.before.before.before.before.before.inverse.ensures
+      c.before.before.before.before.difference-v.ensures k.inv.2 c.before.before.times_row.ensures,
 )
 
-same_length : tie.Need-same-length invariant-loop decreases-loop
+same_length : tie.Need-shape_of-sums invariant-loop-a decreases-loop-a
 same_length c = search rules
 
-returns : tie.Need-returns invariant-loop decreases-loop
+returns : tie.Need-returns invariant-loop-a decreases-loop-a
 returns c = search (weighed_end working)
 
 pub weigh_sums_spec : {M : Type 1} → statement M
 weigh_sums_spec =
     tie.close
     (tie.spec
-    invariant-loop
-    decreases-loop
+    invariant-loop-a
+    decreases-loop-a
     digit_count_requires
     loop_holds
     digit_point_requires

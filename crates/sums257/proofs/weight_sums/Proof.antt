@@ -5,10 +5,10 @@ use borrow.Author.Rules.{rules}
 use Rattle.sums257.proofs.weight_sums.Statement.{statement}
 use Rattle.sums257.proofs.weight_sums.Tie as tie
 
-block_sides_requires : tie.Need-block-sides-requires
+block_sides_requires : tie.Need-block_sides-requires
 block_sides_requires c κs = (search rules, search rules)
 
-solve_sides_requires : tie.Need-solve-sides-requires
+solve_sides_requires : tie.Need-solve_sides-requires
 solve_sides_requires c κs =
     let s =
     c.before.before.before.before.before.before.before.before.before.before.before.before.before.before.before.before.before.before.before.before.before.before.before.before in
@@ -17,38 +17,38 @@ solve_sides_requires c κs =
       s.pre.0.block,
       space_of a.l a.h a.w a.first a.helpers.now a.shares.now a.e a.sums.now a.sides.now
           a.found.now a.points.now a.coefs.now a.row.now a.cur.now s.pre.0 _ _
-          c.before.before.before.before.before.before.before.before.before.before.before.block-sides.auto.0
-          c.before.before.before.before.before.before.before.before.before.before.before.block-sides.auto.1.1.1.1.1.1.1.1.1.1.0,
+          c.before.before.before.before.before.before.before.before.before.before.before.block_sides.auto.0
+          c.before.before.before.before.before.before.before.before.before.before.before.block_sides.auto.1.1.1.1.1.1.1.1.1.1.0,
     )
 
-weigh_sums_requires : tie.Need-weigh-sums-requires
+weigh_sums_requires : tie.Need-weigh_sums-requires
 weigh_sums_requires c κs =
     let s =
     c.before.before.before.before.before.before.before.before.before.before.before.before.before.before.before.before.before.before.before.before.before.before.before.before.before.before.before.before.before.before.before.before.before.before.before in
     let a = s.args in
     weighing_of a.l a.h a.w a.first a.helpers.now a.shares.now a.e a.sums.now a.sides.now a.found.now a.points.now
     a.coefs.now a.row.now a.cur.now s.pre.0 a.m _ s.pre.1
-    c.before.before.before.before.before.before.before.before.before.before.solve-sides.auto.0
+    c.before.before.before.before.before.before.before.before.before.before.solve_sides.auto.0
 
-same_length : tie.Need-same-length
+same_length : tie.Need-shape_of-sums
 same_length c = search rules
 
-same_length_2 : tie.Need-same-length-2
+same_length_2 : tie.Need-shape_of-sides
 same_length_2 c = search rules
 
-same_length_3 : tie.Need-same-length-3
+same_length_3 : tie.Need-shape_of-found
 same_length_3 c = search rules
 
-same_length_4 : tie.Need-same-length-4
+same_length_4 : tie.Need-shape_of-points
 same_length_4 c = search rules
 
-same_length_5 : tie.Need-same-length-5
+same_length_5 : tie.Need-shape_of-coefs
 same_length_5 c = search rules
 
-same_length_6 : tie.Need-same-length-6
+same_length_6 : tie.Need-shape_of-row
 same_length_6 c = search rules
 
-same_length_7 : tie.Need-same-length-7
+same_length_7 : tie.Need-shape_of-cur
 same_length_7 c = search rules
 
 returns : tie.Need-returns
@@ -57,9 +57,9 @@ returns c =
     c.before.before.before.before.before.before.before.before.before.before.before.before.before.before.before.before.before.before.before.before.before.before.before.before.before.before.before.before.before.before.before.before.before.before.before.before.before.before in
     let a = s.args in
     weights_more working a.l a.h a.w a.first a.helpers.now a.shares.now a.e a.m _ _ a.sums.now _ s.pre.0.received.chosen
-    c.before.before.before.before.before.before.before.before.before.before.before.before.before.before.before.before.before.before.before.before.before.before.before.before.before.block-sides.ensures
-    c.before.before.before.before.before.before.before.before.before.before.before.before.before.solve-sides.ensures
-    c.before.before.weigh-sums.ensures s.pre.2
+    c.before.before.before.before.before.before.before.before.before.before.before.before.before.before.before.before.before.before.before.before.before.before.before.before.before.block_sides.ensures
+    c.before.before.before.before.before.before.before.before.before.before.before.before.before.solve_sides.ensures
+    c.before.before.weigh_sums.ensures s.pre.2
 
 pub weight_sums_spec : {M : Type 1} → statement M
 weight_sums_spec =

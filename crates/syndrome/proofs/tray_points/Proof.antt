@@ -4,16 +4,16 @@ use borrow.Author.Rules.{rules}
 use Rattle.syndrome.proofs.tray_points.Statement.{statement}
 use Rattle.syndrome.proofs.tray_points.Tie as tie
 
-point_power_requires : tie.Need-point-power-requires
+point_power_requires : tie.Need-point_power-p-requires
 point_power_requires c κs = search rules
 
 div_digit_powers : tie.Need-nonzero-div-digit-powers
 div_digit_powers c = search size_of
 
-digit_powers_requires : tie.Need-digit-powers-requires
+digit_powers_requires : tie.Need-digit_powers-requires
 digit_powers_requires c κs = (search rules, search rack_of_lem, search rules)
 
-same_length : tie.Need-same-length
+same_length : tie.Need-shape_of-row
 same_length c = search rules
 
 returns : tie.Need-returns

@@ -12,15 +12,15 @@ use Rattle.syndrome.proofs.Points.{power_run_start, power_run_value, power_run_n
 use Rattle.syndrome257.proofs.power_runs.Statement.{statement}
 use Rattle.syndrome257.proofs.power_runs.Tie as tie
 
-abbrev invariant-loop : tie.invariant-loop
-invariant-loop row₀ run s first z a₀ v₀ row a v = (a ≤ s) × (length row ≡ length row₀) × (v ≡ times_power gf257 z first a) × Run (power_run gf257 z first run) row₀ row 0 (a * run)
+abbrev invariant-loop-a : tie.invariant-loop-a
+invariant-loop-a row₀ run s first z a₀ v₀ row a v = (a ≤ s) × (length row ≡ length row₀) × (v ≡ times_power gf257 z first a) × Run (power_run gf257 z first run) row₀ row 0 (a * run)
 
-abbrev decreases-loop : tie.decreases-loop
-decreases-loop row₀ run s first z a₀ v₀ row a v = s - a
+abbrev decreases-loop-a : tie.decreases-loop-a
+decreases-loop-a row₀ run s first z a₀ v₀ row a v = s - a
 
 pub power_runs_spec : {M : Type 1} → statement M
 power_runs_spec =
-    tie.close (tie.spec invariant-loop decreases-loop
+    tie.close (tie.spec invariant-loop-a decreases-loop-a
     (λ c. (omega arith, refl, power_run_start working _ _, power_run_none working _ _ _ _))
     (λ c. search power_run_fits)
     (λ c κs. search power_run_in)

@@ -12,15 +12,15 @@ use Rattle.syndrome.proofs.Sums.{sums_none, sums_more, sums_end, sums_fits, sums
 use Rattle.syndrome257.proofs.sum_kept.Statement.{statement}
 use Rattle.syndrome257.proofs.sum_kept.Tie as tie
 
-abbrev invariant-loop : tie.invariant-loop
-invariant-loop sums₀ l w first r c es cur₀ row₀ n x₀ sums cur row x = (x ≤ n) × (length sums ≡ length sums₀) × (length cur ≡ length cur₀) × (length row ≡ length row₀) × Sums gf257 l w first r c es x sums
+abbrev invariant-loop-x : tie.invariant-loop-x
+invariant-loop-x sums₀ l w first r c es cur₀ row₀ n x₀ sums cur row x = (x ≤ n) × (length sums ≡ length sums₀) × (length cur ≡ length cur₀) × (length row ≡ length row₀) × Sums gf257 l w first r c es x sums
 
-abbrev decreases-loop : tie.decreases-loop
-decreases-loop sums₀ l w first r c es cur₀ row₀ n x₀ sums cur row x = n - x
+abbrev decreases-loop-x : tie.decreases-loop-x
+decreases-loop-x sums₀ l w first r c es cur₀ row₀ n x₀ sums cur row x = n - x
 
 pub sum_kept_spec : {M : Type 1} → statement M
 sum_kept_spec =
-    tie.close (tie.spec invariant-loop decreases-loop
+    tie.close (tie.spec invariant-loop-x decreases-loop-x
     (λ c κs. search rules)
     (λ c. search sums_fits)
     (λ c κs. search sums_in)
@@ -29,8 +29,8 @@ sum_kept_spec =
     let c1 = c.before.before.before.before in
     let c2 = c1.before.before.before.before.before.before.before.before.before.before.before in (
       search rules,
-      room_next c2.args.w c2.args.r c2.args.sums.now c2.args.cur.now c2.args.row.now c1.loop.sums
-          c1.loop.cur c1.loop.row c2.requires.1 (search rules) c1.loop.invariant.2 c1.loop.invariant.3,
+      room_next c2.args.w c2.args.r c2.args.sums.now c2.args.cur.now c2.args.row.now c1.loop-x.sums
+          c1.loop-x.cur c1.loop-x.row c2.requires.1 (search rules) c1.loop-x.invariant.2 c1.loop-x.invariant.3,
       search rules,
       search rules,
       omega arith,

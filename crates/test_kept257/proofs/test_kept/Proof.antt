@@ -18,19 +18,19 @@ test_kept_spec =
     (λ c.
     let c1 = c.before.before.before.before in
     let a = c1.before.before.before.before.args in
-    sound working a.l a.erased.now a.c.now _ c1.before.refusal.ensures c1.if1.false _ c.before.all_fit.ensures _
-    c.before.before.check-count.ensures c.if2.true)
+    sound working a.l a.erased.now a.c.now _ c1.before.refusal-ground.ensures c1.if-ground-ne0.false _ c.before.all_fit.ensures _
+    c.before.before.check_count.ensures c.if-all_fit.true)
     (λ c κs.
     let c1 = c.before.before.before.before in
     let a = c1.before.before.before.before.args in (
       search (erasing working),
-      not_all working a.l a.erased.now a.c.now _ c1.before.refusal.ensures c1.if1.false _
-          c.before.all_fit.ensures c.if2.false,
+      not_all working a.l a.erased.now a.c.now _ c1.before.refusal-ground.ensures c1.if-ground-ne0.false _
+          c.before.all_fit.ensures c.if-all_fit.false,
     ))
     (λ c. search rules)
     (λ c κs. search rules)
     (λ c.
     let c1 = c.before.before.before.before.before.before in
     let a = c1.before.before.before.before.args in
-    bad working a.l a.erased.now a.c.now _ c1.before.refusal.ensures c1.if1.false _ _ _
-    c.before.before.before.before.check-count.ensures c.of.ensures c.before.bad_layer.ensures))
+    bad working a.l a.erased.now a.c.now _ c1.before.refusal-ground.ensures c1.if-ground-ne0.false _ _ _
+    c.before.before.before.before.check_count.ensures c.of.ensures c.before.bad_layer.ensures))

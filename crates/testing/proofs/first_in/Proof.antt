@@ -11,11 +11,11 @@ use Rattle.testing.proofs.Blocks.{zero_so, zero_not}
 use Rattle.testing.proofs.first_in.Statement.{statement}
 use Rattle.testing.proofs.first_in.Tie as tie
 
-abbrev invariant-loop : tie.invariant-loop
-invariant-loop sums w r j t₀ t = (t ≤ r) × ((v : ℕ) → v < t → reduced gf256 (get_or sums (v * w + j) 0) ≡ 0)
+abbrev invariant-loop-t : tie.invariant-loop-t
+invariant-loop-t sums w r j t₀ t = (t ≤ r) × ((v : ℕ) → v < t → reduced gf256 (get_or sums (v * w + j) 0) ≡ 0)
 
-abbrev decreases-loop : tie.decreases-loop
-decreases-loop sums w r j t₀ t = r - t
+abbrev decreases-loop-t : tie.decreases-loop-t
+decreases-loop-t sums w r j t₀ t = r - t
 
 abbrev invariant-layers : tie.invariant-layers
 invariant-layers sums w r j₀ t₀ j t = (j ≤ w) × ((i : ℕ) → i < j → (v : ℕ) → v < r → reduced gf256 (get_or sums (v * w + i) 0) ≡ 0)
@@ -24,14 +24,14 @@ abbrev decreases-layers : tie.decreases-layers
 decreases-layers sums w r j₀ t₀ j t = w - j
 
 -- the place read in a turn
-inside : (c : tie.In-loop invariant-loop decreases-loop invariant-layers decreases-layers) → let a = c.before.before.before.before.before.args in c.before.loop.t * a.w +
+inside : (c : tie.In-loop-t invariant-loop-t decreases-loop-t invariant-layers decreases-layers) → let a = c.before.before.before.before.before.args in c.before.loop-t.t * a.w +
     c.before.before.before.layers.j < length a.sums.now
-inside c = let a = c.before.before.before.before.before.args in sum_in a.sums.now a.w a.r c.before.loop.t c.before.before.before.layers.j
-    c.before.before.before.before.before.requires c.loop-test.true c.before.before.layers-test.true
+inside c = let a = c.before.before.before.before.before.args in sum_in a.sums.now a.w a.r c.before.loop-t.t c.before.before.before.layers.j
+    c.before.before.before.before.before.requires c.loop-t-test.true c.before.before.layers-test.true
 
 pub first_in_spec : {M : Type 1} → statement M
 first_in_spec =
-    tie.close (tie.spec invariant-loop decreases-loop invariant-layers decreases-layers
+    tie.close (tie.spec invariant-loop-t decreases-loop-t invariant-layers decreases-layers
     (λ c. (omega arith, λ i h. absurd (not-suc-le-zero h)))
     (λ c. (omega arith, λ v h. absurd (not-suc-le-zero h)))
     (λ c. omega (arith, inside c))
@@ -39,10 +39,10 @@ first_in_spec =
     (λ c κs. inside c)
     (λ c. omega arith)
     (λ c. omega arith)
-    (λ c. (omega arith, below_more _ _ c.before.before.before.loop.invariant.1 (zero_so _ _ c.before.is_zero.ensures c.if1.false)))
+    (λ c. (omega arith, below_more _ _ c.before.before.before.loop-t.invariant.1 (zero_so _ _ c.before.is_zero.ensures c.if-not-is_zero.false-raw)))
     (λ c. omega arith)
     (λ c. omega arith)
-    (λ c. (omega arith, below_more _ _ c.before.before.before.layers.invariant.1 (λ v h. c.before.loop.invariant.1 v (omega arith))))
+    (λ c. (omega arith, below_more _ _ c.before.before.before.layers.invariant.1 (λ v h. c.before.loop-t.invariant.1 v (omega arith))))
     (λ c. record {
       column_in = omega arith;
       earlier = c.before.layers.invariant.1;
@@ -54,6 +54,6 @@ first_in_spec =
       column_in = omega arith;
       earlier = c.before.before.before.before.before.layers.invariant.1;
       check_in = λ h. omega arith;
-      broken = λ h. zero_not _ _ c.before.is_zero.ensures c.if1.true;
-      below = λ h. c.before.before.before.loop.invariant.1;
+      broken = λ h. zero_not _ _ c.before.is_zero.ensures c.if-not-is_zero.true-raw;
+      below = λ h. c.before.before.before.loop-t.invariant.1;
     }))

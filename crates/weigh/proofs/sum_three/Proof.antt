@@ -10,15 +10,15 @@ use Rattle.weigh.proofs.Bits.{three_more}
 use Rattle.weigh.proofs.sum_three.Statement.{statement}
 use Rattle.weigh.proofs.sum_three.Tie as tie
 
-abbrev invariant-loop : tie.invariant-loop
-invariant-loop out₀ len src from gap p q j₀ out j = (j ≤ len) × (length out ≡ length out₀) × Run (three src from gap p q) out₀ out 0 j
+abbrev invariant-loop-j : tie.invariant-loop-j
+invariant-loop-j out₀ len src from gap p q j₀ out j = (j ≤ len) × (length out ≡ length out₀) × Run (three src from gap p q) out₀ out 0 j
 
-abbrev decreases-loop : tie.decreases-loop
-decreases-loop out₀ len src from gap p q j₀ out j = len - j
+abbrev decreases-loop-j : tie.decreases-loop-j
+decreases-loop-j out₀ len src from gap p q j₀ out j = len - j
 
 pub sum_three_spec : {M : Type 1} → statement M
 sum_three_spec =
-    tie.close (tie.spec invariant-loop decreases-loop
+    tie.close (tie.spec invariant-loop-j decreases-loop-j
     (λ c. (omega arith, refl, run_none _ _ _))
     (λ c. omega arith)
     (λ c. omega arith)

@@ -8,15 +8,15 @@ use borrow.Author.Rules.{rules}
 use Rattle.box_recover.proofs.lagrange.through.Statement.{statement}
 use Rattle.box_recover.proofs.lagrange.through.Tie as tie
 
-abbrev invariant-loop : tie.invariant-loop
-invariant-loop points values x sum₀ i₀ sum i = (i ≤ length points) × Sums (through_term points values (elem x)) i sum
+abbrev invariant-loop-i : tie.invariant-loop-i
+invariant-loop-i points values x sum₀ i₀ sum i = (i ≤ length points) × Sums (through_term points values (elem x)) i sum
 
-abbrev decreases-loop : tie.decreases-loop
-decreases-loop points values x sum₀ i₀ sum i = length points - i
+abbrev decreases-loop-i : tie.decreases-loop-i
+decreases-loop-i points values x sum₀ i₀ sum i = length points - i
 
 pub through_spec : {M : Type 1} → statement M
 through_spec =
-    tie.close (tie.spec invariant-loop decreases-loop
+    tie.close (tie.spec invariant-loop-i decreases-loop-i
     (λ c. (omega arith, sums_none _))
     (λ c. search rules)
     (λ c κs. search rules)
@@ -26,8 +26,8 @@ through_spec =
     (λ c.
     let a = c.before.before.before.before.before.before.before.args in (
       omega arith,
-      sums_more (through_term a.points.now a.values.now (elem a.x)) c.before.before.before.before.loop.i _ _ _ _
-          c.before.before.before.before.loop.invariant.1 c.add-product.ensures
-          (through_term_lem a.points.now a.values.now (elem a.x) c.before.before.before.before.loop.i _ c.before.weight.ensures),
+      sums_more (through_term a.points.now a.values.now (elem a.x)) c.before.before.before.before.loop-i.i _ _ _ _
+          c.before.before.before.before.loop-i.invariant.1 c.add_product-sum.ensures
+          (through_term_lem a.points.now a.values.now (elem a.x) c.before.before.before.before.loop-i.i _ c.before.weight.ensures),
     ))
-    (λ c. let a = c.before.before.before.before.args in through_end a.points.now a.values.now (elem a.x) c.before.loop.i _ (omega arith) c.before.loop.invariant.1))
+    (λ c. let a = c.before.before.before.before.args in through_end a.points.now a.values.now (elem a.x) c.before.loop-i.i _ (omega arith) c.before.loop-i.invariant.1))

@@ -9,15 +9,15 @@ use borrow.Author.Rules.{rules}
 use Rattle.box_recover.proofs.lagrange.weight.Statement.{statement}
 use Rattle.box_recover.proofs.lagrange.weight.Tie as tie
 
-abbrev invariant-loop : tie.invariant-loop
-invariant-loop points i x own product₀ j₀ product j = (j ≤ length points) × (elem product ≡ weight_at points i (elem x) j)
+abbrev invariant-loop-j : tie.invariant-loop-j
+invariant-loop-j points i x own product₀ j₀ product j = (j ≤ length points) × (elem product ≡ weight_at points i (elem x) j)
 
-abbrev decreases-loop : tie.decreases-loop
-decreases-loop points i x own product₀ j₀ product j = length points - j
+abbrev decreases-loop-j : tie.decreases-loop-j
+decreases-loop-j points i x own product₀ j₀ product j = length points - j
 
 pub weight_spec : {M : Type 1} → statement M
 weight_spec =
-    tie.close (tie.spec invariant-loop decreases-loop
+    tie.close (tie.spec invariant-loop-j decreases-loop-j
     (λ c. search rules)
     (λ c. (omega arith, weight_none _ _ _))
     (λ c. search rules)
@@ -25,5 +25,5 @@ weight_spec =
     (λ c. search rules)
     (λ c. search rules)
     (λ c. let a = c.before.before.before.before.before.before.args in
-    (omega arith, weight_more a.points.now a.i (elem a.x) c.before.before.before.loop.j _ _ c.before.before.before.loop.invariant.1 c.factor.ensures))
-    (λ c. let a = c.before.before.before.before.args in weight_end a.points.now a.i (elem a.x) c.before.loop.j _ (omega arith) c.before.loop.invariant.1))
+    (omega arith, weight_more a.points.now a.i (elem a.x) c.before.before.before.loop-j.j _ _ c.before.before.before.loop-j.invariant.1 c.factor-product.ensures))
+    (λ c. let a = c.before.before.before.before.args in weight_end a.points.now a.i (elem a.x) c.before.loop-j.j _ (omega arith) c.before.loop-j.invariant.1))

@@ -11,15 +11,15 @@ use Rattle.columns.proofs.Dividing.{scale_more}
 use Rattle.columns.proofs.runs.scale.Statement.{statement}
 use Rattle.columns.proofs.runs.scale.Tie as tie
 
-abbrev invariant-loop : tie.invariant-loop
-invariant-loop out₀ to len by at j₀ out j = (j ≤ len) × (length out ≡ length out₀) × Run (scaled gf256 out₀ to by at) out₀ out to j
+abbrev invariant-loop-j : tie.invariant-loop-j
+invariant-loop-j out₀ to len by at j₀ out j = (j ≤ len) × (length out ≡ length out₀) × Run (scaled gf256 out₀ to by at) out₀ out to j
 
-abbrev decreases-loop : tie.decreases-loop
-decreases-loop out₀ to len by at j₀ out j = len - j
+abbrev decreases-loop-j : tie.decreases-loop-j
+decreases-loop-j out₀ to len by at j₀ out j = len - j
 
 pub scale_spec : {M : Type 1} → statement M
 scale_spec =
-    tie.close (tie.spec invariant-loop decreases-loop
+    tie.close (tie.spec invariant-loop-j decreases-loop-j
     (λ c. (omega arith, refl, run_none _ _ _))
     (λ c. omega arith)
     (λ c. omega arith)

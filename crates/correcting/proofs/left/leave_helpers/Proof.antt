@@ -8,17 +8,17 @@ use Rattle.correcting.specs.Inner.{past_one}
 use Rattle.correcting.proofs.left.leave_helpers.Statement.{statement}
 use Rattle.correcting.proofs.left.leave_helpers.Tie as tie
 
-abbrev invariant-loop : tie.invariant-loop
-invariant-loop out₀ helpers k i₀ out i = (i ≤ length out₀) × (length out ≡ length out₀) × ((q : ℕ) → q < i → get_or out q 0 ≡ get_or helpers (past_one k q) 0)
+abbrev invariant-loop-i : tie.invariant-loop-i
+invariant-loop-i out₀ helpers k i₀ out i = (i ≤ length out₀) × (length out ≡ length out₀) × ((q : ℕ) → q < i → get_or out q 0 ≡ get_or helpers (past_one k q) 0)
 
-abbrev decreases-loop : tie.decreases-loop
-decreases-loop out₀ helpers k i₀ out i = length out₀ - i
+abbrev decreases-loop-i : tie.decreases-loop-i
+decreases-loop-i out₀ helpers k i₀ out i = length out₀ - i
 
 pub leave_helpers_spec : {M : Type 1} → statement M
 leave_helpers_spec =
     tie.close (tie.spec
-    invariant-loop
-    decreases-loop
+    invariant-loop-i
+    decreases-loop-i
     (λ c. (omega arith, refl, λ q l. absurd (omega arith)))
     (λ c κs. omega arith)
     (λ c.
@@ -26,13 +26,13 @@ leave_helpers_spec =
     let c2 = c1.before.before.before in
     let a = c2.args in
     let p = c2.requires in
-    helper_fits a.k c1.loop.i _ a.out.now a.helpers.now p.0 p.1 (omega arith) c.past.ensures)
+    helper_fits a.k c1.loop-i.i _ a.out.now a.helpers.now p.0 p.1 (omega arith) c.past.ensures)
     (λ c.
     let c1 = c.before in
     let c2 = c1.before.before in
     let c3 = c2.before.before.before in
     let a = c3.args in
-    helper_there a.k c2.loop.i _ a.out.now a.helpers.now c3.requires.0 (omega arith) c1.past.ensures)
+    helper_there a.k c2.loop-i.i _ a.out.now a.helpers.now c3.requires.0 (omega arith) c1.past.ensures)
     (λ c. search rules)
     (λ c. omega arith)
     (λ c. search rules)
@@ -44,7 +44,7 @@ leave_helpers_spec =
     let a = c3.args in (
       omega arith,
       simp length-set (omega arith),
-      left_more a.k c2.loop.i _ c2.loop.out a.helpers.now c2.loop.invariant.2 (omega arith) c1.past.ensures,
+      left_more a.k c2.loop-i.i _ c2.loop-i.out a.helpers.now c2.loop-i.invariant.2 (omega arith) c1.past.ensures,
     ))
-    (λ c. c.before.loop.invariant.1)
-    (λ c. let c1 = c.before in record { long = c1.loop.invariant.1; at = λ i q. c1.loop.invariant.2 i (omega arith) }))
+    (λ c. c.before.loop-i.invariant.1)
+    (λ c. let c1 = c.before in record { long = c1.loop-i.invariant.1; at = λ i q. c1.loop-i.invariant.2 i (omega arith) }))

@@ -31,4 +31,4 @@ leave_shares_spec =
     let c3 = c2.before.before.before.before in
     let a = c3.args in
     let p = c3.requires in
-    shares_left a.k a.n a.each a.shares.now a.out.now p.0 p.2 p.3 _ _ c2.copy.ensures c1.copy2.ensures))
+    shares_left a.k a.n a.each a.shares.now a.out.now p.0 p.2 p.3 _ _ c2.copy.ensures c1.copy-2.ensures))

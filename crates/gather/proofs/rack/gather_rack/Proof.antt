@@ -13,16 +13,16 @@ gather_rack_spec =
     (λ c.
     let a = c.before.before.before.before.before.before.args in
     answer_kept edition1 a.l a.volume a.rack.0 a.lost.now a.images.now a.out.now _
-    c.before.before.number.ensures _
-    c.before.refusal.ensures c.if1.true)
+    c.before.before.number-i.ensures _
+    c.before.refusal-ground.ensures c.if-ground-ne0.true)
     (λ c κs.
     let a = c.before.before.before.before.before.before.before.args in
-    rack_room edition1 a.l a.volume c.before.before.before.number.result a.lost.now a.images.now a.out.now _
-    c.before.before.refusal.ensures c.before.if1.false)
+    rack_room edition1 a.l a.volume c.before.before.before.number-i.result a.lost.now a.images.now a.out.now _
+    c.before.before.refusal-ground.ensures c.before.if-ground-ne0.false)
     (λ c. search rules)
     (λ c.
     let a = c.before.before.before.before.before.before.before.before.before.before.args in
     answer_done edition1 a.l a.volume a.rack.0 a.lost.now a.images.now a.out.now _
-    c.before.before.before.before.before.before.number.ensures _
-    c.before.before.before.before.before.refusal.ensures c.before.before.before.before.if1.false _
-    c.before.before.take-rack.ensures))
+    c.before.before.before.before.before.before.number-i.ensures _
+    c.before.before.before.before.before.refusal-ground.ensures c.before.before.before.before.if-ground-ne0.false _
+    c.before.before.take_rack.ensures))

@@ -7,18 +7,18 @@ use Rattle.gather.proofs.Racks.{first_low, place_read, lowest_none, lowest_more,
 use Rattle.gather.proofs.rack.lowest_ground.Statement.{statement}
 use Rattle.gather.proofs.rack.lowest_ground.Tie as tie
 
-abbrev invariant-loop : tie.invariant-loop
-invariant-loop l volume rack lost images u first lowest₀ g₀ lowest g = (g ≤ u) × Lowest edition1 l volume rack lost images g lowest
+abbrev invariant-loop-g : tie.invariant-loop-g
+invariant-loop-g l volume rack lost images u first lowest₀ g₀ lowest g = (g ≤ u) × Lowest edition1 l volume rack lost images g lowest
 
-abbrev decreases-loop : tie.decreases-loop
-decreases-loop l volume rack lost images u first lowest₀ g₀ lowest g = u - g
+abbrev decreases-loop-g : tie.decreases-loop-g
+decreases-loop-g l volume rack lost images u first lowest₀ g₀ lowest g = u - g
 
 pub lowest_ground_spec : {M : Type 1} → statement M
 lowest_ground_spec =
     tie.close
     (tie.spec
-    invariant-loop
-    decreases-loop
+    invariant-loop-g
+    decreases-loop-g
     (λ c. let a = c.before.before.args in let h = first_low edition1 a.l a.rack a.images.now c.before.before.requires in
     omega arith)
     (λ c. (omega arith, lowest_none _ _ _ _ _ _))

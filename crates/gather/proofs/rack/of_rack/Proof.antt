@@ -8,26 +8,26 @@ use Rattle.gather.proofs.Racks.{OfRackTo, rack_false, rack_true}
 use Rattle.gather.proofs.rack.of_rack.Statement.{statement}
 use Rattle.gather.proofs.rack.of_rack.Tie as tie
 
-abbrev invariant-loop : tie.invariant-loop
-invariant-loop u rack lost k₀ k = (k ≤ length lost) × OfRackTo u rack lost k
+abbrev invariant-loop-k : tie.invariant-loop-k
+invariant-loop-k u rack lost k₀ k = (k ≤ length lost) × OfRackTo u rack lost k
 
-abbrev decreases-loop : tie.decreases-loop
-decreases-loop u rack lost k₀ k = length lost - k
+abbrev decreases-loop-k : tie.decreases-loop-k
+decreases-loop-k u rack lost k₀ k = length lost - k
 
 pub of_rack_spec : {M : Type 1} → statement M
 of_rack_spec =
     tie.close
     (tie.spec
-    invariant-loop
-    decreases-loop
+    invariant-loop-k
+    decreases-loop-k
     (λ c. (omega arith, below_none _))
     (λ c. search rules)
     (λ c. search rules)
     (λ c. search rules)
     (λ c. let a = c.before.before.before.before.args in
-    rack_false a.u a.rack a.lost.now c.before.before.before.loop.k (omega arith) c.if1.true)
+    rack_false a.u a.rack a.lost.now c.before.before.before.loop-k.k (omega arith) c.if-lost-k.true)
     (λ c. search rules)
     (λ c. search rules)
-    (λ c. (omega arith, below_more _ _ c.before.before.before.loop.invariant.1 (eq-eqb _ _ c.if1.false)))
+    (λ c. (omega arith, below_more _ _ c.before.before.before.loop-k.invariant.1 (eq-eqb _ _ c.if-lost-k.false)))
     (λ c. let a = c.before.before.args in
-    rack_true a.u a.rack a.lost.now c.before.loop.k (omega arith) c.before.loop.invariant.1))
+    rack_true a.u a.rack a.lost.now c.before.loop-k.k (omega arith) c.before.loop-k.invariant.1))

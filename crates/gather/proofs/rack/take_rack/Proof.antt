@@ -7,18 +7,18 @@ use Rattle.gather.proofs.Racks.{first_low, rack_none, rack_more, rack_place, rac
 use Rattle.gather.proofs.rack.take_rack.Statement.{statement}
 use Rattle.gather.proofs.rack.take_rack.Tie as tie
 
-abbrev invariant-loop : tie.invariant-loop
-invariant-loop l rack lost images out₀ u first total g₀ out g = (g ≤ u) × RackTaken edition1 l rack lost images out₀ out g
+abbrev invariant-loop-g : tie.invariant-loop-g
+invariant-loop-g l rack lost images out₀ u first total g₀ out g = (g ≤ u) × RackTaken edition1 l rack lost images out₀ out g
 
-abbrev decreases-loop : tie.decreases-loop
-decreases-loop l rack lost images out₀ u first total g₀ out g = u - g
+abbrev decreases-loop-g : tie.decreases-loop-g
+decreases-loop-g l rack lost images out₀ u first total g₀ out g = u - g
 
 pub take_rack_spec : {M : Type 1} → statement M
 take_rack_spec =
     tie.close
     (tie.spec
-    invariant-loop
-    decreases-loop
+    invariant-loop-g
+    decreases-loop-g
     (λ c. let a = c.before.before.before.args in
     let h = first_low edition1 a.l a.rack a.images.now c.before.before.before.requires.read in omega arith)
     (λ c κs. c.before.before.before.requires.read.adm)
@@ -31,5 +31,5 @@ take_rack_spec =
     (λ c. search rules)
     (λ c. search rules)
     (λ c. (omega arith, search rack_more))
-    (λ c. c.before.loop.invariant.1.long)
+    (λ c. c.before.loop-g.invariant.1.long)
     (λ c. search rack_end))

@@ -13,31 +13,31 @@ use borrow.Author.Rules.{rules}
 use Rattle.gather257.proofs.states.refusal.Statement.{statement}
 use Rattle.gather257.proofs.states.refusal.Tie as tie
 
-adm : (c : tie.Else1) → admissible edition2.order c.before.before.args.l ≡ true
-adm c = told_true c.before.admitted.ensures c.if1.false
+adm : (c : tie.Else-not-admitted) → admissible edition2.order c.before.before.args.l ≡ true
+adm c = told_true c.before.admitted.ensures c.if-not-admitted.false-raw
 
-facts : (c : tie.Else1) → Cabinet c.before.before.args.l
+facts : (c : tie.Else-not-admitted) → Cabinet c.before.before.args.l
 facts c = (admissible_facts edition2.order _ (adm c)).cabinet
 
-long : (c : tie.Else2) → let a = c.before.before.before.before.before.args in a.images ≡ trays a.l * image_length edition2 a.l
-long c = c.if2.false ∙ ap₂ ◌*◌ c.before.before.tray-count.ensures c.before.image-length.ensures
+long : (c : tie.Else-images-n) → let a = c.before.before.before.before.before.args in a.images ≡ trays a.l * image_length edition2 a.l
+long c = c.if-images-n.false ∙ ap₂ ◌*◌ c.before.before.tray_count-n.ensures c.before.image_length.ensures
 
 pub refusal_spec : {M : Type 1} → statement M
 refusal_spec =
     tie.close
     (tie.spec
     (λ c κs. search rules)
-    (λ c. states_1 edition2 _ _ _ (told_false c.before.admitted.ensures c.if1.true))
+    (λ c. states_1 edition2 _ _ _ (told_false c.before.admitted.ensures c.if-not-admitted.true-raw))
     (λ c κs. facts c)
     (λ c. search rules)
     (λ c κs. facts c.before)
     (λ c.
     let a = facts c.before.before in
-    record { fits = mul_below 60 8216 (omega (arith, c.before.tray-count.ensures)) (omega (arith, c.image-length.ensures)) tt })
+    record { fits = mul_below 60 8216 (omega (arith, c.before.tray_count-n.ensures)) (omega (arith, c.image_length.ensures)) tt })
     (λ c.
     states_2_images edition2 _ _ _ (adm c.before.before.before)
-    (λ e. c.if2.true (e ∙ sym (ap₂ ◌*◌ c.before.before.tray-count.ensures c.before.image-length.ensures))))
+    (λ e. c.if-images-n.true (e ∙ sym (ap₂ ◌*◌ c.before.before.tray_count-n.ensures c.before.image_length.ensures))))
     (λ c. states_2_room edition2 _ _ _ (adm c.before.before.before.before) (long c.before)
-    (λ e. c.if3.true (e ∙ sym c.before.before.before.tray-count.ensures)))
+    (λ e. c.if-room-n.true (e ∙ sym c.before.before.before.tray_count-n.ensures)))
     (λ c. states_0 edition2 _ _ _ (adm c.before.before.before.before) (long c.before)
-    (c.if3.false ∙ c.before.before.before.tray-count.ensures)))
+    (c.if-room-n.false ∙ c.before.before.before.tray_count-n.ensures)))

@@ -9,18 +9,18 @@ use Rattle.gather.proofs.Counted.{state_place, states_more, states_all}
 use Rattle.gather257.proofs.states.write_states.Statement.{statement}
 use Rattle.gather257.proofs.states.write_states.Tie as tie
 
-abbrev invariant-loop : tie.invariant-loop
-invariant-loop l volume images states₀ n x₀ states x = (x ≤ n) × Upto (tray_state edition2 l volume images) states₀ states x
+abbrev invariant-loop-x : tie.invariant-loop-x
+invariant-loop-x l volume images states₀ n x₀ states x = (x ≤ n) × Upto (tray_state edition2 l volume images) states₀ states x
 
-abbrev decreases-loop : tie.decreases-loop
-decreases-loop l volume images states₀ n x₀ states x = n - x
+abbrev decreases-loop-x : tie.decreases-loop-x
+decreases-loop-x l volume images states₀ n x₀ states x = n - x
 
 pub write_states_spec : {M : Type 1} → statement M
 write_states_spec =
     tie.close
     (tie.spec
-    invariant-loop
-    decreases-loop
+    invariant-loop-x
+    decreases-loop-x
     (λ c κs. search rules)
     (λ c. (omega arith, upto_none _ _))
     (λ c κs. search state_place)

@@ -12,15 +12,15 @@ copy_tray_spec =
     (tie.spec
     (λ c κs. search rules)
     (λ c. let a = c.before.before.before.args in
-    let h = place_in edition2 a.l a.images.now a.place _ c.image-length.ensures c.before.before.before.requires.read in
+    let h = place_in edition2 a.l a.images.now a.place _ c.image_length-size.ensures c.before.before.before.requires.read in
     omega arith)
     (λ c. let a = c.before.before.before.args in
-    let h = place_in edition2 a.l a.images.now a.place _ c.image-length.ensures c.before.before.before.requires.read in
+    let h = place_in edition2 a.l a.images.now a.place _ c.image_length-size.ensures c.before.before.before.requires.read in
     omega arith)
     (λ c. search rules)
     (λ c. search rules)
     (λ c. let a = c.before.before.before.args in
-    let h = place_in edition2 a.l a.images.now a.place _ c.image-length.ensures c.before.before.before.requires.read in
+    let h = place_in edition2 a.l a.images.now a.place _ c.image_length-size.ensures c.before.before.before.requires.read in
     omega arith)
     (λ c. search rules)
     (λ c κs. search rules)

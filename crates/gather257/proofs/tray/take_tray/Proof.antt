@@ -16,12 +16,12 @@ take_tray_spec =
     (λ c.
     let a = c.before.before.before.before.before.before.before.before.args in
     absent_taken edition2 a.l a.volume a.images.now a.x a.out.now _ _ a.total _
-    c.before.before.before.before.before.tray-ground.ensures
-    c.before.before.before.before.if1.true c.before.before.fill.ensures)
+    c.before.before.before.before.before.tray_ground.ensures
+    c.before.before.before.before.if-tray_ground-ne0.true c.before.before.fill.ensures)
     (λ c κs. search rules)
     (λ c. search rules)
     (λ c.
     let a = c.before.before.before.before.before.before.before.before.args in
     present_taken edition2 a.l a.volume a.images.now a.x a.out.now _ _ a.total _
-    c.before.before.before.before.before.tray-ground.ensures
-    c.before.before.before.before.if1.false c.before.before.copy-tray.ensures))
+    c.before.before.before.before.before.tray_ground.ensures
+    c.before.before.before.before.if-tray_ground-ne0.false c.before.before.copy_tray.ensures))

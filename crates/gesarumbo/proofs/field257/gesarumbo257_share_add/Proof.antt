@@ -14,5 +14,5 @@ gesarumbo257_share_add_spec =
     (λ c. search rules)
     (λ c.
     let h = c.before.before.before.before.before.of.ensures in
-    let i = c.before.before.before.before.of2.ensures in
+    let i = c.before.before.before.before.of-2.ensures in
     rw (sym h, sym i) c.before.before.share_add.ensures))

@@ -15,8 +15,8 @@ own_layout_spec =
     (λ c i.
     record {
       racks = c.before.before.before.before.byte_at.ensures.0 i;
-      size = c.before.before.before.byte-at2.ensures.0 i;
-      dimension = c.before.before.byte-at3.ensures.0 i;
-      helpers = c.before.byte-at4.ensures.0 i;
-      errors = c.byte-at5.ensures.0 i;
+      size = c.before.before.before.byte_at-2.ensures.0 i;
+      dimension = c.before.before.byte_at-3.ensures.0 i;
+      helpers = c.before.byte_at-4.ensures.0 i;
+      errors = c.byte_at-5.ensures.0 i;
     }))

@@ -26,6 +26,6 @@ add_part_spec =
     let c3 = c2.before.before.before.before.before.before.before.before in
     let c4 = c3.before.before.before.before.before.before.before.before.before.before in
     let a = c4.args in (
-      part_added working a.l a.h a.w a.first a.helpers.now a.shares.now a.k _ _ _ _ _ c3.own_points.ensures c2.share_gaps.ensures c1.add-terms.ensures,
+      part_added working a.l a.h a.w a.first a.helpers.now a.shares.now a.k _ _ _ _ _ c3.own_points.ensures c2.share_gaps.ensures c1.add_terms.ensures,
       c3.own_points.ensures.unknowns,
     )))

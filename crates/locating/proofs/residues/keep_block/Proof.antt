@@ -15,7 +15,7 @@ keep_block_spec =
     let a = c2.args in
     let p = c2.requires in (
       p.3,
-      row_second a.l a.h a.w a.at a.helpers.now a.shares.now a.sides.now a.points.now a.cur.now a.prod.now a.row.now c1.block-residues.new.0 p.0 c1.block-residues.auto.0,
+      row_second a.l a.h a.w a.at a.helpers.now a.shares.now a.sides.now a.points.now a.cur.now a.prod.now a.row.now c1.block_residues.new.0 p.0 c1.block_residues.auto.0,
     ))
     (λ c. search rules)
     (λ c. search rules)
@@ -30,4 +30,4 @@ keep_block_spec =
     let c3 = c2.before.before.before.before.before.before.before.before.before.before.before.before.before in
     let c4 = c3.before.before.before.before.before.before.before.before.before.before.before.before.before.before.before in
     let a = c4.args in
-    kept_more working a.l a.h a.helpers.now a.shares.now a.at a.w _ _ _ _ _ c4.requires.1 c3.block-residues.ensures c2.copy.ensures c1.copy2.ensures))
+    kept_more working a.l a.h a.helpers.now a.shares.now a.at a.w _ _ _ _ _ c4.requires.1 c3.block_residues.ensures c2.copy.ensures c1.copy-2.ensures))

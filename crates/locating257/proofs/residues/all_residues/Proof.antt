@@ -11,24 +11,24 @@ use Rattle.locating.proofs.Blocks.{kept_none, kept_end, rows_few, rows_fit, with
 use Rattle.locating257.proofs.residues.all_residues.Statement.{statement}
 use Rattle.locating257.proofs.residues.all_residues.Tie as tie
 
-abbrev invariant-loop : tie.invariant-loop
-invariant-loop zeroth₀ first₀ l h helpers shares sides₀ points₀ cur₀ prod₀ row₀ total rows p₀ zeroth first sides points cur prod row p =
+abbrev invariant-loop-p : tie.invariant-loop-p
+invariant-loop-p zeroth₀ first₀ l h helpers shares sides₀ points₀ cur₀ prod₀ row₀ total rows p₀ zeroth first sides points cur prod row p =
     (p ≤ total) × (length zeroth ≡ length zeroth₀) × (length first ≡ length first₀) × (length sides ≡ length sides₀) × (length points ≡ length points₀) ×
     (length cur ≡ length cur₀) × (length prod ≡ length prod₀) × (length row ≡ length row₀) × Kept gf257 l h helpers shares p zeroth first
 
-abbrev decreases-loop : tie.decreases-loop
-decreases-loop zeroth₀ first₀ l h helpers shares sides₀ points₀ cur₀ prod₀ row₀ total rows p₀ zeroth first sides points cur prod row p = total - p
+abbrev decreases-loop-p : tie.decreases-loop-p
+decreases-loop-p zeroth₀ first₀ l h helpers shares sides₀ points₀ cur₀ prod₀ row₀ total rows p₀ zeroth first sides points cur prod row p = total - p
 
 pub all_residues_spec : {M : Type 1} → statement M
 all_residues_spec =
     tie.close (tie.spec
-    invariant-loop
-    decreases-loop
+    invariant-loop-p
+    decreases-loop-p
     (λ c κs. let c1 = c.before.before.before.before.before.before.before.before.before in c1.requires.0.chosen.adm)
     (λ c κs. let c1 = c.before.before.before.before.before.before.before.before.before.before in c1.requires.0.chosen.adm)
     (λ c.
     let c1 = c.before.before.before.before.before.before.before.before.before.before.before in
-    rows_fit c1.args.l _ c1.requires.0.chosen.adm c.unknown-count.ensures)
+    rows_fit c1.args.l _ c1.requires.0.chosen.adm c.unknown_count-rows.ensures)
     (λ c.
     let c1 = c.before.before.before.before.before.before.before.before.before.before.before in
     let a = c1.args in
@@ -42,8 +42,8 @@ all_residues_spec =
     let p = c3.requires in (
       p.0.chosen.adm,
       omega arith,
-      within_layers a.l _ _ c2.group-count.ensures (omega arith),
-      rows_few a.l _ p.0.chosen.adm c1.unknown-count.ensures,
+      within_layers a.l _ _ c2.group_count-total.ensures (omega arith),
+      rows_few a.l _ p.0.chosen.adm c1.unknown_count-rows.ensures,
     ))
     (λ c. search rules)
     (λ c. search rules)
@@ -56,46 +56,46 @@ all_residues_spec =
     let a = c5.args in
     let p = c5.requires in (
       working_of a.l a.h a.helpers.now a.shares.now a.zeroth.now a.first.now a.sides.now a.points.now a.cur.now a.prod.now
-          a.row.now p.0 p.1 _ _ _ _ _ _ _ _ _ c3.unknown-count.ensures c4.group-count.ensures (omega arith) c1.block_at.ensures.0 c1.block_at.ensures.1 c2.loop.invariant.3 c2.loop.invariant.4 c2.loop.invariant.5 c2.loop.invariant.6 c2.loop.invariant.7,
-      c2.loop.invariant.8,
-      block_in a.l _ _ _ _ a.zeroth.now c2.loop.zeroth p.0.chosen.adm c4.group-count.ensures (omega arith) c1.block_at.ensures.1 p.1.zeroth_long c2.loop.invariant.1,
-      block_in a.l _ _ _ _ a.first.now c2.loop.first p.0.chosen.adm c4.group-count.ensures (omega arith) c1.block_at.ensures.1 p.1.first_long c2.loop.invariant.2,
+          a.row.now p.0 p.1 _ _ _ _ _ _ _ _ _ c3.unknown_count-rows.ensures c4.group_count-total.ensures (omega arith) c1.block_at-w.ensures.0 c1.block_at-w.ensures.1 c2.loop-p.invariant.3 c2.loop-p.invariant.4 c2.loop-p.invariant.5 c2.loop-p.invariant.6 c2.loop-p.invariant.7,
+      c2.loop-p.invariant.8,
+      block_in a.l _ _ _ _ a.zeroth.now c2.loop-p.zeroth p.0.chosen.adm c4.group_count-total.ensures (omega arith) c1.block_at-w.ensures.1 p.1.zeroth_long c2.loop-p.invariant.1,
+      block_in a.l _ _ _ _ a.first.now c2.loop-p.first p.0.chosen.adm c4.group_count-total.ensures (omega arith) c1.block_at-w.ensures.1 p.1.first_long c2.loop-p.invariant.2,
     ))
     (λ c.
     let c1 =
     c.before.before.before.before.before.before.before.before.before.before.before.before.before.before.before.before.before.before.before.before.before.before in
     let c2 = c1.before.before.before.before in
     let c3 = c2.before.before.before.before.before.before.before.before.before.before in
-    next_fits c3.args.l _ _ _ _ c3.pre.0.chosen.adm c2.group-count.ensures (omega arith) c1.block_at.ensures.1)
+    next_fits c3.args.l _ _ _ _ c3.pre.0.chosen.adm c2.group_count-total.ensures (omega arith) c1.block_at-w.ensures.1)
     (λ c.
     let c1 =
     c.before.before.before.before.before.before.before.before.before.before.before.before.before.before.before.before.before.before.before.before.before.before in
     let c2 = c1.before in
-    omega (arith, c1.block_at.ensures.2, c2.loop-test.taken))
+    omega (arith, c1.block_at-w.ensures.2, c2.loop-p-test.taken))
     (λ c.
     let c1 = c.before.before.before.before.before.before.before.before.before.before.before.before.before.before in
     let c2 = c1.before.before.before.before.before.before.before.before in
     let c3 = c2.before.before in (
-      omega (arith, c2.block_at.ensures.1.within),
-      c1.keep-block.auto.0 ∙ c3.loop.invariant.1,
-      c1.keep-block.auto.1.0 ∙ c3.loop.invariant.2,
-      c1.keep-block.auto.1.1.1.1.1.1.1.1.0 ∙ c3.loop.invariant.3,
-      c1.keep-block.auto.1.1.1.1.1.1.1.1.1.0 ∙ c3.loop.invariant.4,
-      c1.keep-block.auto.1.1.1.1.1.1.1.1.1.1.0 ∙ c3.loop.invariant.5,
-      c1.keep-block.auto.1.1.1.1.1.1.1.1.1.1.1.0 ∙ c3.loop.invariant.6,
-      c1.keep-block.auto.1.1.1.1.1.1.1.1.1.1.1.1.0 ∙ c3.loop.invariant.7,
-      c1.keep-block.ensures,
+      omega (arith, c2.block_at-w.ensures.1.within),
+      c1.keep_block.auto.0 ∙ c3.loop-p.invariant.1,
+      c1.keep_block.auto.1.0 ∙ c3.loop-p.invariant.2,
+      c1.keep_block.auto.1.1.1.1.1.1.1.1.0 ∙ c3.loop-p.invariant.3,
+      c1.keep_block.auto.1.1.1.1.1.1.1.1.1.0 ∙ c3.loop-p.invariant.4,
+      c1.keep_block.auto.1.1.1.1.1.1.1.1.1.1.0 ∙ c3.loop-p.invariant.5,
+      c1.keep_block.auto.1.1.1.1.1.1.1.1.1.1.1.0 ∙ c3.loop-p.invariant.6,
+      c1.keep_block.auto.1.1.1.1.1.1.1.1.1.1.1.1.0 ∙ c3.loop-p.invariant.7,
+      c1.keep_block.ensures,
     ))
-    (λ c. c.before.loop.invariant.1)
-    (λ c. c.before.loop.invariant.2)
-    (λ c. c.before.loop.invariant.3)
-    (λ c. c.before.loop.invariant.4)
-    (λ c. c.before.loop.invariant.5)
-    (λ c. c.before.loop.invariant.6)
-    (λ c. c.before.loop.invariant.7)
+    (λ c. c.before.loop-p.invariant.1)
+    (λ c. c.before.loop-p.invariant.2)
+    (λ c. c.before.loop-p.invariant.3)
+    (λ c. c.before.loop-p.invariant.4)
+    (λ c. c.before.loop-p.invariant.5)
+    (λ c. c.before.loop-p.invariant.6)
+    (λ c. c.before.loop-p.invariant.7)
     (λ c.
     let c1 = c.before in
     let c2 = c1.before.before in
     let c3 = c2.before.before.before.before.before.before.before.before.before.before in
     let a = c3.args in
-    kept_end working a.l a.h a.helpers.now a.shares.now _ _ _ _ c1.loop.invariant.8 c1.loop.invariant.0 (omega arith) c2.group-count.ensures))
+    kept_end working a.l a.h a.helpers.now a.shares.now _ _ _ _ c1.loop-p.invariant.8 c1.loop-p.invariant.0 (omega arith) c2.group_count-total.ensures))

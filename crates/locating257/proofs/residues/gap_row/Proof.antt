@@ -11,15 +11,15 @@ use Rattle.locating.proofs.Rows.{row_fits, last_fits, row_there, front_in, gaps_
 use Rattle.locating257.proofs.residues.gap_row.Statement.{statement}
 use Rattle.locating257.proofs.residues.gap_row.Tie as tie
 
-abbrev invariant-loop : tie.invariant-loop
-invariant-loop cur₀ w n points i₀ cur i = (i ≤ n) × (length cur ≡ length cur₀) × GapsTo gf257 w n points i cur
+abbrev invariant-loop-i : tie.invariant-loop-i
+invariant-loop-i cur₀ w n points i₀ cur i = (i ≤ n) × (length cur ≡ length cur₀) × GapsTo gf257 w n points i cur
 
-abbrev decreases-loop : tie.decreases-loop
-decreases-loop cur₀ w n points i₀ cur i = n - i
+abbrev decreases-loop-i : tie.decreases-loop-i
+decreases-loop-i cur₀ w n points i₀ cur i = n - i
 
 pub gap_row_spec : {M : Type 1} → statement M
 gap_row_spec =
-    tie.close (tie.spec invariant-loop decreases-loop
+    tie.close (tie.spec invariant-loop-i decreases-loop-i
     (λ c κs. search front_in)
     (λ c. (omega arith, search rules, search (gaps_none working)))
     (λ c. search last_fits)

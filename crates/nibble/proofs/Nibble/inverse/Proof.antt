@@ -8,24 +8,24 @@ use Rattle.nibble.proofs.Shifts.{found, nowhere}
 use Rattle.nibble.proofs.Nibble.inverse.Statement.{statement}
 use Rattle.nibble.proofs.Nibble.inverse.Tie as tie
 
-abbrev invariant-loop : tie.invariant-loop
-invariant-loop x powers i₀ i = (i ≤ 15) × ((k : ℕ) → k < i → get_or powers k 0 ≡ x → ⊥)
+abbrev invariant-loop-i : tie.invariant-loop-i
+invariant-loop-i x powers i₀ i = (i ≤ 15) × ((k : ℕ) → k < i → get_or powers k 0 ≡ x → ⊥)
 
-abbrev decreases-loop : tie.decreases-loop
-decreases-loop x powers i₀ i = 15 - i
+abbrev decreases-loop-i : tie.decreases-loop-i
+decreases-loop-i x powers i₀ i = 15 - i
 
 pub inverse_spec : {M : Type 1} → statement M
 inverse_spec =
-    tie.close (tie.spec invariant-loop decreases-loop
+    tie.close (tie.spec invariant-loop-i decreases-loop-i
     (λ c κs. search rules)
     (λ c. (omega arith, below_none _))
     (λ c. search rules)
     (λ c. search rules)
     (λ c. search rules)
-    (λ c. found c.before.before.before.before.before.args.self.0 c.before.before.loop.i c.before.before.before.all-powers.result
-    c.before.before.before.all-powers.ensures (omega arith) c.if1.true)
+    (λ c. found c.before.before.before.before.before.args.self.0 c.before.before.loop-i.i c.before.before.before.all_powers-powers.result
+    c.before.before.before.all_powers-powers.ensures (omega arith) c.if-powers-i.true)
     (λ c. search rules)
     (λ c. search rules)
-    (λ c. (omega arith, below_more _ _ c.before.before.loop.invariant.1 c.if1.false))
-    (λ c. nowhere c.before.before.before.before.args.self.0 c.before.loop.i c.before.before.all-powers.result c.before.before.all-powers.ensures
-    (omega arith) c.before.loop.invariant.1))
+    (λ c. (omega arith, below_more _ _ c.before.before.loop-i.invariant.1 c.if-powers-i.false))
+    (λ c. nowhere c.before.before.before.before.args.self.0 c.before.loop-i.i c.before.before.all_powers-powers.result c.before.before.all_powers-powers.ensures
+    (omega arith) c.before.loop-i.invariant.1))

@@ -8,18 +8,18 @@ use Rattle.recover_correcting.proofs.Trials.{begun_of}
 use Rattle.recover_correcting.proofs.list.begin.Statement.{statement}
 use Rattle.recover_correcting.proofs.list.begin.Tie as tie
 
-abbrev invariant-loop : tie.invariant-loop
-invariant-loop list₀ es i₀ list i = (i ≤ length es) × Upto (λ k. get_or es k 0) list₀ list i
+abbrev invariant-loop-i : tie.invariant-loop-i
+invariant-loop-i list₀ es i₀ list i = (i ≤ length es) × Upto (λ k. get_or es k 0) list₀ list i
 
-abbrev decreases-loop : tie.decreases-loop
-decreases-loop list₀ es i₀ list i = length es - i
+abbrev decreases-loop-i : tie.decreases-loop-i
+decreases-loop-i list₀ es i₀ list i = length es - i
 
 pub begin_spec : {M : Type 1} → statement M
 begin_spec =
     tie.close
     (tie.spec
-    invariant-loop
-    decreases-loop
+    invariant-loop-i
+    decreases-loop-i
     (λ c. (omega arith, upto_none _ _))
     (λ c. search rules)
     (λ c. search rules)
@@ -27,6 +27,6 @@ begin_spec =
     (λ c. search rules)
     (λ c. search rules)
     (λ c. search rules)
-    (λ c. (omega arith, upto_more _ c.before.before.loop.invariant.1 (omega arith) refl))
-    (λ c. c.before.loop.invariant.1.same)
+    (λ c. (omega arith, upto_more _ c.before.before.loop-i.invariant.1 (omega arith) refl))
+    (λ c. c.before.loop-i.invariant.1.same)
     (λ c. search begun_of))

@@ -12,15 +12,15 @@ use Rattle.scrub.proofs.Columns.{zero_at, column_bad_lem, column_good}
 use Rattle.scrub.proofs.look.bad_column.Statement.{statement}
 use Rattle.scrub.proofs.look.bad_column.Tie as tie
 
-abbrev invariant-loop : tie.invariant-loop
-invariant-loop sums w r j t₀ t = (t ≤ r) × ((v : ℕ) → v < t → reduced gf256 (get_or sums (v * w + j) 0) ≡ 0)
+abbrev invariant-loop-t : tie.invariant-loop-t
+invariant-loop-t sums w r j t₀ t = (t ≤ r) × ((v : ℕ) → v < t → reduced gf256 (get_or sums (v * w + j) 0) ≡ 0)
 
-abbrev decreases-loop : tie.decreases-loop
-decreases-loop sums w r j t₀ t = r - t
+abbrev decreases-loop-t : tie.decreases-loop-t
+decreases-loop-t sums w r j t₀ t = r - t
 
 pub bad_column_spec : {M : Type 1} → statement M
 bad_column_spec =
-    tie.close (tie.spec invariant-loop decreases-loop
+    tie.close (tie.spec invariant-loop-t decreases-loop-t
     (λ c. (omega arith, λ v h. absurd (not-suc-le-zero h)))
     (λ c. search row_fits)
     (λ c. search sum_fits)
@@ -31,6 +31,6 @@ bad_column_spec =
     (λ c. omega arith)
     (λ c.
     let a = c.before.before.before.before.before.before.args in
-    let z = zero_at gf256 a.sums.now _ _ _ c.before.before.at.ensures c.before.index.ensures.0 c.if1.false in
-    (omega arith, below_more _ _ c.before.before.before.before.loop.invariant.1 z))
+    let z = zero_at gf256 a.sums.now _ _ _ c.before.before.at.ensures c.before.index.ensures.0 c.if-index-ne0.false in
+    (omega arith, below_more _ _ c.before.before.before.before.loop-t.invariant.1 z))
     (λ c. search column_good))

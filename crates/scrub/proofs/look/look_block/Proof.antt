@@ -17,7 +17,7 @@ look_block_spec =
     (λ c. search rules)
     (λ c κs.
     let s = c.before.before.before.before.before.before.before.before.before in
-    (s.requires.0, rw c.before.before.before.check-count.ensures s.requires.4, s.requires.2, none_listed s.args.l s.args.none.now s.requires.3))
+    (s.requires.0, rw c.before.before.before.check_count-r.ensures s.requires.4, s.requires.2, none_listed s.args.l s.args.none.now s.requires.3))
     (λ c κs.
     let s = c.before.before.before.before.before.before.before.before.before.before.before.before.before.before.before.before.before in
     let b = s.requires.0 in
@@ -27,7 +27,7 @@ look_block_spec =
     (λ c. search rules)
     (λ c.
     let k = c.before.before.before.before.before.before.before.before.sum_kept in
-    let n = c.before.before.before.before.before.before.before.before.before.before.before.before.check-count in
+    let n = c.before.before.before.before.before.before.before.before.before.before.before.before.check_count-r in
     let s = c.before.before.before.before.before.before.before.before.before.before.before.before.before.before.before.before.before.before in
-    c.look-along.ensures (bad_layer gf256 s.args.l s.args.c.now) (column_is working s.args.l s.args.w s.args.walk.next
+    c.look_along.ensures (bad_layer gf256 s.args.l s.args.c.now) (column_is working s.args.l s.args.w s.args.walk.next
     n.result s.args.c.now s.args.none.now k.new.0 s.requires.3 n.ensures k.ensures)))

@@ -7,23 +7,23 @@ use Rattle.scrub.proofs.Columns.{Looked, looked_none, looked_more, looked_end}
 use Rattle.scrub257.proofs.look.look_along.Statement.{statement}
 use Rattle.scrub257.proofs.look.look_along.Tie as tie
 
-abbrev invariant-loop : tie.invariant-loop
-invariant-loop w r sums seen₀ j₀ seen j = Looked gf257 w r sums seen₀ seen j
+abbrev invariant-loop-j : tie.invariant-loop-j
+invariant-loop-j w r sums seen₀ j₀ seen j = Looked gf257 w r sums seen₀ seen j
 
-abbrev decreases-loop : tie.decreases-loop
-decreases-loop w r sums seen₀ j₀ seen j = w - j
+abbrev decreases-loop-j : tie.decreases-loop-j
+decreases-loop-j w r sums seen₀ j₀ seen j = w - j
 
 pub look_along_spec : {M : Type 1} → statement M
 look_along_spec =
-    tie.close (tie.spec invariant-loop decreases-loop
+    tie.close (tie.spec invariant-loop-j decreases-loop-j
     (λ c. search looked_none)
     (λ c κs. search rules)
-    (λ c κs. let q = c.before.before.loop.invariant in (omega (arith, q.here, c.before.before.before.before.requires.1), q.high))
+    (λ c κs. let q = c.before.before.loop-j.invariant in (omega (arith, q.here, c.before.before.before.before.requires.1), q.high))
     (λ c. omega arith)
     (λ c. omega arith)
     (λ c.
     let s = c.before.before.before.before.before in
-    let o = c.before.before.before.loop in
-    looked_more gf257 s.args.w s.args.r s.args.sums.now s.args.walk o.seen c.look_at.result o.j c.before.bad-column.result o.invariant
-    c.before.before.loop-test.true c.before.bad-column.ensures c.look_at.ensures)
+    let o = c.before.before.before.loop-j in
+    looked_more gf257 s.args.w s.args.r s.args.sums.now s.args.walk o.seen c.look_at-seen.result o.j c.before.bad_column.result o.invariant
+    c.before.before.loop-j-test.true c.before.bad_column.ensures c.look_at-seen.ensures)
     (λ c. search looked_end))

@@ -10,9 +10,9 @@ pub look_at_spec : {M : Type 1} → statement M
 look_at_spec =
     tie.close (tie.spec
     (λ c. search rules)
-    (λ c. look_good _ _ (not-true _ c.if1.true))
+    (λ c. look_good _ _ (not-true _ c.if-not-bad.true-raw))
     (λ c. search rules)
-    (λ c. look_first _ _ (not-false _ c.before.if1.false) (omega arith))
+    (λ c. look_first _ _ (not-false _ c.before.if-not-bad.false-raw) (omega arith))
     (λ c. search rules)
     (λ c. search rules)
-    (λ c. look_bad _ _ (not-false _ c.before.if1.false) (λ z. omega arith)))
+    (λ c. look_bad _ _ (not-false _ c.before.if-not-bad.false-raw) (λ z. omega arith)))

@@ -12,43 +12,43 @@ use Rattle.scrub257.proofs.look.look_blocks.Statement.{statement}
 use Rattle.scrub257.proofs.look.look_blocks.Tie as tie
 
 -- the layers still to go lead to the same record
-abbrev invariant-loop : tie.invariant-loop
-invariant-loop l total c none count sums₀ cur₀ row₀ r seen₀ left₀ sums cur row seen left =
+abbrev invariant-loop-left : tie.invariant-loop-left
+invariant-loop-left l total c none count sums₀ cur₀ row₀ r seen₀ left₀ sums cur row seen left =
     Ahead l total c seen left × (after (bad_layer gf257 l c) seen left ≡ after (bad_layer gf257 l c) seen₀ count)
     × (length sums ≡ length sums₀) × (length cur ≡ length cur₀) × (length row ≡ length row₀)
 
-abbrev decreases-loop : tie.decreases-loop
-decreases-loop l total c none count sums₀ cur₀ row₀ r seen₀ left₀ sums cur row seen left = left
+abbrev decreases-loop-left : tie.decreases-loop-left
+decreases-loop-left l total c none count sums₀ cur₀ row₀ r seen₀ left₀ sums cur row seen left = left
 
 pub look_blocks_spec : {M : Type 1} → statement M
 look_blocks_spec =
-    tie.close (tie.spec invariant-loop decreases-loop
+    tie.close (tie.spec invariant-loop-left decreases-loop-left
     (λ c κs. search rules)
     (λ c. (c.before.before.before.before.before.before.requires.0, refl, refl, refl, refl))
-    (λ c κs. let a = c.before.before.before.before.before.before.before.before.requires.0.scannable.adm in (a, omega arith, c.before.loop.invariant.0.room, omega arith))
+    (λ c κs. let a = c.before.before.before.before.before.before.before.before.requires.0.scannable.adm in (a, omega arith, c.before.loop-left.invariant.0.room, omega arith))
     (λ c. search rules)
     (λ c κs.
     let c1 = c.before.before.before in
     let c2 = c1.before.before in
     let c3 = c2.before in
     let c4 = c3.before.before.before.before.before.before in
-    let s = c4 in let o = c2.loop in let b = c1.block_at in (
+    let s = c4 in let o = c2.loop-left in let b = c1.block_at-w in (
       b.ensures.0,
       o.invariant.0.bad_in,
       s.requires.0.scannable.long,
       s.requires.1,
-      room_here s.args.l o.seen.next o.left c3.check-count.result b.result s.args.sums.now s.args.cur.now s.args.row.now o.sums
-          o.cur o.row c3.check-count.ensures b.ensures.1 s.requires.2 s.requires.3 s.requires.4 o.invariant.2 o.invariant.3 o.invariant.4,
+      room_here s.args.l o.seen.next o.left c3.check_count-r.result b.result s.args.sums.now s.args.cur.now s.args.row.now o.sums-1
+          o.cur-1 o.row-1 c3.check_count-r.ensures b.ensures.1 s.requires.2 s.requires.3 s.requires.4 o.invariant.2 o.invariant.3 o.invariant.4,
     ))
-    (λ c. c.before.before.before.before.before.before.before.before.before.before.block_at.ensures.1.within)
-    (λ c. let b = c.before.before.before.before.before.before.before.before.before.before.block_at.ensures in omega (arith, b.1.within, b.2))
+    (λ c. c.before.before.before.before.before.before.before.before.before.before.block_at-w.ensures.1.within)
+    (λ c. let b = c.before.before.before.before.before.before.before.before.before.before.block_at-w.ensures in omega (arith, b.1.within, b.2))
     (λ c.
     let s = c.before.before.before.before.before.before.before.before.before.before.before.before.before.before.before.before.before.before.before in
-    let o = c.before.before.before.before.before.before.before.before.before.before.before.before.loop in
-    let b = c.before.before.before.before.before.before.before.before.before.before.block_at in
-    let k = c.before.before.before.before.before.before.look-block in
+    let o = c.before.before.before.before.before.before.before.before.before.before.before.before.loop-left in
+    let b = c.before.before.before.before.before.before.before.before.before.before.block_at-w in
+    let k = c.before.before.before.before.before.before.look_block-seen in
     let m = more gf257 s.args.l s.args.total s.args.c.now s.args.walk s.args.count o.seen k.result o.seen.next o.left
-    c.before.before.before.before.before.before.before.before.before.before.before.before.before.check-count.result b.result b.ensures.1
+    c.before.before.before.before.before.before.before.before.before.before.before.before.before.check_count-r.result b.result b.ensures.1
     k.ensures o.invariant.0 o.invariant.1 in
     (m.0, m.1, search rules, search rules, search rules))
     (λ c. search rules)
@@ -56,5 +56,5 @@ look_blocks_spec =
     (λ c. search rules)
     (λ c.
     let s = c.before.before.before.before.before.before.before.before in
-    let o = c.before.loop in
+    let o = c.before.loop-left in
     after_end (bad_layer gf257 s.args.l s.args.c.now) o.seen o.left (omega arith) o.invariant.1))

@@ -7,6 +7,6 @@ use Rattle.symbol257.proofs.plain.sum_product.Tie as tie
 pub sum_product_spec : {M : Type 1} → statement M
 sum_product_spec = tie.close (tie.spec
     (λ c κs. search rules)
-    (λ c κs. c.lazy-product.ensures.1)
+    (λ c κs. c.lazy_product.ensures.1)
     (λ c κs. search rules)
-    (λ c. sum_product_is _ _ _ _ _ _ c.before.before.lazy-product.ensures.0 c.before.lazy-sum.ensures c.settle.ensures))
+    (λ c. sum_product_is _ _ _ _ _ _ c.before.before.lazy_product.ensures.0 c.before.lazy_sum.ensures c.settle.ensures))

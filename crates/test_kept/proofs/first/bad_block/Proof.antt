@@ -6,18 +6,18 @@ use Rattle.test_kept.proofs.Blocks.{FitTo, wide_at, step_fits, start_fits, next_
 use Rattle.test_kept.proofs.first.bad_block.Statement.{statement}
 use Rattle.test_kept.proofs.first.bad_block.Tie as tie
 
-abbrev invariant-loop : tie.invariant-loop
-invariant-loop l total e w from count c es q₀ q = (q < count) × FitTo gf256 l w from es c (q * w)
+abbrev invariant-loop-q : tie.invariant-loop-q
+invariant-loop-q l total e w from count c es q₀ q = (q < count) × FitTo gf256 l w from es c (q * w)
 
-abbrev decreases-loop : tie.decreases-loop
-decreases-loop l total e w from count c es q₀ q = count - q
+abbrev decreases-loop-q : tie.decreases-loop-q
+decreases-loop-q l total e w from count c es q₀ q = count - q
 
 pub bad_block_spec : {M : Type 1} → statement M
 bad_block_spec =
     tie.close
     (tie.spec
-    invariant-loop
-    decreases-loop
+    invariant-loop-q
+    decreases-loop-q
     (λ c. (omega arith, λ j h. absurd (omega arith)))
     (λ c. search next_fits)
     (λ c. search step_fits)

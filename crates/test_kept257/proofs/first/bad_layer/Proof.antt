@@ -7,22 +7,22 @@ use Rattle.test_kept.proofs.Blocks.{one_fewer, first_layer}
 use Rattle.test_kept257.proofs.first.bad_layer.Statement.{statement}
 use Rattle.test_kept257.proofs.first.bad_layer.Tie as tie
 
-abbrev invariant-loop : tie.invariant-loop
-invariant-loop l total c es e₀ first₀ e first = BadBlock gf257 l e es c first
+abbrev invariant-loop-e : tie.invariant-loop-e
+invariant-loop-e l total c es e₀ first₀ e first = BadBlock gf257 l e es c first
 
-abbrev decreases-loop : tie.decreases-loop
-decreases-loop l total c es e₀ first₀ e first = e
+abbrev decreases-loop-e : tie.decreases-loop-e
+decreases-loop-e l total c es e₀ first₀ e first = e
 
 pub bad_layer_spec : {M : Type 1} → statement M
 bad_layer_spec =
     tie.close (tie.spec
-    invariant-loop
-    decreases-loop
+    invariant-loop-e
+    decreases-loop-e
     (λ c κs. search rules)
     (λ c κs. (search rules, search rules, search rules, search rules, search rules))
     (λ c. search rules)
     (λ c. omega arith)
-    (λ c κs. (one_fewer gf257 _ _ _ c.before.loop.e c.before.loop.first c.before.loop.invariant (omega arith), search rules))
+    (λ c κs. (one_fewer gf257 _ _ _ c.before.loop-e.e c.before.loop-e.first c.before.loop-e.invariant (omega arith), search rules))
     (λ c. omega arith)
     (λ c. search rules)
     (λ c. search first_layer))
