@@ -109,7 +109,7 @@ module _ {A : Type 0} {f : Field A} (W : Working f) where
       terms_lost hg gone = record {
         at = λ m j hm hj.
             sym (ap (λ v. ops.add (cell f w was m j) (ops.mul (pow ops (place (shape_of f l) g) m) v)) (sound_lost g (layer j) hg gone)
-            ∙ ap (ops.add (cell f w was m j)) (mul_zero ops laws _) ∙ add-zero ops laws (cell f w was m j));
+            ∙ ap (ops.add (cell f w was m j)) (mul_zero ops laws _) ∙ add_zero ops laws (cell f w was m j));
       }
 
       pub terms_sound : (is : List ℕ) → absent lost (h * l.size + g) ≡ true → PlaceTerms f l w e (λ j. symbol_at f l host g (layer j)) g was is →
@@ -157,7 +157,7 @@ module _ {A : Type 0} {f : Field A} (W : Working f) where
     pub grow_none : (s : ℕ) (rests : List ℕ) → s ≡ digits l → Begun f w (length lost) s a sums rests → Growing f l lost host w a start run stride sums rests 0
     grow_none s rests es g = record {
       at = λ m j hm hj.
-          g.at m j hm hj ∙ ap (λ n. cell f w sums (m * n + a) j) es ∙ sym (add-zero ops laws (cell f w sums (m * digits l + a) j))
+          g.at m j hm hj ∙ ap (λ n. cell f w sums (m * n + a) j) es ∙ sym (add_zero ops laws (cell f w sums (m * digits l + a) j))
           ∙ ap (ops.add (cell f w sums (m * digits l + a) j)) (sym (sum_zero ops _));
     }
 
