@@ -2,7 +2,7 @@
 -- Assumes nothing.
 use mathlib.Core.Path.{◌≡◌, sym, ◌∙◌, ap}
 use Prim.Native.Nat.{ℕ, zero, suc, ◌+◌, ◌-◌, ◌<◌}
-use native.Mathlib.Nat.{mul_comm as times-comm}
+use native.Mathlib.Nat.{mul_comm as times_comm}
 use native.Mathlib.Decide.{dec_lt}
 use native.Mathlib.Omega.{arith}
 use Rattle.algebra.specs.Field.{Ops, Laws}
@@ -50,13 +50,13 @@ module _ {A : Type 0} (o : Ops A) (L : Laws o) where
     others : (k : ℕ) → k < u + u → ¬ (k ≡ 0) → ¬ (k ≡ u) → sum o u (pow o (pow o ζ k)) ≡ 𝟘
     others k h a b =
         powers_cancel (pow o ζ k) u
-        (sym (pow_mul o L ζ k u) ∙ ap (pow o ζ) (times-comm k u) ∙ pow_mul o L ζ u k ∙ ap (λ y. pow o y k) full ∙ one_pow o L k) (not_one k h a b)
+        (sym (pow_mul o L ζ k u) ∙ ap (pow o ζ) (times_comm k u) ∙ pow_mul o L ζ u k ∙ ap (λ y. pow o y k) full ∙ one_pow o L k) (not_one k h a b)
 
     term : (f h m : ℕ) (x : A) → pow o (pow o ζ m) f ⊗ (pow o (pow o ζ h) m ⊗ x) ≡ pow o (pow o ζ (f + h)) m ⊗ x
     term f h m x =
         sym (mul_assoc o L (pow o (pow o ζ m) f) (pow o (pow o ζ h) m) x)
         ∙ ap (λ y. y ⊗ x)
-        (ap (λ y. y ⊗ pow o (pow o ζ h) m) (sym (pow_mul o L ζ m f) ∙ ap (pow o ζ) (times-comm m f) ∙ pow_mul o L ζ f m)
+        (ap (λ y. y ⊗ pow o (pow o ζ h) m) (sym (pow_mul o L ζ m f) ∙ ap (pow o ζ) (times_comm m f) ∙ pow_mul o L ζ f m)
         ∙ sym (mul_pow o L (pow o ζ f) (pow o ζ h) m) ∙ ap (λ y. pow o y m) (sym (pow_add o L ζ f h)))
 
     module _ (ones : sum o u (λ m. 𝟙) ≡ 𝟙) (x : ℕ → A) where

@@ -2,7 +2,7 @@
 -- Assumes nothing.
 use mathlib.Core.Path.{◌≡◌, sym, ◌∙◌, ap, ap₂}
 use Prim.Native.Nat.{ℕ, zero, ◌+◌, ◌*◌, ◌/◌, ◌%◌, ◌<◌}
-use native.Mathlib.Nat.{add_comm as plus_comm, mul_comm as times-comm, zero-mul as zero-times, add-zero as plus-zero, mul-le-mul_left, mod-lt, div-add-mod', div-lt_iff_lt-mul}
+use native.Mathlib.Nat.{add_comm as plus_comm, mul_comm as times_comm, zero-mul as zero_times, add-zero as plus_zero, mul-le-mul_left, mod-lt, div-add-mod', div-lt_iff_lt-mul}
 use native.Mathlib.Omega.{arith}
 use lib.Arith.{digits_lt, digits_div, digits_mod}
 use Rattle.algebra.specs.Sum.{pow}
@@ -29,7 +29,7 @@ module _ {A : Type 0} (sh : Shape A) (fits : Fits sh) where
   low i a h k = omega (arith, digits_lt h k, room)
 
   pub exponent : (i a g : ℕ) → i < B → a < s → g < u → i * s + a + g * (N / u) < N
-  exponent i a g h k l = omega (arith, digits_lt l (low i a h k), divides, times-comm u (N / u))
+  exponent i a g h k l = omega (arith, digits_lt l (low i a h k), divides, times_comm u (N / u))
 
   pub point_apart : (i a g j b f : ℕ) → i < B → a < s → g < u → j < B → b < s → f < u → point sh i a g ≡ point sh j b f →
       (i ≡ j) × (a ≡ b) × (g ≡ f)
@@ -82,11 +82,11 @@ module _ {A : Type 0} (sh : Shape A) (fits : Fits sh) where
   pub point_split : (i a g : ℕ) → point sh i a g ≡ point sh i a 0 ⊗ pow o (pow o z (N / u)) g
   unfolding point
   point_split i a g = pow_add o L z (i * s + a) (g * (N / u))
-      ∙ ap₂ ◌⊗◌ (ap (pow o z) (sym (plus-zero (i * s + a)) ∙ ap (λ x. i * s + a + x) (sym (zero-times (N / u))))) (ap (pow o z) (times-comm g (N / u))
+      ∙ ap₂ ◌⊗◌ (ap (pow o z) (sym (plus_zero (i * s + a)) ∙ ap (λ x. i * s + a + x) (sym (zero_times (N / u))))) (ap (pow o z) (times_comm g (N / u))
       ∙ pow_mul o L z (N / u) g)
 
   root_one : pow o (pow o z (N / u)) u ≡ 𝟙
-  root_one = sym (pow_mul o L z (N / u) u) ∙ ap (pow o z) (times-comm (N / u) u ∙ divides) ∙ root.full
+  root_one = sym (pow_mul o L z (N / u) u) ∙ ap (pow o z) (times_comm (N / u) u ∙ divides) ∙ root.full
 
   tray_at : (a : ℕ → ℕ) (i g : ℕ) → g < u → tray_point sh a (i * u + g) ≡ point sh i (a i) 0 ⊗ place sh g
   unfolding tray_point place
@@ -111,7 +111,7 @@ module _ {A : Type 0} (sh : Shape A) (fits : Fits sh) where
   }
     where
       as_power : (g : ℕ) → pow o z (g * (N / u)) ≡ pow o (pow o z (N / u)) g
-      as_power g = ap (pow o z) (times-comm g (N / u)) ∙ pow_mul o L z (N / u) g
+      as_power g = ap (pow o z) (times_comm g (N / u)) ∙ pow_mul o L z (N / u) g
 
       some : 0 < N / u
       some = omega (arith, low 0 0 some_racks some_digits)

@@ -3,7 +3,7 @@
 -- Assumes nothing.
 use mathlib.Core.Path.{◌≡◌, sym, ◌∙◌, ap}
 use Prim.Native.Nat.{ℕ, ◌+◌, ◌*◌, ◌<◌}
-use native.Mathlib.Nat.{mul_comm as times-comm}
+use native.Mathlib.Nat.{mul_comm as times_comm}
 use native.Mathlib.Omega.{arith}
 use lib.Arith.{digits_lt}
 use Rattle.algebra.specs.Field.{Ops, Laws}
@@ -28,7 +28,7 @@ module _ {A : Type 0} (o : Ops A) (L : Laws o) (ζ : A) (u : ℕ) (full : pow o 
         (λ w hw. sym (racks_check o L ζ u full p z n split (solve o p (n * u) b) w m) ∙ meets o L p (n * u) different b (u * w + m) (inside w hw)) i hi
       where
         inside : (w : ℕ) → w < n → u * w + m < n * u
-        inside w hw = let q = times-comm u w in let d = digits_lt hw hm in omega arith
+        inside w hw = let q = times_comm u w in let d = digits_lt hw hm in omega arith
 
     turn : (a y q : A) → a ⊗ y ⊗ q ≡ q ⊗ a ⊗ y
     turn a y q = simp (ring, L)

@@ -5,7 +5,7 @@ use mathlib.Core.Bool.{Bool, true, false, cond, not, ◌||◌}
 use mathlib.Core.List.{List, [], ◌∷◌}
 use mathlib.Core.Logic.{◌↔◌}
 use Prim.Native.Nat.{ℕ, zero, suc, ◌+◌, ◌-◌, ◌*◌, ◌%◌, ◌^◌, ◌<◌, ◌≤◌, min}
-use native.Mathlib.Nat.{mod-lt, mod-eq_of_lt, pow-zero, pow-suc, mul_comm as times-comm}
+use native.Mathlib.Nat.{mod-lt, mod-eq_of_lt, pow-zero, pow-suc, mul_comm as times_comm}
 use native.Mathlib.Decide.{ℕ_discrete}
 use native.Mathlib.Omega.{arith}
 use borrow.Author.Tests.{eq-eqb, ne_eqb, ltb-true}
@@ -32,7 +32,7 @@ use Rattle.scrub.specs.Scrub.{scrub_refusal, after, reported, scrubbed}
 module _ (s : ℕ) (pos : 0 < s) where
   top_digit : (B n : ℕ) → n % s ^ suc B ≡ digit s n B * s ^ B + n % s ^ B
   unfolding digit
-  top_digit B n = ap (λ m. n % m) (pow-suc s B ∙ times-comm (s ^ B) s) ∙ mod-mul n pos (power_pos s B pos)
+  top_digit B n = ap (λ m. n % m) (pow-suc s B ∙ times_comm (s ^ B) s) ∙ mod-mul n pos (power_pos s B pos)
 
   digits_determine : (B j k : ℕ) → ((i : ℕ) → i < B → digit s j i ≡ digit s k i) → j % s ^ B ≡ k % s ^ B
   digits_determine zero j k same =

@@ -3,7 +3,7 @@
 use mathlib.Core.Path.{◌≡◌, refl, sym, ap, ap₂, ◌∙◌}
 use mathlib.Core.List.{List, [], ◌∷◌}
 use Prim.Native.Nat.{ℕ, zero, suc, ◌+◌, ◌-◌, ◌<◌, ◌≤◌, min}
-use native.Mathlib.Nat.{add-zero as plus-zero, add-suc}
+use native.Mathlib.Nat.{add-zero as plus_zero, add-suc}
 use native.Mathlib.Numerals.{add-one}
 use native.Mathlib.Decide.{ℕ_discrete}
 use native.Mathlib.Omega.{arith}
@@ -198,7 +198,7 @@ module _ {A : Type 0} {f : Field A} (W : Working f) where
     differences_high : (n : ℕ) → differences f p i (suc i + n) ≡ ops.mul (low i) (high n)
     unfolding low high
     differences_high zero =
-        ap (differences f p i) (plus-zero (suc i) ∙ sym (add-one i)) ∙ differences_same W p i i refl ∙ differences_low i (omega arith)
+        ap (differences f p i) (plus_zero (suc i) ∙ sym (add-one i)) ∙ differences_same W p i i refl ∙ differences_low i (omega arith)
         ∙ sym (ap (ops.mul (gaps ops p i (p i))) (gaps_none (λ j. p (suc i + j)) (p i)) ∙ mul_one ops laws _)
     differences_high (suc n) =
         ap (differences f p i) (add-suc (suc i) n ∙ sym (add-one (suc i + n))) ∙ differences_other W p i (suc i + n) (λ e. omega arith)

@@ -3,7 +3,7 @@
 use mathlib.Core.Path.{◌≡◌, refl, sym, ap, ap₂, ◌∙◌, subst}
 use mathlib.Core.List.{List, []}
 use Prim.Native.Nat.{ℕ, ◌+◌, ◌*◌, ◌/◌, ◌%◌, ◌<◌, ◌≤◌}
-use native.Mathlib.Nat.{mul_comm as times-comm, mul_assoc as times-assoc, zero-mul, zero-add, mod-lt, mul-pos, mul-le-mul_right, le-mul_of_pos_right}
+use native.Mathlib.Nat.{mul_comm as times_comm, mul_assoc as times_assoc, zero-mul, zero-add, mod-lt, mul-pos, mul-le-mul_right, le-mul_of_pos_right}
 use native.Mathlib.Nat.{not-suc-le-zero, add_assoc, mul-one, one-mul, div-one, mod-one}
 use native.Mathlib.Decide.{ℕ_discrete, dec_le}
 use native.Mathlib.Omega.{arith}
@@ -67,7 +67,7 @@ pub one_in : (v run : ℕ) (row : List ℕ) → run ≡ 1 → v * run ≤ length
 one_in v run row e h = let d : v * run ≡ v = ap (λ (x : ℕ). v * x) e ∙ mul-one v in omega arith
 
 pub turned : (v run turns : ℕ) → turns * (v * run) ≡ v * turns * run
-turned v run turns = sym (times-assoc turns v run) ∙ ap (λ y. y * run) (times-comm turns v)
+turned v run turns = sym (times_assoc turns v run) ∙ ap (λ y. y * run) (times_comm turns v)
 
 period_low : (v run turns : ℕ) → 0 < turns → v * run ≤ v * turns * run
 period_low v run turns h = mul-le-mul_right run (le-mul_of_pos_right v h)

@@ -4,7 +4,7 @@ use mathlib.Core.Path.{◌≡◌, refl, sym, ap, ap₂, ◌∙◌, subst}
 use mathlib.Core.Bool.{true, false, false≢true}
 use mathlib.Core.List.{List}
 use Prim.Native.Nat.{ℕ, ◌+◌, ◌*◌, ◌%◌, ◌<◌, ◌≤◌}
-use native.Mathlib.Nat.{add-zero as plus-zero, mod-lt, div-add-mod', zero-add, not-suc-le-zero, le-mul_of_pos_right}
+use native.Mathlib.Nat.{add-zero as plus_zero, mod-lt, div-add-mod', zero-add, not-suc-le-zero, le-mul_of_pos_right}
 use native.Mathlib.Decide.{ℕ_discrete}
 use native.Mathlib.Omega.{arith}
 use mir.Val.{Fits}
@@ -56,7 +56,7 @@ module _ {A : Type 0} {f : Field A} (W : Working f) where
   places_more l lost n p was is u r e = record { at = λ i q. go i q (ℕ_discrete i n) }
     where
       here : elem (get_or is n 0) ≡ place (shape_of f l) (lost_place l lost n)
-      here = ap elem (ap (λ k. get_or is k 0) (sym (plus-zero n)) ∙ r.done 0 (omega arith)) ∙ place_once l _ (elem p) e
+      here = ap elem (ap (λ k. get_or is k 0) (sym (plus_zero n)) ∙ r.done 0 (omega arith)) ∙ place_once l _ (elem p) e
 
       go : (i : ℕ) → i < n + 1 → Dec (i ≡ n) → elem (get_or is i 0) ≡ place (shape_of f l) (lost_place l lost i)
       go i q (yes c) = subst (λ k. elem (get_or is k 0) ≡ place (shape_of f l) (lost_place l lost k)) (sym c) here

@@ -3,7 +3,7 @@
 use mathlib.Core.Path.{◌≡◌, refl, sym, ap, ap₂, ◌∙◌, subst}
 use mathlib.Core.List.{List}
 use Prim.Native.Nat.{ℕ, suc, ◌+◌, ◌-◌, ◌*◌, ◌/◌, ◌%◌, ◌<◌, ◌≤◌}
-use native.Mathlib.Nat.{zero-add, add-zero as plus-zero, zero-mul as zero-times, mul_comm as times-comm, mod-lt, div-add-mod', add-mul}
+use native.Mathlib.Nat.{zero-add, add-zero as plus_zero, zero-mul as zero_times, mul_comm as times_comm, mod-lt, div-add-mod', add-mul}
 use native.Mathlib.Omega.{arith}
 use lib.ListN.{length, get_or}
 use Rattle.algebra.specs.Field.{Ops}
@@ -66,7 +66,7 @@ module _ {A : Type 0} {f : Field A} (W : Working f) (l : Layout) (w first r : �
       ∙ ap₂ ops.add
       (sum_congr ops (l.racks - i) _ (λ k. ops.mul (pow ops root (digits l * t)) (rack_term f l es c j t n i k)) (λ k q. later k)
       ∙ sum_mul_left ops laws (l.racks - i) (pow ops root (digits l * t)) (rack_term f l es c j t n i))
-      (ap₂ (λ a b. ops.mul (pow ops root ((a + digit (digits l) j b) * t)) (kept_sum f l es c j n b)) (zero-times (digits l)) (plus-zero (i - 1))
+      (ap₂ (λ a b. ops.mul (pow ops root ((a + digit (digits l) j b) * t)) (kept_sum f l es c j n b)) (zero_times (digits l)) (plus_zero (i - 1))
       ∙ ap (λ a. ops.mul (pow ops root (a * t)) (kept_sum f l es c j n (i - 1))) (zero-add (digit (digits l) j (i - 1))))
     where
       later : (k : ℕ) → rack_term f l es c j t n (i - 1) (suc k) ≡ ops.mul (pow ops root (digits l * t)) (rack_term f l es c j t n i k)
@@ -93,7 +93,7 @@ module _ {A : Type 0} {f : Field A} (W : Working f) (l : Layout) (w first r : �
   -- the point of a rack and a digit at place 0
   point_first : (k a : ℕ) → point (shape_of f l) k a 0 ≡ pow ops root (k * digits l + a)
   unfolding point
-  point_first k a = ap (λ y. pow ops root (k * digits l + a + y)) (zero-times (order / l.size)) ∙ ap (pow ops root) (plus-zero (k * digits l + a))
+  point_first k a = ap (λ y. pow ops root (k * digits l + a + y)) (zero_times (order / l.size)) ∙ ap (pow ops root) (plus_zero (k * digits l + a))
 
   each : (j p n k : ℕ) → rack_term f l es c j (p * l.size + n) n 0 k
       ≡ ops.mul (pow ops (pow ops (point (shape_of f l) k (digit (digits l) j k) 0) l.size) p)
@@ -103,7 +103,7 @@ module _ {A : Type 0} {f : Field A} (W : Working f) (l : Layout) (w first r : �
       ap (λ b. ops.mul (pow ops root ((k * digits l + digit (digits l) j b) * (p * l.size + n))) (rack_sum (shape_of f l) (survivor_at f l es c j) n b)) (zero-add k)
       ∙ ap (λ y. ops.mul y (rack_sum (shape_of f l) (survivor_at f l es c j) n k))
       (pow_mul ops laws root (k * digits l + digit (digits l) j k) (p * l.size + n)
-      ∙ ap₂ (pow ops) (sym (point_first k (digit (digits l) j k))) (ap (λ y. y + n) (times-comm p l.size))
+      ∙ ap₂ (pow ops) (sym (point_first k (digit (digits l) j k))) (ap (λ y. y + n) (times_comm p l.size))
       ∙ pow_split ops laws (point (shape_of f l) k (digit (digits l) j k) 0) l.size p n)
       ∙ mul_assoc ops laws _ _ _
 
@@ -130,7 +130,7 @@ module _ {A : Type 0} {f : Field A} (W : Working f) (l : Layout) (w first r : �
       (ops.mul (pow ops (point (shape_of f l) k (digit (digits l) j k) 0) n) (rack_sum (shape_of f l) (survivor_at f l es c j) n k)))
       (λ k h. each j p n k)
       ∙ sym (rack_check_lem (shape_of f l) (fits_of b.adm d) (digit (digits l) j) (survivor_at f l es c j) p n)
-      ∙ ap (λ t. sum ops (trays l) (λ y. ops.mul (pow ops (tray_point (shape_of f l) (digit (digits l) j) y) t) (survivor_at f l es c j y))) (ap (λ y. y + n) (times-comm l.size p))
+      ∙ ap (λ t. sum ops (trays l) (λ y. ops.mul (pow ops (tray_point (shape_of f l) (digit (digits l) j) y) t) (survivor_at f l es c j y))) (ap (λ y. y + n) (times_comm l.size p))
 
   pub above_end : (is : List ℕ) (i : ℕ) → Block l w first → l.size * (order / l.size) ≡ order → i ≤ 0 → Above f l w first r c es i is → Sums f l w first r c es (trays l) is
   above_end is i b d h a = record {

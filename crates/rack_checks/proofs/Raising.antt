@@ -3,7 +3,7 @@
 use mathlib.Core.Path.{◌≡◌, refl, sym, ap, ap₂, ◌∙◌, subst}
 use mathlib.Core.List.{List}
 use Prim.Native.Nat.{ℕ, ◌+◌, ◌*◌, ◌<◌, ◌≤◌, min}
-use native.Mathlib.Nat.{mul-zero as times_zero, zero-mul as zero-times, mul-le-mul_right}
+use native.Mathlib.Nat.{mul-zero as times_zero, zero-mul as zero_times, mul-le-mul_right}
 use native.Mathlib.Decide.{ℕ_discrete, dec_le}
 use native.Mathlib.Omega.{arith}
 use mir.Val.{Fits}
@@ -52,7 +52,7 @@ module _ {A : Type 0} {f : Field A} (W : Working f) (l : Layout) (w first i : �
   })
     where
       at_zero : Run (added f was 0 cur 0) was is (0 * w) w
-      at_zero = subst (λ n. Run (added f was 0 cur 0) was is n w) (sym (zero-times w)) r
+      at_zero = subst (λ n. Run (added f was 0 cur 0) was is n w) (sym (zero_times w)) r
 
   -- a number of the row is the power of the root by the digit
   row_is : (ρ : ℕ) (row : List ℕ) → elem ρ ≡ root → DigitPowers f l w first i 1 ρ row → (j : ℕ) → j < w → get_or row j 0 < size → get_or row j 0 ≡ root_power f (digit (digits l) (first + j) i)

@@ -3,7 +3,7 @@
 use mathlib.Core.Path.{◌≡◌, refl, sym, ap, ap₂, ◌∙◌, subst}
 use mathlib.Core.List.{List}
 use Prim.Native.Nat.{ℕ, ◌+◌, ◌-◌, ◌*◌, ◌/◌, ◌%◌, ◌<◌, ◌≤◌}
-use native.Mathlib.Nat.{mul_comm as times-comm, mul-le-mul, not-suc-le-zero, mod-lt}
+use native.Mathlib.Nat.{mul_comm as times_comm, mul-le-mul, not-suc-le-zero, mod-lt}
 use native.Mathlib.Decide.{ℕ_discrete}
 use native.Mathlib.Omega.{arith}
 use mir.Val.{Fits}
@@ -82,7 +82,7 @@ module _ {A : Type 0} {f : Field A} (W : Working f) (l : Layout) where
     where
       power : (e : ℕ) → pow ops (elem z) e ≡ pow ops (pow ops root e) l.size
       power e =
-          ap (λ y. pow ops y e) (ap elem ez ∙ elem_root_power W l.size) ∙ sym (pow_mul ops laws root l.size e) ∙ ap (pow ops root) (times-comm l.size e)
+          ap (λ y. pow ops y e) (ap elem ez ∙ elem_root_power W l.size) ∙ sym (pow_mul ops laws root l.size e) ∙ ap (pow ops root) (times_comm l.size e)
           ∙ pow_mul ops laws root e l.size
 
   pub racks_none : (first : ℕ) (es : List ℕ) (v run : ℕ) (points : List ℕ) → RackPoints f l first es v run 0 points

@@ -3,7 +3,7 @@
 use mathlib.Core.Path.{◌≡◌, refl, sym, ap, ap₂, ◌∙◌, subst}
 use mathlib.Core.List.{List}
 use Prim.Native.Nat.{ℕ, zero, suc, ◌+◌, ◌-◌, ◌*◌, ◌/◌, ◌%◌, ◌^◌, ◌<◌, ◌≤◌}
-use native.Mathlib.Nat.{mul_comm as times-comm, add-mul as plus-mul, mul-pos, mul-le-mul_left, mul-le-mul_right, le-mul_of_pos_right, le_trans, div-add-mod', mod-lt, div-lt_iff_lt-mul, not-suc-le-zero}
+use native.Mathlib.Nat.{mul_comm as times_comm, add-mul as plus_mul, mul-pos, mul-le-mul_left, mul-le-mul_right, le-mul_of_pos_right, le_trans, div-add-mod', mod-lt, div-lt_iff_lt-mul, not-suc-le-zero}
 use native.Mathlib.Decide.{ℕ_discrete}
 use native.Mathlib.Omega.{arith}
 use mir.Val.{Fits}
@@ -92,7 +92,7 @@ module _ (u w from m : ℕ) (ys row : List ℕ) where
 -- where these lie
 module _ (u w i : ℕ) (xs : List ℕ) (h : (i * u + u) * w ≤ length xs) where
   pub rows_there : i * u * w + u * w ≤ length xs
-  rows_there = let q = plus-mul (i * u) u w in omega arith
+  rows_there = let q = plus_mul (i * u) u w in omega arith
 
   pub start_fits : 0 < w → Fits w64 (length xs) → Fits w64 (i * u)
   start_fits p f = let q = rows_there in let t : i * u ≤ i * u * w = le-mul_of_pos_right (i * u) p in omega arith
@@ -130,7 +130,7 @@ module _ {A : Type 0} (f : Field A) (u w i : ℕ) (ys : List ℕ) where
   }
     where
       spot : i * u * w + g * w ≡ (i * u + g) * w
-      spot = sym (plus-mul (i * u) g w)
+      spot = sym (plus_mul (i * u) g w)
 
       turned : Run (copied row 0) is new ((i * u + g) * w) w
       turned = subst (λ y. Run (copied row 0) is new y w) spot c
@@ -207,7 +207,7 @@ module _ {A : Type 0} {f : Field A} (W : Working f) (l : Layout) (w first : ℕ)
       point_is i g h b ∙ point_split (shape_of f l) suits (rack i) (digit (digits l) j (rack i)) g ∙ ap (λ y. y ⊗ pow ops (pow ops root (order / l.size)) g) (sym (first_is i h))
 
   full : pow ops (pow ops root (order / l.size)) l.size ≡ 𝟙
-  full = sym (pow_mul ops laws root (order / l.size) l.size) ∙ ap (pow ops root) (times-comm (order / l.size) l.size ∙ divides) ∙ W.field.root.full
+  full = sym (pow_mul ops laws root (order / l.size) l.size) ∙ ap (pow ops root) (times_comm (order / l.size) l.size ∙ divides) ∙ W.field.root.full
 
   different : Distinct pts (n * l.size)
   unfolding pts point_at layer_point
@@ -272,7 +272,7 @@ module _ {A : Type 0} {f : Field A} (W : Working f) (l : Layout) (w first : ℕ)
           omega arith
 
       sizes : (order - m) * e + e * m ≡ order * e
-      sizes = ap (λ y. (order - m) * e + y) (times-comm e m) ∙ sym (plus-mul (order - m) m e) ∙ (let q : order - m + m ≡ order = omega arith in ap (λ y. y * e) q)
+      sizes = ap (λ y. (order - m) * e + y) (times_comm e m) ∙ sym (plus_mul (order - m) m e) ∙ (let q : order - m + m ≡ order = omega arith in ap (λ y. y * e) q)
 
   -- the symbol at place g of rack i
   module _ (sums was ys found : List ℕ) (at : ℕ) (ej : j ≡ first + at) (hj : at < w) (b : WeightedSums f l w first es n sums was) (c : Lowered f l w first es (length es) was ys)
@@ -285,7 +285,7 @@ module _ {A : Type 0} {f : Field A} (W : Working f) (l : Layout) (w first : ℕ)
     unfolding weighted_term weight cell
     term m =
         ap (λ x. pow ops (pow ops (pow ops root (order / l.size)) m) (opposite l.size g) ⊗ elem (get_or ys x 0))
-        (let q = plus-mul (i * l.size) m w in let t : i * l.size * w + m * w + at ≡ (i * l.size + m) * w + at = omega arith in t)
+        (let q = plus_mul (i * l.size) m w in let t : i * l.size * w + m * w + at ≡ (i * l.size + m) * w + at = omega arith in t)
 
     lowered : (m : ℕ) → m < l.size → cell f w ys (i * l.size + m) at
         ≡ solve ops (λ x. pow ops (pts (x * l.size)) l.size) n (λ p. side (l.size * p + m)) i ⊗ lowering f l j (get_or es (i * l.size + m) 0) ((i * l.size + m) % l.size)

@@ -1,0 +1,6 @@
+-- `Nibble::power` ends: the exponent falls at each call.
+-- Assumes nothing.
+use Rattle.nibble.proofs.Nibble.+power.Given as goal
+
+abbrev pub decreases-power : goal.decreases-power
+decreases-power l = l.e

@@ -1,0 +1,6 @@
+-- `power` ends: the exponent falls at each call.
+-- Assumes nothing.
+use Rattle.symbol257.proofs.plain.+power.Given as goal
+
+abbrev pub decreases-power : goal.decreases-power
+decreases-power l = l.e

@@ -1,5 +1,0 @@
-pub mod Reached
-pub mod Block
-pub mod Params
-pub mod Walk
-pub mod Turns
