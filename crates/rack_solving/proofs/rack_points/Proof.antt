@@ -29,7 +29,7 @@ rack_points_spec =
     (λ c κs. (
       search rack_there,
       let a = c.args in sampled_in a.l
-          a.w a.first a.es.now a.v a.run a.points.now a.row.now c.power_row.new.0
+          a.w a.first a.es.now a.v a.run a.points.now a.row.now c.power_row.new.row
           c.requires.0 (search rules),
       search rules,
     ))
@@ -43,8 +43,8 @@ rack_points_spec =
           
           
           
-          let a = c.args in racks_more working a.l a.w a.first a.es.now a.v a.run c.loop-i.i c.power_row.new.0 c.loop-i.points
-          c.sample.new.0 c.requires.0.width c.requires.0.run_low c.loop-i.invariant.3 c.power_row.ensures c.sample.ensures,
+          let a = c.args in racks_more working a.l a.w a.first a.es.now a.v a.run c.loop-i.i c.power_row.new.row c.loop-i.points
+          c.sample.new.out c.requires.0.width c.requires.0.run_low c.loop-i.invariant.3 c.power_row.ensures c.sample.ensures,
     ))
     (λ c. search rules)
     (λ c. search rules)

@@ -21,7 +21,7 @@ solve_rows_spec =
     let a = c.args in
     let r = c.cycle_of-p.result in
     (rooms_of a.l a.w a.first a.es.now a.n a.sums.now a.found.now a.points.now a.coefs.now a.row.now
-    c.requires.0 c.requires.3 c.requires.6 c.requires.4).wide_of a.e r.run r.columns r.turns a.ys.now c.rack_points.new.0 a.wide.now
+    c.requires.0 c.requires.3 c.requires.6 c.requires.4).wide_of a.e r.run r.columns r.turns a.ys.now c.rack_points.new.points a.wide.now
     c.requires.2 c.cycle_of-p.ensures c.requires.7 c.requires.8 (search rules))
     (λ c κs.
     
@@ -33,8 +33,8 @@ solve_rows_spec =
       c.requires.0,
       c.requires.5,
       c.requires.3,
-      m.rows_in a.ys.now c.weighted_sums.new.0 c.requires.7 (search rules),
-      row_left a.w a.row.now c.rack_points.new.1.1.1.1.1.1.1.1.0 c.requires.4.row_long c.rack_points.auto.1.1.1.1.1.1.1.1.0,
+      m.rows_in a.ys.now c.weighted_sums.new.ys c.requires.7 (search rules),
+      row_left a.w a.row.now c.rack_points.new.row c.requires.4.row_long c.rack_points.auto.row,
     ))
     (λ c κs.
     
@@ -47,8 +47,8 @@ solve_rows_spec =
       c.requires.5,
       m.some_layers,
       m.symbols_in a.found.now refl,
-      m.sums_in a.ys.now c.lower_rows.new.0 c.requires.7 (c.lower_rows.auto.0 ∙ c.weighted_sums.auto.0),
-      row_left a.w a.row.now c.lower_rows.new.1.1.1.1.1.0 c.requires.4.row_long
+      m.sums_in a.ys.now c.lower_rows.new.ys c.requires.7 (c.lower_rows.auto.0 ∙ c.weighted_sums.auto.0),
+      row_left a.w a.row.now c.lower_rows.new.row c.requires.4.row_long
           (c.lower_rows.auto.1.1.1.1.1.0 ∙ c.rack_points.auto.1.1.1.1.1.1.1.1.0),
     ))
     (λ c. search rules)

@@ -15,7 +15,7 @@ first_broken_spec =
     (λ c κs.
     
     
-    sums_in c.args.w c.args.r c.args.sums.now c.sum_kept.new.0 c.args.cur.now c.args.row.now c.requires.4
+    sums_in c.args.w c.args.r c.args.sums.now c.sum_kept.new.sums c.args.cur.now c.args.row.now c.requires.4
     (search rules))
     (λ c. search rules)
     (λ c. search rules)
@@ -24,6 +24,6 @@ first_broken_spec =
     
     
     
-    first_of working c.args.l c.args.w c.args.first c.args.r c.args.c.now c.args.none.now c.sum_kept.new.0
+    first_of working c.args.l c.args.w c.args.first c.args.r c.args.c.now c.args.none.now c.sum_kept.new.sums
     c.first_in.result.column c.first_in.result.check c.requires.3 c.requires.2 c.sum_kept.ensures
     c.first_in.ensures))

@@ -30,4 +30,4 @@ look_block_spec =
     let n = c.check_count-r in
     
     c.look_along.ensures (bad_layer gf256 c.args.l c.args.c.now) (column_is working c.args.l c.args.w c.args.walk.next
-    n.result c.args.c.now c.args.none.now k.new.0 c.requires.3 n.ensures k.ensures)))
+    n.result c.args.c.now c.args.none.now k.new.sums c.requires.3 n.ensures k.ensures)))
