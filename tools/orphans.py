@@ -8,6 +8,9 @@ import sys
 
 from definitions import below, file, imports, read, said
 
+# the files of a function's own proof
+PROOF = re.compile(r'/proofs/.+/(Invariants|Answers|Proof)\.antt$')
+
 
 def taken():
     """What files take of others."""
@@ -50,7 +53,7 @@ def main():
     orphans = [
         (path, name)
         for path in sorted(below('crates', '.antt'))
-        if '/proofs/' in path and not path.endswith('/Proof.antt')
+        if '/proofs/' in path and not PROOF.search(path)
         for name in file(path).public
         if (path, name) not in cited and name not in known and not used(path, name)
     ]
