@@ -25,7 +25,9 @@ def named():
     texts = [read('README.md')] + [read(path) for path in below('docs', '.md')]
     for path in filter(lambda at: '/proofs/' not in at, below('crates', '.antt', '.rt')):
         texts += [line for line in read(path).split('\n') if '-- ' in line or '// ' in line]
-    return {name for text in texts for name in re.findall(r'`([^`\s]+)`', text)}
+    names = {name for text in texts for name in re.findall(r'`([^`\s]+)`', text)}
+    # the landing notes have the spelling of their time
+    return names | {re.sub(r'(?<=[a-z0-9])[A-Z]', lambda at: '_' + at[0].lower(), name).replace('-', '_') for name in names}
 
 
 def used(path, name):
