@@ -20,7 +20,7 @@ gather_spec =
     invariant-loop-g
     decreases-loop-g
     (λ c κs. c.before.before.requires.adm.cabinet)
-    (λ c κs. let p = c.before.before.before.requires in (p.adm.cabinet, p.host_in, c.Counts-of.ensures))
+    (λ c κs. let p = c.before.before.before.requires in (p.adm.cabinet, p.host_in, c.counts_of-n.ensures))
     (λ c κs. omega arith)
     (λ c. (
       omega arith,

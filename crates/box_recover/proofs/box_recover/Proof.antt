@@ -16,7 +16,7 @@ box_recover_spec =
     tie.close (tie.spec
     (λ c κs. search rules)
     (λ c. search rules)
-    (λ c. let a = c.before.before.before.before.before.args in recover_refused a.erased.now a.c.now _ c.before.recover_refusal-ground.ensures c.if-ground-ne0.true)
+    (λ c. let a = c.before.before.before.before.args in recover_refused a.erased.now a.c.now _ c.before.recover_refusal-ground.ensures c.if-ground-ne0.true)
     (λ c. search rules)
     (λ c κs. let p = recoverable _ _ (none c.before.before) in (p.1, p.0, search rules))
     (λ c. search rules)

@@ -35,7 +35,7 @@ raise_rack_spec =
       search rules,
       search rules,
       let c1 = c.before.before.before.before.before.before.before.before.before.before.before in let a =
-          c1.before.before.before.before.before.before.before.before.before.before.before.args in let s =
+          c1.before.before.before.before.before.before.before.before.before.args in let s =
           c.before.before.before.before.before.before.before.before.rack_sum in weights_more working a.l a.w a.first a.r a.c.now a.es.now
           a.i a.sums-1.now c1.loop-m.sums c.before.before.raise_weight.new.0 s.last.0 c1.loop-m.m c1.loop-m.invariant.3 s.ensures
           c.before.before.raise_weight.ensures,

@@ -26,7 +26,7 @@ listed_points_spec =
     (λ c. search listed_fits)
     (λ c κs. (
       search listed_in,
-      let a = c.before.before.before.before.before.before.before.before.before.before.before.before.args in sampled_in a.l
+      let a = c.before.before.before.before.before.before.before.before.before.before.before.args in sampled_in a.l
           a.w a.first a.es.now a.v a.run a.points.now a.row.now c.before.before.before.before.tray_points.new.0
           c.before.before.before.before.before.before.before.before.before.before.before.before.requires (search rules),
       search rules,

@@ -26,4 +26,4 @@ kept_terms_spec =
     let c3 = c2.before in
     let c4 = c3.before.before.before.before.before.before in
     kept_of working c4.args.l c4.args.w c4.args.first c4.args.r c4.args.c.now c4.args.es.now c4.args.x c4.args.sums.now
-    c1.tray_terms.new.0 (sym c3.is_absent.ensures ∙ not-false _ c2.if-not-is_absent.false-raw) c1.tray_terms.ensures))
+    c1.tray_terms.new.sums (sym c3.is_absent.ensures ∙ not-false _ c2.if-not-is_absent.false-raw) c1.tray_terms.ensures))
