@@ -25,8 +25,9 @@ def read(path):
 def listed():
     """Each crate and those that it may use; the kit's libraries left out."""
     lines = [line.split(':') for line in read('crates.txt').splitlines() if ':' in line and not line.startswith('#')]
-    names = {name.strip() for name, _ in lines}
-    return {name.strip(): [used for used in uses.split() if used in names] for name, uses in lines}
+    lines = [(head.split()[0], uses) for head, uses in lines]
+    names = {name for name, _ in lines}
+    return {name: [used for used in uses.split() if used in names] for name, uses in lines}
 
 
 def levels(crates):

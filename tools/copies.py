@@ -17,34 +17,37 @@ import sys
 ROOT = os.path.join(os.path.dirname(os.path.abspath(__file__)), '..', 'crates', '')
 # a statement whose conclusion is shorter than this says too little to be compared
 SHORTEST = 6
-TOKEN = re.compile(r'[(){}]|[^\s(){}]+')
+# a field that is read is a token of its own
+TOKEN = re.compile(r'[(){}]|\.?[^\s(){}.]+|\.+')
+# the files of a function's own proof
+PROOF = re.compile(r'/proofs/.+/(Invariants|Answers|Proof)\.antt$')
 MODULE = re.compile(r'\s*(?:pub )?module\s+\S+\s*(.*)$')
 HEAD = re.compile(r'\s*(?:unfoldable |abbrev )?(?:pub )?([^\s(){};:=|]+) : (.*)$')
 # the crates that have elements, operations and tables of their own under the same names
 FIELDS = {'symbol', 'symbol257', 'nibble'}
-DATA = {'List ℕ', '(ℕ → A) → ℕ → List A', 'Signature', 'Param n', 'Turn n', 'Recoverable f l es c', 'Usable f l', 'p < digits l ^ (l .racks - 1)'}
+DATA = {'List ℕ', '(ℕ → A) → ℕ → List A', 'Signature', 'Param n', 'Turn n', 'Recoverable f l es c', 'Usable f l', 'p < digits l ^ (l.racks - 1)'}
 # a lemma of each group that is left to merge
 OPEN = {
-    'algebra/Points digits-same',
-    'batch_parts/Parts part-place',
+    'algebra/Points digits_same',
+    'batch_parts/Parts part_place',
     'batch_parts/Parts positive',
-    'batch_restore/Known free-high',
-    'batch_restore/Known free-next',
-    'batch_restore/Layers place-is',
-    'batch_restore/Rows basis-congr',
-    'box_recover/Steps free-none',
-    'cards/Grounds cabinet-so',
-    'checksum/Unique bit-lt',
-    'columns/Rows divisor-row',
-    'columns/Rows row-fits',
-    'columns/Rows spread-fits',
-    'columns/Rows spread-in',
+    'batch_restore/Known free_high',
+    'batch_restore/Known free_next',
+    'batch_restore/Layers place_is',
+    'batch_restore/Rows basis_congr',
+    'box_recover/Steps free_none',
+    'cards/Grounds cabinet_so',
+    'checksum/Unique bit_lt',
+    'columns/Rows divisor_row',
+    'columns/Rows row_fits',
+    'columns/Rows spread_fits',
+    'columns/Rows spread_in',
     'least/Same cells',
-    'rack_solving/Points row-next',
-    'rack_solving/Points sampled-in',
-    'records/Racks inner-part',
-    'records/Racks none-lost',
-    'seen/Groups same-test',
+    'rack_solving/Points row_next',
+    'rack_solving/Points sampled_in',
+    'records/Racks inner_part',
+    'records/Racks none_lost',
+    'seen/Groups same_test',
 }
 
 
@@ -146,7 +149,7 @@ def groups():
     """The statements that stand more than once, as lists of crate, file, line, name and text."""
     found = collections.defaultdict(list)
     for path in sorted(glob.glob(ROOT + '*/proofs/**/*.antt', recursive=True)):
-        if path.endswith('/Proof.antt') or open(path, encoding='utf8').readline().startswith('-- Made'):
+        if PROOF.search(path) or open(path, encoding='utf8').readline().startswith('-- Made'):
             continue
         crate, _, file = os.path.relpath(path, ROOT).partition('/proofs/')
         for name, line, told, text in statements(path):

@@ -3,7 +3,8 @@ import os
 import re
 
 ROOT = os.path.join(os.path.dirname(os.path.abspath(__file__)), '..')
-USE = re.compile(r'(?:ghost )?use Rattle·(\w+?)(?:·(?:specs|proofs))?\.(specs|proofs)\.(\S+?)\.\{(.*)\};?$')
+USE = re.compile(r'(?:ghost )?use Rattle\.(\w+)\.(specs|proofs)\.(\S+?)\.\{(.*)\};?$')
+CRATES = set(os.listdir(os.path.join(ROOT, 'crates')))
 HEAD = re.compile(r'(?:unfoldable |abbrev )?(pub )?(record |data |ruleset )?([^\s:({]+)')
 WORD = re.compile(r'[^\s(){}\[\];,.]+')
 
@@ -14,8 +15,9 @@ def read(path):
 
 
 def below(folder, *ends):
-    """The files below a folder with these endings."""
-    for at, _, names in os.walk(os.path.join(ROOT, folder)):
+    """The files below a folder with these endings; what checks keep in a crate's out/ left out."""
+    for at, folders, names in os.walk(os.path.join(ROOT, folder)):
+        folders[:] = [name for name in folders if name != 'out']
         for name in names:
             if name.endswith(ends):
                 yield os.path.relpath(os.path.join(at, name), ROOT)
@@ -27,11 +29,11 @@ def said(line):
 
 
 def imports(text):
-    """The names that a file takes from others: its own name for each, and the file and the name there."""
+    """The names that a file takes from others of the repository: its own name for each, and the file and the name there."""
     out = {}
     for line in text.split('\n'):
         use = USE.match(line)
-        for item in use.group(4).split(', ') if use else []:
+        for item in use.group(4).split(', ') if use and use.group(1) in CRATES else []:
             there, _, here = item.partition(' as ')
             out[here or there] = ('crates/%s/%s/%s.antt' % (use.group(1), use.group(2), use.group(3).replace('.', '/')), there)
     return out
@@ -41,7 +43,7 @@ def words(lines):
     """The names in some lines: no field of a record, where one is read, given or declared."""
     out = set()
     for number, line in enumerate(lines):
-        line = re.sub(r'(?<![^\s(])\.[^\s(){}\[\];,.]+', ' ', line)
+        line = re.sub(r'\.[^\s(){}\[\];,.]+', ' ', line)
         line = re.sub(r'(?<=[{;])\s*[^\s(){}\[\];,.=]+ =(?=\s)', ' ', line)
         if number:
             line = re.sub(r'^\s+pub [^:]+ :', ' ', line)
@@ -84,7 +86,7 @@ class File:
     def cites(self, name):
         """The names of this file and of others that a definition cites, operators with their places."""
         found = words(self.lines[name]) | words(('',) + self.frames[name])
-        found |= {'_%s_' % word for word in found}
+        found |= {'◌%s◌' % word for word in found}
         here = {other for other in found & set(self.lines) if other != name}
         return here, {self.imports[word] for word in found & set(self.imports) if word not in here}
 

@@ -1,16 +1,19 @@
 #!/usr/bin/env python3
 """The must-fail edits: that each finds its text, that each is refused for a fact, and their table at the end of docs/PROMISES.md.
 
-    tools/edits.py            write the table; what fails is taken from the logs of `rt must-fail` or `rt ci`, and stays as it is
-                              written for an edit without a log
-    tools/edits.py --check    name the edits whose texts do not stand exactly once in their files, those without a row of their
-                              own, and names of edits in PROMISES.md that are none, and fail if there is any: the first step of
-                              the gate, since an edit whose text has moved would otherwise fail only after all proofs
-    tools/edits.py --logs     read the logs of all edits after `rt ci`: fail where an edit broke only the shape of a proof, or where
-                              no fact is found; rows of the table that are not current are named
+    tools/edits.py [FILE]           write the table; what fails is taken from what `rt ci` or `rt must-fail` printed, and stays as it
+                                    is written for an edit of which it says nothing
+    tools/edits.py --check          name the edits whose texts do not stand exactly once in their files, those without a row of
+                                    their own, and names of edits in PROMISES.md that are none, and fail if there is any: the first
+                                    step of the gate, since an edit whose text has moved would otherwise fail only after all proofs
+    tools/edits.py --logs [FILE]    read what was printed of all edits by `rt ci`: fail where an edit was not tried or not refused,
+                                    broke only the shape of a proof, was refused only by a limit of the prover, or where no fact is
+                                    found; rows of the table that are not current are named
 
-What fails is the first error of a log that is not the consequence of another: the lemma, or the function whose contract is not
-met, and the difference where it is short.
+FILE is what rt printed, target/log/ci if none is named: the gate keeps there what `rt ci` printed. It has one line for each edit,
+also for one that an earlier run tried, with the beginning of the first error that is not only a name that the edit took away. So
+what fails is that error's lemma, or the function whose contract is not met; the difference is taken where the line has it whole,
+and else stays as it is written, if the same fact fails.
 """
 import glob
 import os
@@ -20,11 +23,14 @@ import sys
 ROOT = os.path.join(os.path.dirname(os.path.abspath(__file__)), '..')
 PROMISES = os.path.join(ROOT, 'docs', 'PROMISES.md')
 HEAD = '| Edit | Changes | Fails first |'
-# an edit that only broke the shape of a proof is refused in these words
-SHAPE = ('has no `Need-', 'that can be named from here')
+PRINTED = os.path.join(ROOT, 'target', 'log', 'ci')
+LINE = re.compile(r'^rt: must-fail (\w+)/(\S+)\.edit: (.*)$')
+REFUSED = 'refused, as it must be'
+# an edit that only broke the shape of a proof, or that the prover gave no verdict on, is refused in these words
+FAULTS = ('only because a proof file names what the edit took away', 'only by a limit of the prover')
 # the words in which an error names two terms that differ
 DIFFERENCES = (
-    r'computed as far as they go, the two types (?:first )?differ(?: only)? where one has `([^`]*)`\s+\(expected\)'
+    r'(?:computed as far as they go|as printed), the two types (?:first )?differ(?: only)? where one has `([^`]*)`\s+\(expected\)'
     r'[^`]*and the other has `([^`]*)`',
     r'expected type `([^`]*)`,?\s+but this has type `([^`]*)`',
 )
@@ -35,7 +41,7 @@ SHORT = 60
 def edits():
     """The edits in the order of crates.txt, as crate and label."""
     with open(os.path.join(ROOT, 'crates.txt')) as text:
-        crates = [line.split(':')[0] for line in text if ':' in line and not line.startswith('#')]
+        crates = [line.split(':')[0].split()[0] for line in text if ':' in line and not line.startswith('#')]
     for crate in crates:
         for path in sorted(glob.glob(os.path.join(ROOT, 'crates', crate, 'must-fail', '*.edit'))):
             yield crate, os.path.basename(path)[:-len('.edit')]
@@ -47,32 +53,38 @@ def read(crate, label):
         return [line.partition(': ')[::2] for line in text.read().splitlines()]
 
 
-def fault(crate, label):
-    """What is wrong with an edit's texts, None for nothing. Its pairs are applied one after another, as the gate does."""
+def edited(crate, label):
+    """The files that an edit changes, with their new texts, and what is wrong with it, None for nothing. Its pairs are applied
+    one after another, as the gate does."""
     texts, name, old = {}, None, None
     for key, rest in read(crate, label):
         if key == 'file':
             name = rest
-            edited = os.path.join(ROOT, 'crates', crate, name)
-            if not os.path.isfile(edited):
-                return 'names no file: ' + name
-            texts.setdefault(name, open(edited).read())
+            path = os.path.join(ROOT, 'crates', crate, name)
+            if not os.path.isfile(path):
+                return texts, 'names no file: ' + name
+            texts.setdefault(name, open(path).read())
         elif key == 'old':
             old = rest
             if name is None or texts[name].count(old) != 1:
-                return '%d times in %s: %s' % (texts.get(name, '').count(old), name, old)
+                return texts, '%d times in %s: %s' % (texts.get(name, '').count(old), name, old)
         elif key == 'new':
             if old is None or old == rest:
-                return 'changes nothing: ' + rest
+                return texts, 'changes nothing: ' + rest
             texts[name] = texts[name].replace(old, rest)
             old = None
-    return None if texts and old is None else 'has no pair of lines'
+    return texts, None if texts and old is None else 'has no pair of lines'
+
+
+def fault(crate, label):
+    """What is wrong with an edit's texts, None for nothing."""
+    return edited(crate, label)[1]
 
 
 def plain(term):
     """A term without the modules of its names, and without the way from a place of a proof to an argument."""
-    term = re.sub(r'(?:[\w·]+\.)+(?=[\w·])', '', term)
-    return re.sub(r'(?:\bc )?(?:\.before )+(?:\.args \.)?|\bc \.args \.', '', term)
+    term = re.sub(r'(?<![\w.])(?:\w+\.)*[A-Z]\w*\.(?=\S)', '', term)
+    return re.sub(r'\bc\.(?:before\.)*(?:args\.)?', '', term)
 
 
 def difference(message):
@@ -85,31 +97,44 @@ def difference(message):
     return ''
 
 
-def fact(log):
-    """What fails first, None where the log names nothing, or where a definition is refused and not what is proved of it."""
-    errors = re.split(r'\n(?=\S*/(?:proofs|specs|src)/\S*: (?:error|note))', '\n' + log)
-    for error in errors:
-        found = re.match(r'\S*?/(proofs|specs|src)/(\S*?):\d+:\d+: error: `([^`]*)`: (.*)', error.lstrip('\n'), re.S)
-        if not found or 'was not admitted' in error.split('\n')[0]:
-            continue
-        folder, path, name, message = found.groups()
-        if folder != 'proofs':
+def function(text, path, line):
+    """The function of a file of src/ in which a line stands: the last that begins there or above."""
+    names = re.findall(r'^ *(?:pub )?(?:extern "C" )?fn (\w+)', '\n'.join(text.split('\n')[:line]), re.M)
+    module = re.sub(r'^src/|(/mod)?\.rt$', '', path)
+    return '::'.join(([] if module in ('lib', 'main') else module.split('/')) + names[-1:])
+
+
+def fact(crate, label, said):
+    """What fails first, None where the line names nothing, or where a definition is refused and not what is proved of it."""
+    said = said.partition(': ')[2]
+    found = re.match(r'(?:note: )?(?:\./)?((proofs|src)/(\S*?)):(\d+):\d+: (?:error: `([^`]*)`: )?(.*)', said)
+    if not found or 'was not admitted' in said:
+        return None
+    path, folder, rest, line, name, message = found.groups()
+    if folder == 'src':
+        # what is left open where no answer is written
+        goal = re.search(r'\(`([^`]+)`\)', message)
+        if name or not goal:
             return None
-        if path.endswith('/Proof.antt'):
-            where = '`%s`' % path[:-len('/Proof.antt')].replace('/', '::')
-            kept = re.search(r'(?:no proof of|expected type) `\S*Reads\.Post ', message)
-            where += ', what it ensures' if kept or name == 'returns' else '' if name.endswith('-spec') else ', `%s`' % name
-        else:
-            where = '`%s` (%s)' % (name, path[:-len('.antt')] if path.endswith('.antt') else path)
-        return where + difference(message)
-    found = re.search(r'^fn \w+::(\S+): no proof: .*does not close `([\w-]+)`', log, re.M)
-    return found and '`%s`, %s' % (found.group(1), 'what it ensures' if found.group(2) == 'returns' else '`%s`' % found.group(2))
+        text = edited(crate, label)[0].get(path) or open(os.path.join(ROOT, 'crates', crate, path)).read()
+        where, name = '`%s`' % function(text, path, int(line)), goal.group(1)
+    elif not name:
+        return None
+    elif not re.match(r'proofs/.+/(Invariants|Answers|Proof)\.antt$', path):
+        return '`%s` (%s)' % (name, rest[:-len('.antt')]) + difference(message)
+    else:
+        where = '`%s`' % os.path.dirname(rest).replace('/', '::')
+    kept = name == 'returns' or name.startswith('returns-') or re.search(r'(?:no proof of|expected type) `\S*Reads\.Post ', message)
+    where += ', what it ensures' if kept else '' if name.endswith('_spec') else ', `%s`' % name
+    return where + difference(message)
 
 
-def log_of(crate, label):
-    """The log of an edit, None where it has not been tried."""
-    path = os.path.join(ROOT, 'target', 'must-fail', crate, label, '.log')
-    return open(path).read() if os.path.exists(path) else None
+def printed():
+    """What rt printed of each edit, by crate/label."""
+    named = [word for word in sys.argv[1:] if not word.startswith('--')]
+    path = named[0] if named else PRINTED
+    lines = open(path).read().split('\n') if os.path.exists(path) else []
+    return {'%s/%s' % found.group(1, 2): found.group(3) for found in map(LINE.match, lines) if found}
 
 
 def rows(page):
@@ -126,17 +151,20 @@ def changed(crate, label):
 
 
 def written(page):
-    """The page with its table as it has to be, and what the logs are wrong in."""
-    old, out, faults = rows(page), [], []
+    """The page with its table as it has to be, and what is wrong in what was printed."""
+    old, told, out, faults = rows(page), printed(), [], []
     for crate, label in edits():
-        name, log = '%s/%s' % (crate, label), log_of(crate, label)
+        name = '%s/%s' % (crate, label)
+        said = told.get(name)
         failing = old.get(name, ' | –').split(' | ', 1)[1]
-        if log is not None:
-            shape = [words for words in SHAPE if words in log]
-            found = fact(log)
-            failing = (found or '–').replace('|', '\\|')
-            if shape or found is None:
-                faults.append('%s: %s' % (name, 'refused for its shape: ' + shape[0] if shape else 'no fact in its log'))
+        if said is not None:
+            wrong = [words for words in FAULTS if words in said]
+            found = fact(crate, label, said) if said.startswith(REFUSED) and not wrong else None
+            if said.startswith(REFUSED):
+                now = (found or '–').replace('|', '\\|')
+                failing = failing if failing.startswith(now + ': ') else now
+            if found is None:
+                faults.append('%s: %s' % (name, wrong[0] if wrong else 'no fact: ' + said[:120] if said.startswith(REFUSED) else said[:200]))
         out.append('| %s | %s | %s |' % (name, changed(crate, label), failing))
     at = page.find(HEAD)
     before = page[:at] if at >= 0 else page
@@ -165,7 +193,8 @@ def logs():
     with open(PROMISES) as text:
         page = text.read()
     now, faults = written(page)
-    faults += ['%s/%s: no log' % edit for edit in edits() if log_of(*edit) is None]
+    told = printed()
+    faults += ['%s/%s: nothing was printed of it' % edit for edit in edits() if '%s/%s' % edit not in told]
     was = page.splitlines()
     for line in now.splitlines():
         if line not in was:

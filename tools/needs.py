@@ -32,12 +32,12 @@ class Function:
     """A function of the archive: the bytes of stack that it takes itself, and the functions that it calls."""
 
     def __init__(self):
-        self.pushed, self.taken, self.probed, self.calls, self.before = 8, 0, 0, set(), ''
+        self.pushed, self.taken, self.in_loop, self.calls, self.before = 8, 0, False, set(), ''
 
     def line(self, said):
         found = re.search(r'\t(\w+) +(.*?)(?:\s+<.*)?$', said)
         operation, given = found.groups() if found else ('', '')
-        # a large frame is taken page by page, in a loop that ends at r11
+        # a large frame is taken step by step, in a loop that ends at r11: what it takes is what r11 is lowered by
         loop = operation == 'sub' and given.endswith(',%r11') and self.before == 'mov %rsp,%r11'
         self.before = operation + ' ' + given
         if operation == 'push':
@@ -46,18 +46,20 @@ class Function:
             sys.exit('a function aligns its stack, which is not reckoned with: ' + said)
         elif operation == 'call' and '*' in given:
             sys.exit('a function calls by a pointer: ' + said)
+        elif operation == 'sub' and given.endswith(',%rsp') and self.in_loop:
+            self.in_loop = False
         elif operation == 'sub' and given.endswith(',%rsp') or loop:
             taken = re.match(r'\$0x([0-9a-f]+),', given)
             if taken is None:
                 sys.exit('a function takes stack by a number that is not constant: ' + said)
             self.taken += int(taken.group(1), 16)
-            self.probed += loop
+            self.in_loop = loop
         called = re.search(r'R_X86_64_PLT32\s+(.+?)(?:[-+]0x[0-9a-f]+)?$', said)
         if called:
             self.calls.add(called.group(1).replace('.text.', '', 1) if called.group(1).startswith('.text.') else called.group(1))
 
     def own(self):
-        return self.pushed + self.taken - 0x1000 * self.probed
+        return self.pushed + self.taken
 
 
 def functions():
@@ -73,7 +75,7 @@ def functions():
 
 def deepest(known, name, above=()):
     """The deepest path from a function on."""
-    if name in ('memcpy', 'memset'):
+    if name in ('memcpy', 'memmove', 'memset'):
         return 0
     if name in above:
         sys.exit('a function calls itself: ' + ', '.join(above))

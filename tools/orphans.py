@@ -8,6 +8,9 @@ import sys
 
 from definitions import below, file, imports, read, said
 
+# the files of a function's own proof
+PROOF = re.compile(r'/proofs/.+/(Invariants|Answers|Proof)\.antt$')
+
 
 def taken():
     """What files take of others."""
@@ -22,7 +25,9 @@ def named():
     texts = [read('README.md')] + [read(path) for path in below('docs', '.md')]
     for path in filter(lambda at: '/proofs/' not in at, below('crates', '.antt', '.rt')):
         texts += [line for line in read(path).split('\n') if '-- ' in line or '// ' in line]
-    return {name for text in texts for name in re.findall(r'`([^`\s]+)`', text)}
+    names = {name for text in texts for name in re.findall(r'`([^`\s]+)`', text)}
+    # the landing notes have the spelling of their time
+    return names | {re.sub(r'(?<=[a-z0-9])[A-Z]', lambda at: '_' + at[0].lower(), name).replace('-', '_') for name in names}
 
 
 def used(path, name):
@@ -50,7 +55,7 @@ def main():
     orphans = [
         (path, name)
         for path in sorted(below('crates', '.antt'))
-        if '/proofs/' in path and not path.endswith('/Proof.antt')
+        if '/proofs/' in path and not PROOF.search(path)
         for name in file(path).public
         if (path, name) not in cited and name not in known and not used(path, name)
     ]

@@ -25,6 +25,7 @@ import subprocess
 import sys
 
 import header
+from definitions import below
 
 PORT = os.path.join(header.ROOT, 'target/port')
 MODULE = os.path.join(PORT, 'module.bc')
@@ -35,17 +36,18 @@ TARGETS = {
     'aarch64': (
         'aarch64-unknown-linux-gnu',
         'e-m:e-p270:32:32-p271:32:32-p272:64:64-i8:8:32-i16:16:32-i64:64-i128:128-n32:64-S128-Fn32',
-        [],
+        ['-march=armv8-a', '-mllvm', '-aarch64-load-store-renaming=false'],
     ),
     'riscv64': ('riscv64-unknown-linux-gnu', 'e-m:e-p:64:64-i64:64-i128:128-n32:64-S128', ['-march=rv64gc', '-mabi=lp64d']),
     'armv7': ('armv7-unknown-linux-gnueabihf', ARM, ['-march=armv7-a', '-mfpu=vfpv3-d16', '-mfloat-abi=hard']),
     'armv7-neon': ('armv7-unknown-linux-gnueabihf', ARM, ['-march=armv7-a', '-mfpu=neon', '-mfloat-abi=hard']),
-    'x86_64': ('x86_64-unknown-linux-gnu', None, ['-march=x86-64']),
+    'x86_64': ('x86_64-unknown-linux-gnu', None, ['-march=x86-64', '-mllvm', '-no-x86-call-frame-opt']),
 }
-# As the kit compiles the module.
+# As the kit compiles the module, some passes of LLVM left out for their faults; TARGETS has what goes by the processor.
 FLAGS = [
-    '-ffunction-sections', '-fdata-sections', '-mllvm', '-trap-unreachable', '-mllvm', '-no-trap-after-noreturn',
-    '--no-default-config', '-no-canonical-prefixes', '-Werror', '-fPIC', '-O3',
+    '-mllvm', '-no-trap-after-noreturn', '-ffunction-sections', '-fdata-sections', '-mllvm', '-trap-unreachable',
+    '-mllvm', '-disable-machine-licm', '-mllvm', '-disable-postra-machine-licm', '-mllvm', '-sink-common-insts=false',
+    '--no-default-config', '-no-canonical-prefixes', '-fintegrated-cc1', '-fno-crash-diagnostics', '-Werror', '-fPIC', '-O3',
 ]
 STDDEF = 'typedef __SIZE_TYPE__ size_t;\n#define NULL ((void *)0)\n'
 STDINT = ''.join('typedef __%s_TYPE__ %s_t;\n' % (name.upper(), name) for name in ('uint8', 'uint16', 'uint32', 'int32', 'uint64'))
@@ -56,11 +58,11 @@ def run(*words):
 
 
 def stale():
-    """Whether the module is missing, or older than a source."""
+    """Whether the module is missing, or older than a source; what checks keep in out/ is none."""
     if not os.path.exists(MODULE):
         return True
     made = os.path.getmtime(MODULE)
-    sources = [os.path.join(at, name) for at, _, names in os.walk(os.path.join(header.ROOT, 'crates')) for name in names]
+    sources = [os.path.join(header.ROOT, path) for path in below('crates', '')]
     return any(os.path.getmtime(source) > made for source in sources + [os.path.join(header.ROOT, 'crates.txt')])
 
 
@@ -150,7 +152,7 @@ def ported(text, target):
     text = only(r'^target triple = ".*"$', 'target triple = "%s"' % triple, text)
     if layout is not None:
         text = only(r'^target datalayout = ".*"$', 'target datalayout = "%s"' % layout, text)
-        text = only(r' "probe-stack"="inline-asm" "target-cpu"="x86-64"', '', text)
+        text = only(r' "probe-stack"="inline-asm" "stack-probe-size"="\d+" "target-cpu"="x86-64"', '', text)
     exported = set(re.findall(r'^define (?!internal)[^@]*@(\w+)\(', text, flags=re.M))
     if exported != {call.name for call in header.calls()}:
         sys.exit('the header and the module differ: %s' % ', '.join(sorted(exported ^ {call.name for call in header.calls()})))
@@ -216,7 +218,7 @@ def main():
     if stale():
         run('tools/module')
     kit = subprocess.run([os.path.join(header.ROOT, 'tools/kit')], check=True, stdout=subprocess.PIPE, text=True).stdout.strip()
-    bin_folder = os.path.join(kit, 'on', os.uname().machine, 'toolchain/bin')
+    bin_folder = os.path.join(kit, 'toolchain/bin')
     clang, folder = os.path.join(bin_folder, 'clang'), os.path.join(PORT, target)
     shutil.rmtree(folder, ignore_errors=True)
     os.makedirs(folder)

@@ -19,7 +19,7 @@ TABLES = 'docs/PROMISES.md'
 COLUMN = 'On the page'
 QUOTED = re.compile(r'`([^`]+)`')
 FIELD = re.compile(r'^  pub (\S+) : (.*)$')
-NAME = re.compile(r'[A-Za-z][\w′-]*')
+NAME = re.compile(r"[A-Za-z][\w'-]*")
 
 
 def claims():

@@ -52,7 +52,7 @@ def contracts():
     """For each request what the contracts of its calls cite."""
     out = {}
     for name in BOUNDARY:
-        text = read('crates/gesarumbo/src/%s.rt' % name)
+        text = read('crates/gesarumbo_c/src/%s.rt' % name)
         known = imports(text)
         for call in re.finditer(r'pub extern "C" fn (\w+)(.*?)\n\{', text, re.S):
             request = next(r for r, pattern in CALLS if re.search(pattern, call.group(1)))

@@ -8,11 +8,12 @@ What is made is laid out by `rt fmt` in a temporary folder and compared byte for
 belong (in a made crate, or among the boundary's made files) and is not made is named too, and removed where files are written.
 .gitattributes marks these places as generated, from the same list.
 
-A twin crate X257 has the code of X over 16-bit numbers, and the answers of its proofs (proofs/F/Proof.antt). Definitions and
-lemmas are not copied: they are stated in X over any field, and the twin cites them there. A place and a part of 16-bit numbers
-ask one fact more than those of bytes: its answer stands in the first field's proof in a comment that begins with `twin:`, which
-is opened here. Images and states stay bytes, and the edition of images is exchanged with the field. Where a crate calls one that has no twin, the twin calls the plain crate whose contract that one repeats (PLAIN).
-In the crate of the C boundary the module field257 is made from field256 in the same way.
+A twin crate X257 has the code of X over 16-bit numbers, and the answers of its proofs (Invariants.antt and Answers.antt, or
+Proof.antt, in proofs/F/). Definitions and lemmas are not copied: they are stated in X over any field, and the twin cites them there.
+A place and a part of 16-bit numbers ask one fact more than those of bytes: its answer stands in the first field's proof in a comment
+that begins with `twin:`, which is opened here. Images and states stay bytes, and the edition of images is exchanged with the field.
+Where a crate calls one that has no twin, the twin calls the plain crate whose contract that one repeats (PLAIN).
+In the crates of the C boundary, the calls and their exports, the module field257 is made from field256 in the same way.
 """
 import os
 import re
@@ -69,11 +70,13 @@ TAKEN = {
     'scrub': ['Report', 'Scrubbed', 'Walk'],
     'image': ['FIRST', 'grounds', 'header'],
 }
-# the crate of the boundary, its module over the first field, and the one that is made from it
-BOUNDARY, FIRST, SECOND = 'gesarumbo', 'field256', 'field257'
+# the crates of the boundary, their module over the first field, and the one that is made from it
+BOUNDARY, FIRST, SECOND = ['gesarumbo', 'gesarumbo_c'], 'field256', 'field257'
+# the files of a proof
+PROOF = re.compile(r'proofs/.+/(Invariants|Answers|Proof)\.antt$')
 # where only made files belong, below crates/
 MADE = ['%s257/' % name for name in TWINS]
-MADE += ['%s/%s' % (BOUNDARY, at) for at in ('src/%s.rt' % SECOND, 'proofs/%s/' % SECOND, 'proofs/images/gesarumbo257_write_image/')]
+MADE += ['%s/%s' % (name, at) for name in BOUNDARY for at in ('src/%s.rt' % SECOND, 'proofs/%s/' % SECOND, 'proofs/images/gesarumbo257_write_image/')]
 
 
 def symbols(text, returning):
@@ -93,7 +96,7 @@ def symbols(text, returning):
 
 def field(text):
     """The definitions of the other field, and the edition of its images."""
-    text = text.replace('gf256', 'gf257').replace('Rattle·symbol.', 'Rattle·symbol257.').replace('Rattle·batch_kernel.specs.Ready.', 'Rattle·batch_kernel257.specs.Ready.')
+    text = text.replace('gf256', 'gf257').replace('Rattle.symbol.', 'Rattle.symbol257.').replace('Rattle.batch_kernel.specs.Ready.', 'Rattle.batch_kernel257.specs.Ready.')
     return re.sub(r'\bFIRST\b', 'SECOND', text).replace('edition1', 'edition2').replace('proper1', 'proper2')
 
 
@@ -103,33 +106,30 @@ def code(name, text):
     for kind in TAKEN.get(name, []):
         text, named = re.subn(r'use crate::%s;\n|(// [^\n]*\n|#\[[^\n]*\n)*pub (enum|struct) %s \{.*?\n\}\n\n' % (kind, kind), '', text, flags=re.S)
         if named and re.search(r'\b%s\b' % kind, text):
-            before = 'symbol257' if '\nuse symbol257' in text else 'layout::Layout'
-            text = text.replace('\nuse ' + before, '\nuse %s::%s;\nuse %s' % (name, kind, before), 1)
+            text = text.replace('\nuse ', '\nuse %s::%s;\nuse ' % (name, kind), 1)
     return cited(name, text)
 
 
 def cited(name, text):
     """The modules that a file of the twin of a crate cites."""
-    text = field(text)
-    text = text.replace('Rattle·%s·specs.specs.' % name, 'Rattle·%s.specs.' % name)
-    text = re.sub(r'Rattle·%s·proofs\.proofs\.([A-Z])' % name, r'Rattle·%s.proofs.\1' % name, text)
-    return re.sub(r'Rattle·%s·proofs\.proofs\.([a-z+])' % name, r'Rattle·%s257·proofs.proofs.\1' % name, text)
+    return re.sub(r'\bRattle\.%s\.proofs\.(?=[a-z+])' % name, 'Rattle.%s257.proofs.' % name, field(text))
 
 
 def proof(name, text):
     """The answers, those for 16-bit numbers with them. A walk of the code by hand names the kind of symbols and the functions called."""
     text = re.sub(r'\b([uw])8\b', r'\g<1>16', text.replace('-- twin: ', ''))
-    return cited(name, text.replace('calls-%s·' % name, 'calls-%s257·' % name))
+    return cited(name, text.replace('calls-%s::' % name, 'calls-%s257::' % name))
 
 
 def exported(text):
     """The names at the boundary."""
-    return re.sub(r'\bgesarumbo([_-])', r'gesarumbo257\1', field(text)).replace(FIRST, SECOND).replace('the field of 256', 'the field modulo 257')
+    return re.sub(r'\bgesarumbo(?!_c\b)([_-])', r'gesarumbo257\1', field(text)).replace(FIRST, SECOND).replace('the field of 256', 'the field modulo 257')
 
 
 def files(base):
-    """Every file below a folder, and its path there."""
-    for folder, _, names in os.walk(base):
+    """Every file below a folder, and its path there. What checks keep in a crate's out/ is no part of it."""
+    for folder, below, names in os.walk(base):
+        below[:] = [name for name in below if name != 'out']
         for name in sorted(names):
             path = os.path.join(folder, name)
             yield path, os.path.relpath(path, base)
@@ -143,16 +143,17 @@ def made():
             text = open(path).read()
             if rel.startswith('src'):
                 yield path, target, code(name, text)
-            elif rel.endswith('Proof.antt'):
+            elif PROOF.match(rel):
                 yield path, target, proof(name, text)
-    base = os.path.join(ROOT, BOUNDARY)
-    for path, rel in files(base):
-        target = os.path.join(base, rel.replace(FIRST, SECOND).replace('/gesarumbo_', '/gesarumbo257_'))
-        text = open(path).read()
-        if rel == 'src/%s.rt' % FIRST:
-            yield path, target, exported(symbols(text, []))
-        elif rel.startswith('proofs/%s/' % FIRST) or rel.startswith('proofs/images/gesarumbo_write_image/'):
-            yield path, target, exported(re.sub(r'\bw8\b', 'w16', text.replace('-- twin: ', '')))
+    for name in BOUNDARY:
+        base = os.path.join(ROOT, name)
+        for path, rel in files(base):
+            target = os.path.join(base, rel.replace(FIRST, SECOND).replace('/gesarumbo_', '/gesarumbo257_'))
+            text = open(path).read()
+            if rel == 'src/%s.rt' % FIRST:
+                yield path, target, exported(symbols(text, []))
+            elif PROOF.match(rel) and rel.startswith(('proofs/%s/' % FIRST, 'proofs/images/gesarumbo_write_image/')):
+                yield path, target, exported(re.sub(r'\bw8\b', 'w16', text.replace('-- twin: ', '')))
 
 
 def headed(source, text):
@@ -163,14 +164,14 @@ def headed(source, text):
 def laid_out(texts):
     """Texts by their paths below crates/, as `rt fmt` lays them out: it breaks longer lines and sorts the uses."""
     with tempfile.TemporaryDirectory() as folder:
-        open(os.path.join(folder, 'crates.txt'), 'w').close()
+        # one folder in the place of a crate, since the layout of a file does not depend on where it stands
         for rel, text in texts.items():
-            path = os.path.join(folder, 'crates', rel)
+            path = os.path.join(folder, 'src', rel)
             os.makedirs(os.path.dirname(path), exist_ok=True)
             with open(path, 'w') as file:
                 file.write(text)
         subprocess.run(['rt', 'fmt'], cwd=folder, check=True, stdout=subprocess.DEVNULL)
-        return {rel: open(os.path.join(folder, 'crates', rel)).read() for rel in texts}
+        return {rel: open(os.path.join(folder, 'src', rel)).read() for rel in texts}
 
 
 def left_over(kept):

@@ -15,7 +15,7 @@ fn main() {
     if !archive.is_file() {
         eprintln!(
             "There is no libgesarumbo.a in {}.\n\
-             Run `rt staticlib gesarumbo` in the repository's root to prove the library and write it,\n\
+             Run tools/archive in the repository to prove the library and write it,\n\
              or name the folder that has it in the environment variable {FOLDER}.",
             folder.display()
         );

@@ -1,4 +1,1 @@
-mod Lent
-mod LentReset
-mod LentStep
 pub mod Shown

@@ -2,8 +2,7 @@
 ghost use Rattle.std.specs.Prelude.{◌≡◌};
 ghost use Rattle.checksum.specs.Checksum.{checksum_of};
 
-#[unsafe(no_mangle)]
-pub extern "C" fn gesarumbo_checksum(start: u64, bytes: &[u8]) -> u64
+pub fn gesarumbo_checksum(start: u64, bytes: &[u8]) -> u64
     ensures { result ≡ checksum_of start bytes.now }
 {
     checksum::checksum(start, bytes)

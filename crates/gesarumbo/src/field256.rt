@@ -33,50 +33,33 @@ use scrub::Walk;
 use symbol::plain::ORDER;
 use test_kept::KeptNumbers;
 
-#[unsafe(no_mangle)]
-pub extern "C" fn gesarumbo_measure(l: Layout) -> MeasureNumbers
+pub fn gesarumbo_measure(l: Layout) -> MeasureNumbers
     ensures { result ≡ measure_numbers (measured gf256.order l) }
 {
     numbers::measure_numbers(layout::measure(ORDER as u32, l))
 }
 
-#[unsafe(no_mangle)]
-pub extern "C" fn gesarumbo_test(l: Layout, codeword: &[u8]) -> TestNumbers
+pub fn gesarumbo_test(l: Layout, codeword: &[u8]) -> TestNumbers
     ensures { Shown (TestAnswer gf256 l codeword.now) test_numbers result }
 {
     numbers::test_numbers(testing::test(l, codeword))
 }
 
-#[unsafe(no_mangle)]
-pub extern "C" fn gesarumbo_share(
-    l: Layout,
-    host: u32,
-    helper: u32,
-    rack: &[u8],
-    share: &mut [u8],
-) -> u32
+pub fn gesarumbo_share(l: Layout, host: u32, helper: u32, rack: &[u8], share: &mut [u8]) -> u32
     ensures answer { result ≡ shares_refusal gf256 l 1 host helper rack.now (length share.old) }
     ensures buffer { share.new ≡ shares_buffer gf256 l 1 host helper rack.now share.old }
 {
     share::share(l, Rack::of(host), Rack::of(helper), rack, share) as u32
 }
 
-#[unsafe(no_mangle)]
-pub extern "C" fn gesarumbo_share_add(
-    l: Layout,
-    host: u32,
-    tray: u32,
-    symbols: &[u8],
-    share: &mut [u8],
-) -> u32
+pub fn gesarumbo_share_add(l: Layout, host: u32, tray: u32, symbols: &[u8], share: &mut [u8]) -> u32
     ensures answer { result ≡ fed_refusal gf256 l 1 host tray symbols.now share.old }
     ensures buffer { share.new ≡ fed_buffer gf256 l 1 host tray symbols.now share.old }
 {
     share::share_add(l, Rack::of(host), Tray::of(tray), symbols, share) as u32
 }
 
-#[unsafe(no_mangle)]
-pub extern "C" fn gesarumbo_share_many(
+pub fn gesarumbo_share_many(
     l: Layout,
     count: u32,
     host: u32,
@@ -90,8 +73,7 @@ pub extern "C" fn gesarumbo_share_many(
     share::share_many(l, count, Rack::of(host), Rack::of(helper), rack, share) as u32
 }
 
-#[unsafe(no_mangle)]
-pub extern "C" fn gesarumbo_share_add_many(
+pub fn gesarumbo_share_add_many(
     l: Layout,
     count: u32,
     host: u32,
@@ -105,8 +87,7 @@ pub extern "C" fn gesarumbo_share_add_many(
     share::share_add_many(l, count, Rack::of(host), Tray::of(tray), symbols, share) as u32
 }
 
-#[unsafe(no_mangle)]
-pub extern "C" fn gesarumbo_repair(
+pub fn gesarumbo_repair(
     l: Layout,
     lost: u32,
     helpers: &[u32],
@@ -131,8 +112,7 @@ pub extern "C" fn gesarumbo_repair(
     ))
 }
 
-#[unsafe(no_mangle)]
-pub extern "C" fn gesarumbo_repair_many(
+pub fn gesarumbo_repair_many(
     l: Layout,
     lost: &[u32],
     helpers: &[u32],
@@ -150,8 +130,7 @@ pub extern "C" fn gesarumbo_repair_many(
     ))
 }
 
-#[unsafe(no_mangle)]
-pub extern "C" fn gesarumbo_share_batch(
+pub fn gesarumbo_share_batch(
     l: Layout,
     many: usize,
     host: u32,
@@ -164,8 +143,7 @@ pub extern "C" fn gesarumbo_share_batch(
     batch_share::share_batch(l, many, Rack::of(host), Rack::of(helper), rack, share) as u32
 }
 
-#[unsafe(no_mangle)]
-pub extern "C" fn gesarumbo_repair_batch(
+pub fn gesarumbo_repair_batch(
     l: Layout,
     many: usize,
     lost: u32,
@@ -192,8 +170,7 @@ pub extern "C" fn gesarumbo_repair_batch(
     ))
 }
 
-#[unsafe(no_mangle)]
-pub extern "C" fn gesarumbo_repair_correcting(
+pub fn gesarumbo_repair_correcting(
     l: Layout,
     lost: u32,
     helpers: &[u32],
@@ -213,34 +190,19 @@ pub extern "C" fn gesarumbo_repair_correcting(
     ))
 }
 
-#[unsafe(no_mangle)]
-pub extern "C" fn gesarumbo_card(
-    l: Layout,
-    lost: u32,
-    helpers: &[u32],
-    group: u64,
-    card: &mut [u8],
-) -> u32
+pub fn gesarumbo_card(l: Layout, lost: u32, helpers: &[u32], group: u64, card: &mut [u8]) -> u32
     ensures { PrintAnswer gf256 l lost helpers.now group card.old card.new result }
 {
     cards::card_print(l, Tray::of(lost), helpers, card, group) as u32
 }
 
-#[unsafe(no_mangle)]
-pub extern "C" fn gesarumbo_card_test(
-    l: Layout,
-    lost: u32,
-    helpers: &[u32],
-    card: &[u8],
-    group: u64,
-) -> u32
+pub fn gesarumbo_card_test(l: Layout, lost: u32, helpers: &[u32], card: &[u8], group: u64) -> u32
     ensures { CardTest gf256 l lost helpers.now card.now group result }
 {
     cards::card_test(l, Tray::of(lost), helpers, card, group) as u32
 }
 
-#[unsafe(no_mangle)]
-pub extern "C" fn gesarumbo_card_repair(
+pub fn gesarumbo_card_repair(
     l: Layout,
     lost: u32,
     helpers: &[u32],
@@ -265,8 +227,7 @@ pub extern "C" fn gesarumbo_card_repair(
     ))
 }
 
-#[unsafe(no_mangle)]
-pub extern "C" fn gesarumbo_read_part<'a>(
+pub fn gesarumbo_read_part<'a>(
     l: Layout,
     codeword: &'a [u8],
     spare: &'a [u8],
@@ -303,34 +264,25 @@ pub extern "C" fn gesarumbo_read_part<'a>(
     numbers::part_numbers(lost, tray, first, start, length)
 }
 
-#[unsafe(no_mangle)]
-pub extern "C" fn gesarumbo_store(l: Layout, words: &[u8], codeword: &mut [u8]) -> u32
+pub fn gesarumbo_store(l: Layout, words: &[u8], codeword: &mut [u8]) -> u32
     ensures { StoreAnswer gf256 l words.now codeword.old codeword.new result }
 {
     store::store(l, words, codeword) as u32
 }
 
-#[unsafe(no_mangle)]
-pub extern "C" fn gesarumbo_store_batch(
-    l: Layout,
-    many: usize,
-    words: &[u8],
-    codewords: &mut [u8],
-) -> u32
+pub fn gesarumbo_store_batch(l: Layout, many: usize, words: &[u8], codewords: &mut [u8]) -> u32
     ensures { BatchStoreAnswer gf256 l many words.now codewords.old codewords.new result }
 {
     batch_store::store_batch(l, many, words, codewords) as u32
 }
 
-#[unsafe(no_mangle)]
-pub extern "C" fn gesarumbo_recover(l: Layout, codeword: &mut [u8], erased: &[u32]) -> u32
+pub fn gesarumbo_recover(l: Layout, codeword: &mut [u8], erased: &[u32]) -> u32
     ensures { RecoverAnswer gf256 l erased.now codeword.old codeword.new result }
 {
     recover::recover(l, codeword, erased) as u32
 }
 
-#[unsafe(no_mangle)]
-pub extern "C" fn gesarumbo_recover_correcting(
+pub fn gesarumbo_recover_correcting(
     l: Layout,
     codeword: &mut [u8],
     erased: &[u32],
@@ -340,23 +292,20 @@ pub extern "C" fn gesarumbo_recover_correcting(
     numbers::recovered_numbers(recover_correcting::recover_correcting(l, codeword, erased))
 }
 
-#[unsafe(no_mangle)]
-pub extern "C" fn gesarumbo_test_kept(l: Layout, codeword: &[u8], erased: &[u32]) -> KeptNumbers
+pub fn gesarumbo_test_kept(l: Layout, codeword: &[u8], erased: &[u32]) -> KeptNumbers
     ensures { Shown (KeptAnswer gf256 l erased.now codeword.now) kept result }
 {
     numbers::kept_numbers(test_kept::test_kept(l, codeword, erased))
 }
 
-#[unsafe(no_mangle)]
-pub extern "C" fn gesarumbo_states(l: Layout, volume: u32, images: &[u8], states: &mut [u8]) -> u32
+pub fn gesarumbo_states(l: Layout, volume: u32, images: &[u8], states: &mut [u8]) -> u32
     ensures answer { result ≡ states_refusal edition1 l (length images.now) (length states.old) }
     ensures buffer { states.new ≡ states_buffer edition1 l volume images.now states.old }
 {
     gather::states::states(l, volume, images, states) as u32
 }
 
-#[unsafe(no_mangle)]
-pub extern "C" fn gesarumbo_gather(
+pub fn gesarumbo_gather(
     l: Layout,
     volume: u32,
     images: &[u8],
@@ -368,8 +317,7 @@ pub extern "C" fn gesarumbo_gather(
     gather::gather(l, volume, images, codeword, missing)
 }
 
-#[unsafe(no_mangle)]
-pub extern "C" fn gesarumbo_gather_rack(
+pub fn gesarumbo_gather_rack(
     l: Layout,
     volume: u32,
     rack: u32,
@@ -383,35 +331,26 @@ pub extern "C" fn gesarumbo_gather_rack(
     gather::rack::gather_rack(l, volume, Rack::of(rack), lost, images, out) as u32
 }
 
-#[unsafe(no_mangle)]
-pub extern "C" fn gesarumbo_margin(l: Layout, states: &[u8]) -> MarginNumbers
+pub fn gesarumbo_margin(l: Layout, states: &[u8]) -> MarginNumbers
     ensures { result ≡ margin_numbers (margin_answer gf256.order l states.now) }
 {
     numbers::margin_numbers(margin::margin(ORDER as u32, l, states))
 }
 
-#[unsafe(no_mangle)]
-pub extern "C" fn gesarumbo_scrub_reset(l: Layout, walk: Walk) -> ScrubNumbers
+pub fn gesarumbo_scrub_reset(l: Layout, walk: Walk) -> ScrubNumbers
     ensures { result ≡ scrub_numbers (begun gf256.order l walk) }
 {
     numbers::scrub_numbers(scrub::reset(l, walk))
 }
 
-#[unsafe(no_mangle)]
-pub extern "C" fn gesarumbo_scrub(
-    l: Layout,
-    codeword: &[u8],
-    walk: Walk,
-    budget: u64,
-) -> ScrubNumbers
+pub fn gesarumbo_scrub(l: Layout, codeword: &[u8], walk: Walk, budget: u64) -> ScrubNumbers
     ensures { result ≡ scrub_numbers (scrubbed gf256 l codeword.now walk budget) }
 {
     numbers::scrub_numbers(scrub::step(l, codeword, walk, budget))
 }
 
 // The reset with the record lent, and changed in its place.
-#[unsafe(no_mangle)]
-pub extern "C" fn gesarumbo_scrub_reset_in_place(l: Layout, walk: &mut Walk) -> ReportNumbers
+pub fn gesarumbo_scrub_reset_in_place(l: Layout, walk: &mut Walk) -> ReportNumbers
     ensures { (result ≡ report_numbers (begun gf256.order l walk.old).report) × (walk.new ≡ (begun gf256.order l walk.old).walk) }
 {
     let begun = gesarumbo_scrub_reset(l, *walk);
@@ -423,8 +362,7 @@ pub extern "C" fn gesarumbo_scrub_reset_in_place(l: Layout, walk: &mut Walk) -> 
 }
 
 // The step with the record lent, and changed in its place.
-#[unsafe(no_mangle)]
-pub extern "C" fn gesarumbo_scrub_in_place(
+pub fn gesarumbo_scrub_in_place(
     l: Layout,
     codeword: &[u8],
     walk: &mut Walk,

@@ -34,36 +34,26 @@ use scrub::Walk;
 use symbol257::plain::ORDER;
 use test_kept::KeptNumbers;
 
-#[unsafe(no_mangle)]
-pub extern "C" fn gesarumbo257_measure(l: Layout) -> MeasureNumbers
+pub fn gesarumbo257_measure(l: Layout) -> MeasureNumbers
     ensures { result ≡ measure_numbers (measured gf257.order l) }
 {
     numbers::measure_numbers(layout::measure(ORDER as u32, l))
 }
 
-#[unsafe(no_mangle)]
-pub extern "C" fn gesarumbo257_test(l: Layout, codeword: &[u16]) -> TestNumbers
+pub fn gesarumbo257_test(l: Layout, codeword: &[u16]) -> TestNumbers
     ensures { Shown (TestAnswer gf257 l codeword.now) test_numbers result }
 {
     numbers::test_numbers(testing257::test(l, codeword))
 }
 
-#[unsafe(no_mangle)]
-pub extern "C" fn gesarumbo257_share(
-    l: Layout,
-    host: u32,
-    helper: u32,
-    rack: &[u16],
-    share: &mut [u16],
-) -> u32
+pub fn gesarumbo257_share(l: Layout, host: u32, helper: u32, rack: &[u16], share: &mut [u16]) -> u32
     ensures answer { result ≡ shares_refusal gf257 l 1 host helper rack.now (length share.old) }
     ensures buffer { share.new ≡ shares_buffer gf257 l 1 host helper rack.now share.old }
 {
     share257::share(l, Rack::of(host), Rack::of(helper), rack, share) as u32
 }
 
-#[unsafe(no_mangle)]
-pub extern "C" fn gesarumbo257_share_add(
+pub fn gesarumbo257_share_add(
     l: Layout,
     host: u32,
     tray: u32,
@@ -76,8 +66,7 @@ pub extern "C" fn gesarumbo257_share_add(
     share257::share_add(l, Rack::of(host), Tray::of(tray), symbols, share) as u32
 }
 
-#[unsafe(no_mangle)]
-pub extern "C" fn gesarumbo257_share_many(
+pub fn gesarumbo257_share_many(
     l: Layout,
     count: u32,
     host: u32,
@@ -91,8 +80,7 @@ pub extern "C" fn gesarumbo257_share_many(
     share257::share_many(l, count, Rack::of(host), Rack::of(helper), rack, share) as u32
 }
 
-#[unsafe(no_mangle)]
-pub extern "C" fn gesarumbo257_share_add_many(
+pub fn gesarumbo257_share_add_many(
     l: Layout,
     count: u32,
     host: u32,
@@ -106,8 +94,7 @@ pub extern "C" fn gesarumbo257_share_add_many(
     share257::share_add_many(l, count, Rack::of(host), Tray::of(tray), symbols, share) as u32
 }
 
-#[unsafe(no_mangle)]
-pub extern "C" fn gesarumbo257_repair(
+pub fn gesarumbo257_repair(
     l: Layout,
     lost: u32,
     helpers: &[u32],
@@ -132,8 +119,7 @@ pub extern "C" fn gesarumbo257_repair(
     ))
 }
 
-#[unsafe(no_mangle)]
-pub extern "C" fn gesarumbo257_repair_many(
+pub fn gesarumbo257_repair_many(
     l: Layout,
     lost: &[u32],
     helpers: &[u32],
@@ -151,8 +137,7 @@ pub extern "C" fn gesarumbo257_repair_many(
     ))
 }
 
-#[unsafe(no_mangle)]
-pub extern "C" fn gesarumbo257_share_batch(
+pub fn gesarumbo257_share_batch(
     l: Layout,
     many: usize,
     host: u32,
@@ -165,8 +150,7 @@ pub extern "C" fn gesarumbo257_share_batch(
     batch_share257::share_batch(l, many, Rack::of(host), Rack::of(helper), rack, share) as u32
 }
 
-#[unsafe(no_mangle)]
-pub extern "C" fn gesarumbo257_repair_batch(
+pub fn gesarumbo257_repair_batch(
     l: Layout,
     many: usize,
     lost: u32,
@@ -193,8 +177,7 @@ pub extern "C" fn gesarumbo257_repair_batch(
     ))
 }
 
-#[unsafe(no_mangle)]
-pub extern "C" fn gesarumbo257_repair_correcting(
+pub fn gesarumbo257_repair_correcting(
     l: Layout,
     lost: u32,
     helpers: &[u32],
@@ -214,21 +197,13 @@ pub extern "C" fn gesarumbo257_repair_correcting(
     ))
 }
 
-#[unsafe(no_mangle)]
-pub extern "C" fn gesarumbo257_card(
-    l: Layout,
-    lost: u32,
-    helpers: &[u32],
-    group: u64,
-    card: &mut [u16],
-) -> u32
+pub fn gesarumbo257_card(l: Layout, lost: u32, helpers: &[u32], group: u64, card: &mut [u16]) -> u32
     ensures { PrintAnswer gf257 l lost helpers.now group card.old card.new result }
 {
     cards257::card_print(l, Tray::of(lost), helpers, card, group) as u32
 }
 
-#[unsafe(no_mangle)]
-pub extern "C" fn gesarumbo257_card_test(
+pub fn gesarumbo257_card_test(
     l: Layout,
     lost: u32,
     helpers: &[u32],
@@ -240,8 +215,7 @@ pub extern "C" fn gesarumbo257_card_test(
     cards257::card_test(l, Tray::of(lost), helpers, card, group) as u32
 }
 
-#[unsafe(no_mangle)]
-pub extern "C" fn gesarumbo257_card_repair(
+pub fn gesarumbo257_card_repair(
     l: Layout,
     lost: u32,
     helpers: &[u32],
@@ -266,8 +240,7 @@ pub extern "C" fn gesarumbo257_card_repair(
     ))
 }
 
-#[unsafe(no_mangle)]
-pub extern "C" fn gesarumbo257_read_part<'a>(
+pub fn gesarumbo257_read_part<'a>(
     l: Layout,
     codeword: &'a [u16],
     spare: &'a [u16],
@@ -304,34 +277,25 @@ pub extern "C" fn gesarumbo257_read_part<'a>(
     numbers::part_numbers(lost, tray, first, start, length)
 }
 
-#[unsafe(no_mangle)]
-pub extern "C" fn gesarumbo257_store(l: Layout, words: &[u16], codeword: &mut [u16]) -> u32
+pub fn gesarumbo257_store(l: Layout, words: &[u16], codeword: &mut [u16]) -> u32
     ensures { StoreAnswer gf257 l words.now codeword.old codeword.new result }
 {
     store257::store(l, words, codeword) as u32
 }
 
-#[unsafe(no_mangle)]
-pub extern "C" fn gesarumbo257_store_batch(
-    l: Layout,
-    many: usize,
-    words: &[u16],
-    codewords: &mut [u16],
-) -> u32
+pub fn gesarumbo257_store_batch(l: Layout, many: usize, words: &[u16], codewords: &mut [u16]) -> u32
     ensures { BatchStoreAnswer gf257 l many words.now codewords.old codewords.new result }
 {
     batch_store257::store_batch(l, many, words, codewords) as u32
 }
 
-#[unsafe(no_mangle)]
-pub extern "C" fn gesarumbo257_recover(l: Layout, codeword: &mut [u16], erased: &[u32]) -> u32
+pub fn gesarumbo257_recover(l: Layout, codeword: &mut [u16], erased: &[u32]) -> u32
     ensures { RecoverAnswer gf257 l erased.now codeword.old codeword.new result }
 {
     recover257::recover(l, codeword, erased) as u32
 }
 
-#[unsafe(no_mangle)]
-pub extern "C" fn gesarumbo257_recover_correcting(
+pub fn gesarumbo257_recover_correcting(
     l: Layout,
     codeword: &mut [u16],
     erased: &[u32],
@@ -341,28 +305,20 @@ pub extern "C" fn gesarumbo257_recover_correcting(
     numbers::recovered_numbers(recover_correcting257::recover_correcting(l, codeword, erased))
 }
 
-#[unsafe(no_mangle)]
-pub extern "C" fn gesarumbo257_test_kept(l: Layout, codeword: &[u16], erased: &[u32]) -> KeptNumbers
+pub fn gesarumbo257_test_kept(l: Layout, codeword: &[u16], erased: &[u32]) -> KeptNumbers
     ensures { Shown (KeptAnswer gf257 l erased.now codeword.now) kept result }
 {
     numbers::kept_numbers(test_kept257::test_kept(l, codeword, erased))
 }
 
-#[unsafe(no_mangle)]
-pub extern "C" fn gesarumbo257_states(
-    l: Layout,
-    volume: u32,
-    images: &[u8],
-    states: &mut [u8],
-) -> u32
+pub fn gesarumbo257_states(l: Layout, volume: u32, images: &[u8], states: &mut [u8]) -> u32
     ensures answer { result ≡ states_refusal edition2 l (length images.now) (length states.old) }
     ensures buffer { states.new ≡ states_buffer edition2 l volume images.now states.old }
 {
     gather257::states::states(l, volume, images, states) as u32
 }
 
-#[unsafe(no_mangle)]
-pub extern "C" fn gesarumbo257_gather(
+pub fn gesarumbo257_gather(
     l: Layout,
     volume: u32,
     images: &[u8],
@@ -374,8 +330,7 @@ pub extern "C" fn gesarumbo257_gather(
     gather257::gather(l, volume, images, codeword, missing)
 }
 
-#[unsafe(no_mangle)]
-pub extern "C" fn gesarumbo257_gather_rack(
+pub fn gesarumbo257_gather_rack(
     l: Layout,
     volume: u32,
     rack: u32,
@@ -389,35 +344,26 @@ pub extern "C" fn gesarumbo257_gather_rack(
     gather257::rack::gather_rack(l, volume, Rack::of(rack), lost, images, out) as u32
 }
 
-#[unsafe(no_mangle)]
-pub extern "C" fn gesarumbo257_margin(l: Layout, states: &[u8]) -> MarginNumbers
+pub fn gesarumbo257_margin(l: Layout, states: &[u8]) -> MarginNumbers
     ensures { result ≡ margin_numbers (margin_answer gf257.order l states.now) }
 {
     numbers::margin_numbers(margin::margin(ORDER as u32, l, states))
 }
 
-#[unsafe(no_mangle)]
-pub extern "C" fn gesarumbo257_scrub_reset(l: Layout, walk: Walk) -> ScrubNumbers
+pub fn gesarumbo257_scrub_reset(l: Layout, walk: Walk) -> ScrubNumbers
     ensures { result ≡ scrub_numbers (begun gf257.order l walk) }
 {
     numbers::scrub_numbers(scrub257::reset(l, walk))
 }
 
-#[unsafe(no_mangle)]
-pub extern "C" fn gesarumbo257_scrub(
-    l: Layout,
-    codeword: &[u16],
-    walk: Walk,
-    budget: u64,
-) -> ScrubNumbers
+pub fn gesarumbo257_scrub(l: Layout, codeword: &[u16], walk: Walk, budget: u64) -> ScrubNumbers
     ensures { result ≡ scrub_numbers (scrubbed gf257 l codeword.now walk budget) }
 {
     numbers::scrub_numbers(scrub257::step(l, codeword, walk, budget))
 }
 
 // The reset with the record lent, and changed in its place.
-#[unsafe(no_mangle)]
-pub extern "C" fn gesarumbo257_scrub_reset_in_place(l: Layout, walk: &mut Walk) -> ReportNumbers
+pub fn gesarumbo257_scrub_reset_in_place(l: Layout, walk: &mut Walk) -> ReportNumbers
     ensures { (result ≡ report_numbers (begun gf257.order l walk.old).report) × (walk.new ≡ (begun gf257.order l walk.old).walk) }
 {
     let begun = gesarumbo257_scrub_reset(l, *walk);
@@ -429,8 +375,7 @@ pub extern "C" fn gesarumbo257_scrub_reset_in_place(l: Layout, walk: &mut Walk) 
 }
 
 // The step with the record lent, and changed in its place.
-#[unsafe(no_mangle)]
-pub extern "C" fn gesarumbo257_scrub_in_place(
+pub fn gesarumbo257_scrub_in_place(
     l: Layout,
     codeword: &[u16],
     walk: &mut Walk,

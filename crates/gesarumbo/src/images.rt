@@ -7,8 +7,7 @@ use crate::numbers::ImageNumbers;
 use image257::Answer;
 use layout::{Layout, Tray};
 
-#[unsafe(no_mangle)]
-pub extern "C" fn gesarumbo_write_image(
+pub fn gesarumbo_write_image(
     l: Layout,
     tray: u32,
     state: u32,
@@ -22,8 +21,7 @@ pub extern "C" fn gesarumbo_write_image(
     image::write(l, Tray::of(tray), state, volume, symbols, image) as u32
 }
 
-#[unsafe(no_mangle)]
-pub extern "C" fn gesarumbo257_write_image(
+pub fn gesarumbo257_write_image(
     l: Layout,
     tray: u32,
     state: u32,
@@ -37,8 +35,7 @@ pub extern "C" fn gesarumbo257_write_image(
     image257::write(l, Tray::of(tray), state, volume, symbols, image) as u32
 }
 
-#[unsafe(no_mangle)]
-pub extern "C" fn gesarumbo_read_image(l: Layout, volume: u32, image: &[u8]) -> ImageNumbers
+pub fn gesarumbo_read_image(l: Layout, volume: u32, image: &[u8]) -> ImageNumbers
     ensures { result ≡ image_numbers l volume image.now }
 {
     let mut refusal = 0u32;
@@ -61,13 +58,7 @@ pub extern "C" fn gesarumbo_read_image(l: Layout, volume: u32, image: &[u8]) -> 
     }
 }
 
-#[unsafe(no_mangle)]
-pub extern "C" fn gesarumbo257_read_image(
-    l: Layout,
-    volume: u32,
-    image: &[u8],
-    symbols: &mut [u16],
-) -> Answer
+pub fn gesarumbo257_read_image(l: Layout, volume: u32, image: &[u8], symbols: &mut [u16]) -> Answer
     ensures refusal { result.refusal ≡ read_refusal edition2 l volume (length symbols.old) image.now }
     ensures tray { result.tray ≡ read_tray edition2 l volume (length symbols.old) image.now }
     ensures symbols { symbols.new ≡ read_symbols edition2 l volume (length symbols.old) symbols.old image.now }
