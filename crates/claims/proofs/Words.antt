@@ -96,15 +96,15 @@ module _ (N : ℕ) (l : Layout) (codeword spare : List ℕ) (lost done tray firs
   unfolding part_given
   of_spare e = simp (eq-eqb (part_refusal N l (length codeword) (length spare) lost done tray first end) 0 z, eq-eqb tray lost e)
 
-  all_done : tray ≡ lost → all_done l lost done first end ≡ true
+  all_done_lem : tray ≡ lost → all_done l lost done first end ≡ true
   unfolding available
-  all_done e = sym (ap (λ t. not t || all_done l lost done first end) (eq-eqb tray lost e)) ∙ (accepted N l (length codeword) (length spare) lost done tray first end z).given
+  all_done_lem e = sym (ap (λ t. not t || all_done l lost done first end) (eq-eqb tray lost e)) ∙ (accepted N l (length codeword) (length spare) lost done tray first end z).given
 
   pub done_only : tray ≡ lost → (j : ℕ) → first ≤ j → j < end → group_at l lost j < done
   unfolding all_done
   done_only e j low high =
       let at : first + (j - first) ≡ j = omega arith in
-      subst (λ k. group_at l lost k < done) at (ltb-true _ _ (all_holds (λ i. ltb (group_at l lost (first + i)) done) (end - first) (all_done e) (j - first) (omega arith)))
+      subst (λ k. group_at l lost k < done) at (ltb-true _ _ (all_holds (λ i. ltb (group_at l lost (first + i)) done) (end - first) (all_done_lem e) (j - first) (omega arith)))
 
 -- how far a call of a walk goes
 pub steps : {A : Type 0} (f : Field A) (l : Layout) (c : List ℕ) (w : Walk) (budget : ℕ) → scrub_refusal f l c w budget ≡ 0 →

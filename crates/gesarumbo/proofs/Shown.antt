@@ -1,9 +1,9 @@
 -- What the boundary shows of a call is the call's contract.
 -- Assumes nothing.
-use mathlib.Core.Path.{◌≡◌, refl, sym, ap, ap₂, ◌∙◌, subst}
+use mathlib.Core.Path.{◌≡◌, refl, sym, ap, ap₂, ◌∙◌}
 use mathlib.Core.Bool.{Bool, true, false, cond}
-use mathlib.Core.List.{List, [], ◌∷◌}
-use Prim.Native.Nat.{ℕ, ◌+◌, ◌-◌, ◌*◌, ◌≤◌, ◌<◌}
+use mathlib.Core.List.{List, []}
+use Prim.Native.Nat.{ℕ, ◌+◌, ◌-◌, ◌*◌, ◌≤◌}
 use native.Mathlib.Decide.{ℕ_discrete}
 use native.Mathlib.Omega.{arith}
 use borrow.Author.Tests.{eq-eqb, ne_eqb}
@@ -19,19 +19,9 @@ use Rattle.image.specs.Image.{edition1, header_length, symbol_at, own_layout, ow
 use Rattle.image.proofs.Editions.{proper1}
 use Rattle.image.proofs.ReadGrounds.{readable}
 use Rattle.image.proofs.First.{given_rest}
-use Rattle.layout.specs.declared.Tray.{Tray}
-use Rattle.repair.specs.declared.Repaired.{Repaired}
-use Rattle.repair.specs.Repair.{report, RepairAnswer}
-use Rattle.algebra.specs.Shape.{Field}
 use Rattle.gesarumbo.specs.declared.numbers.ImageNumbers.{ImageNumbers}
 use Rattle.gesarumbo.specs.declared.numbers.PartNumbers.{PartNumbers}
-use Rattle.repair.specs.declared.RepairNumbers.{RepairNumbers}
-use Rattle.batch_repair.specs.RepairBatch.{RepairBatchAnswer}
-use Rattle.correcting.specs.declared.Corrected.{Corrected}
-use Rattle.correcting.specs.Correcting.{report as corrected, CorrectingAnswer}
-use Rattle.cards.specs.Cards.{CardAnswer}
-use Rattle.correcting.specs.declared.CorrectedNumbers.{CorrectedNumbers}
-use Rattle.gesarumbo.specs.Boundary.{Shown, image_numbers, part_numbers}
+use Rattle.gesarumbo.specs.Boundary.{image_numbers, part_numbers}
 use Rattle.gesarumbo.specs.Inner.{run_numbers}
 
 -- reading an image of edition 1; n is the refusal that was written
@@ -88,35 +78,6 @@ module _ (l : Layout) (volume : ℕ) (image : List ℕ) where
       go : Dec (reason ≡ 0) → Lies
       go (yes z) = lies_read z
       go (no d) = lies_refused d
-
-module _ {A : Type 0} (f : Field A) (l : Layout) (helpers shares host : List ℕ) (first budget : ℕ) (old new : List ℕ) (a : Repaired) (r : RepairNumbers) where
-  pub repair_many_shown : (lost : List ℕ) → RepairAnswer f l lost helpers shares host first budget old new a → r ≡ report a →
-      Shown (RepairAnswer f l lost helpers shares host first budget old new) report r
-  repair_many_shown lost right shown = record { answer = a; right = right; shown = shown }
-
-  -- one lost tray
-  pub repair_shown : (lost : ℕ) (t : Tray) → t.0 ≡ lost → RepairAnswer f l (t.0 ∷ []) helpers shares host first budget old new a → r ≡ report a →
-      Shown (RepairAnswer f l (lost ∷ []) helpers shares host first budget old new) report r
-  repair_shown lost t e right shown =
-      repair_many_shown (lost ∷ []) (subst (λ x. RepairAnswer f l (x ∷ []) helpers shares host first budget old new a) e right) shown
-
-  -- the same of many codewords
-  pub repair_batch_shown : (many lost : ℕ) (t : Tray) → t.0 ≡ lost → RepairBatchAnswer f l many t.0 helpers shares host first budget old new a → r ≡ report a →
-      Shown (RepairBatchAnswer f l many lost helpers shares host first budget old new) report r
-  repair_batch_shown many lost t e right shown =
-      record { answer = a; right = subst (λ x. RepairBatchAnswer f l many x helpers shares host first budget old new a) e right; shown = shown }
-
--- the calls for one lost tray, by its number
-module _ {A : Type 0} (f : Field A) (l : Layout) (helpers shares host old new : List ℕ) (lost : ℕ) (t : Tray) (e : t.0 ≡ lost) where
-  pub correcting_shown : (a : Corrected) (r : CorrectedNumbers) → CorrectingAnswer f l t.0 helpers shares host old new a → r ≡ corrected a →
-      Shown (CorrectingAnswer f l lost helpers shares host old new) corrected r
-  correcting_shown a r right shown =
-      record { answer = a; right = subst (λ x. CorrectingAnswer f l x helpers shares host old new a) e right; shown = shown }
-
-  pub card_shown : (card : List ℕ) (group : ℕ) (a : Repaired) (r : RepairNumbers) → CardAnswer f l t.0 helpers card shares host group old new a → r ≡ report a →
-      Shown (CardAnswer f l lost helpers card shares host group old new) report r
-  card_shown card group a r right shown =
-      record { answer = a; right = subst (λ x. CardAnswer f l x helpers card shares host group old new a) e right; shown = shown }
 
 -- one of two runs: where it lies and how long it is
 run_lies : (b : Bool) (n x y : ℕ) (s c : List ℕ) → take n (drop (cond b x y) (cond (eqb (cond b 2 1) 2) s c)) ≡ cond b (take n (drop x s)) (take n (drop y c))

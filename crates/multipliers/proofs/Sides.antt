@@ -134,8 +134,8 @@ module _ (l : Layout) (sides row cur : List ℕ) (g : Space l sides row cur) (n 
   pub sides_in : 0 + n * l.helpers ≤ length sides
   sides_in = rw en (omega (arith, g.sides_long))
 
-  pub room_of : (sides' row' cur' : List ℕ) → length sides' ≡ length sides → length row' ≡ length row → length cur' ≡ length cur → Room l.helpers n sides' cur' row'
-  room_of sides' row' cur' es er ec = record { sums_long = rw (en, es) g.sides_long; cur_long = rw ec g.cur_long; row_long = rw er g.row_long }
+  pub room_of_lem : (sides' row' cur' : List ℕ) → length sides' ≡ length sides → length row' ≡ length row → length cur' ≡ length cur → Room l.helpers n sides' cur' row'
+  room_of_lem sides' row' cur' es er ec = record { sums_long = rw (en, es) g.sides_long; cur_long = rw ec g.cur_long; row_long = rw er g.row_long }
 
 module _ {A : Type 0} {f : Field A} (W : Working f) (l : Layout) (h p : ℕ) (helpers : List ℕ) where
   open f use {ops}

@@ -1,6 +1,6 @@
 use borrow.Author.Rules.{rules}
 use Rattle.symbol.proofs.Working.{working}
-use Rattle.multipliers.proofs.Sides.{sides_fit, sides_in, room_of, sides_of}
+use Rattle.multipliers.proofs.Sides.{sides_fit, sides_in, room_of_lem, sides_of}
 use Rattle.multipliers.proofs.power_sides.Statement.{statement}
 use Rattle.multipliers.proofs.power_sides.Tie as tie
 
@@ -14,7 +14,7 @@ power_sides_spec =
     (λ c κs. search rules)
     (λ c. search sides_fit)
     (λ c κs. search sides_in)
-    (λ c κs. search room_of)
+    (λ c κs. search room_of_lem)
     (λ c. search rules)
     (λ c. search rules)
     (λ c. search rules)

@@ -1,9 +1,0 @@
-use mathlib.Core.Path.{◌∙◌, ap}
-use borrow.Author.Rules.{rules}
-use Rattle.gesarumbo.specs.Boundary.{scrub_numbers}
-use Rattle.gesarumbo.proofs.field256.gesarumbo_scrub_reset.Statement.{statement}
-use Rattle.gesarumbo.proofs.field256.gesarumbo_scrub_reset.Tie as tie
-
-pub gesarumbo_scrub_reset_spec : {M : Type 1} → statement M
-gesarumbo_scrub_reset_spec =
-    tie.close (tie.spec (λ c κs. search rules) (λ c κs. search rules) (λ c. c.scrub_numbers.ensures ∙ ap scrub_numbers c.reset.ensures))
