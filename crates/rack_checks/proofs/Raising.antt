@@ -60,10 +60,10 @@ module _ {A : Type 0} {f : Field A} (W : Working f) (l : Layout) (w first i : �
       elem_same W (get_or row j 0) (root_power f (digit (digits l) (first + j) i)) b (root_power_below W (digit (digits l) (first + j) i))
       (d.at j k ∙ ap₂ (λ x y. ops.mul (pow ops x (digit (digits l) (first + j) i)) y) e (elem_one W) ∙ mul_one ops laws _ ∙ sym (elem_root_power W (digit (digits l) (first + j) i)))
 
-  raised_by : (ρ t s : ℕ) (row : List ℕ) → elem ρ ≡ root → Block l w first → s ≡ digits l → DigitPowers f l w first i 1 ρ row → ((j : ℕ) → get_or row j 0 < size) →
+  raised_by_lem : (ρ t s : ℕ) (row : List ℕ) → elem ρ ≡ root → Block l w first → s ≡ digits l → DigitPowers f l w first i 1 ρ row → ((j : ℕ) → get_or row j 0 < size) →
       Run (through_run f was (t * w) cur row s t) was is (t * w) w → Raised f l w first i t cur was is
   unfolding raised_by through_run
-  raised_by ρ t s row e b es d bytes r = record {
+  raised_by_lem ρ t s row e b es d bytes r = record {
     at = λ j k.
         sym (cell_is f w is t j) ∙ ap elem (r.done j k)
         ∙ ap₂ (λ y n. elem (through f t (get_or cur j 0) y n (get_or was (t * w + j) 0))) (row_is ρ row e d j k (bytes j)) es
@@ -76,7 +76,7 @@ module _ {A : Type 0} {f : Field A} (W : Working f) (l : Layout) (w first i : �
 -- the row of bytes
 pub raised_run : (l : Layout) (w first i : ℕ) (cur was is : List ℕ) (t s : ℕ) (row : List ℕ) → Block l w first → s ≡ digits l → DigitPowers gf256 l w first i 1 2 row →
     ((j : ℕ) → Fits w8 (get_or row j 0)) → Run (through_run gf256 was (t * w) cur row s t) was is (t * w) w → Raised gf256 l w first i t cur was is
-raised_run l w first i cur was is t s row b e d bytes r = raised_by working l w first i cur was is 2 t s row root_is b e d (λ j. (bytes j).fits) r
+raised_run l w first i cur was is t s row b e d bytes r = raised_by_lem working l w first i cur was is 2 t s row root_is b e d (λ j. (bytes j).fits) r
 
 -- ---- the checks of one weight
 module _ {A : Type 0} (f : Field A) (l : Layout) (w first i m : ℕ) (cur was : List ℕ) where

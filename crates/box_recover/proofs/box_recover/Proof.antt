@@ -8,7 +8,7 @@ use borrow.Author.Rules.{rules}
 use Rattle.box_recover.proofs.box_recover.Statement.{statement}
 use Rattle.box_recover.proofs.box_recover.Tie as tie
 
-none : (c : tie.Else-ground-ne0) → let a = c.before.before.before.before.before.args in recover_refusal a.erased.now a.c.now ≡ 0
+none : (c : tie.Else-ground-ne0) → let a = c.before.before.before.before.args in recover_refusal a.erased.now a.c.now ≡ 0
 none c = sym c.before.recover_refusal-ground.ensures ∙ c.if-ground-ne0.false
 
 pub box_recover_spec : {M : Type 1} → statement M

@@ -1,7 +1,7 @@
 use Prim.Native.Nat.{◌-◌, ◌≤◌}
 use native.Mathlib.Omega.{arith}
 use Rattle.lists.proofs.Loops.{Upto, upto_none, upto_more}
-use Rattle.box_recover.proofs.Steps.{chosen_at, chosen_at, chosen_is}
+use Rattle.box_recover.proofs.Steps.{chosen_at, chosen_at_lem, chosen_is}
 use borrow.Author.Rules.{rules}
 use Rattle.box_recover.proofs.choose.Statement.{statement}
 use Rattle.box_recover.proofs.choose.Tie as tie
@@ -28,7 +28,7 @@ choose_spec =
     let a = c.before.before.before.before.before.before.before.args in (
       omega arith,
       upto_more (chosen_at a.erased.now a.from.now) c.before.before.before.loop-i.invariant.1 (omega arith)
-          (chosen_at a.erased.now a.from.now c.before.before.before.loop-i.i _ c.before.survivor.ensures.0),
+          (chosen_at_lem a.erased.now a.from.now c.before.before.before.loop-i.i _ c.before.survivor.ensures.0),
     ))
     (λ c. c.before.loop-i.invariant.1.same)
     (λ c. let a = c.before.before.before.before.before.args in chosen_is a.erased.now a.from.now _ _ c.before.loop-i.i (search rules) (omega arith)

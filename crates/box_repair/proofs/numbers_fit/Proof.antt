@@ -16,4 +16,4 @@ numbers_fit_spec = tie.close (tie.spec
     (told_false c.before.all_symbols.ensures c.if-not-all_symbols.true-raw))
     (λ c κs. search rules)
     (λ c. fit_rack _ _ _ _ (omega arith) (told_true c.before.before.before.before.all_below.ensures c.before.before.before.if-not-all_below.false-raw) _
-    (told_true c.before.before.all_symbols.ensures c.before.if-not-all_symbols.false-raw) c.others-Below.ensures))
+    (told_true c.before.before.all_symbols.ensures c.before.if-not-all_symbols.false-raw) c.others_below.ensures))
