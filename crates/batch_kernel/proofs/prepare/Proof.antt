@@ -8,7 +8,7 @@ use borrow.Author.Rules.{rules}
 use Rattle.batch_kernel.proofs.prepare.Statement.{statement}
 use Rattle.batch_kernel.proofs.prepare.Tie as tie
 
-mul_prepare_fours : tie.Need-overflow-mul-prepare-fours
+mul_prepare_fours : tie.Need-overflow_mul-n
 mul_prepare_fours c = omega arith
 
 prepare_fours_requires : tie.Need-prepare_fours-requires

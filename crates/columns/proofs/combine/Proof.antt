@@ -30,7 +30,7 @@ combine_spec =
     let c2 = c1.before.before.before in
     let c3 = c2.before.before.before.before.before.before in (
       places_of c3.args.w c3.args.v c3.args.run c3.args.turns c3.args.m c3.args.i c1.loop-t.t c3.args.found.now
-          c2.fill.new.0 c1.loop-t.found c3.args.sums.now c3.args.coefs.now c3.args.row.now c3.requires.0 c2.fill.ensures.long
+          c2.fill.new.out c1.loop-t.found c3.args.sums.now c3.args.coefs.now c3.args.row.now c3.requires.0 c2.fill.ensures.long
           c1.loop-t.invariant.1 c3.requires.1 (omega arith),
       row_room c3.args.w c3.args.v c3.args.run c3.args.turns c3.args.m
           c3.args.found.now c3.args.sums.now c3.args.coefs.now c3.args.row.now c1.loop-t.row c3.requires.0 c1.loop-t.invariant.2,
@@ -46,7 +46,7 @@ combine_spec =
       search rules,
       search rules,
       let s = c4 in let a = s.args in let k = c2.loop-t in let r = c1.add_row in combined_more working a.w a.v
-          a.run a.turns a.m k.t a.i a.sums.now a.coefs.now c3.fill.new.0 k.found-1 r.new.0 s.requires.0.width k.invariant.3
+          a.run a.turns a.m k.t a.i a.sums.now a.coefs.now c3.fill.new.out k.found r.new.found s.requires.0.width k.invariant.3
           r.ensures,
     ))
     (λ c. search rules)
@@ -56,4 +56,4 @@ combine_spec =
     let c2 = c1.before.before.before in
     let c3 = c2.before.before.before.before.before.before in
     combined_end working c3.args.w c3.args.v c3.args.run c3.args.m c1.loop-t.t c3.args.i c3.args.sums.now c3.args.coefs.now
-    c3.args.found.now c2.fill.new.0 c1.loop-t.found c2.fill.ensures c1.loop-t.invariant.3 (omega arith) (omega arith)))
+    c3.args.found.now c2.fill.new.out c1.loop-t.found c2.fill.ensures c1.loop-t.invariant.3 (omega arith) (omega arith)))

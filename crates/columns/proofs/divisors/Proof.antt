@@ -42,5 +42,5 @@ divisors_spec =
     (λ c.
     let a = c.before.before.before.before.before.before.before.before.before.before.before.before in
     let k = c.before.before.before.before.before.loop-k in
-    divisors_of working a.args.v a.args.m k.k a.args.points.now k.out-1 c.before.before.invert.new.0 k.invariant.3
+    divisors_of working a.args.v a.args.m k.k a.args.points.now k.out c.before.before.invert.new.out k.invariant.3
     (omega arith) (omega arith) c.before.before.invert.ensures))

@@ -35,7 +35,7 @@ quotient_spec =
     (λ c κs. (
       search next_after,
       (let a = c.before.before.before.before.before.before.before.before.before.before in let k = c.before.before.loop-t in
-          next_in a.args.v a.args.m a.args.points.now a.args.out.now a.requires.0 k.t k.out-1 k.invariant.0 (omega arith) (search rules)),
+          next_in a.args.v a.args.m a.args.points.now a.args.out.now a.requires.0 k.t k.out k.invariant.0 (omega arith) (search rules)),
       search product_in,
       search point_in,
     ))

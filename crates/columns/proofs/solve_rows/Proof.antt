@@ -24,8 +24,8 @@ solve_rows_spec =
     (λ c κs. (
       (let a = c.before.before.before.before.before.before.before.before.before.before.before.before in
           let k = c.before.before.before.before.loop-i in
-          systems_next a.args.w a.args.v a.args.run a.args.turns a.args.m a.args.found.now k.found-1 a.args.sums.now a.args.coefs.now k.coefs-1
-          a.args.row.now k.row-1 a.requires.0 k.invariant.1 k.invariant.2 k.invariant.3),
+          systems_next a.args.w a.args.v a.args.run a.args.turns a.args.m a.args.found.now k.found a.args.sums.now a.args.coefs.now k.coefs
+          a.args.row.now k.row a.requires.0 k.invariant.1 k.invariant.2 k.invariant.3),
       search rules,
       omega arith,
     ))

@@ -30,7 +30,7 @@ solve_many_spec =
           c.before.before.before.before.before.before.before.before.before.before.before.before.before.before.before.before.before.before in
           let k = c.before.before.before.before.before.before.before.before.before.factor in systems_next a.args.w a.args.v a.args.run
           a.args.turns a.args.m a.args.found.now a.args.found.now a.args.sums.now a.args.coefs.now a.args.coefs.now a.args.row.now
-          k.new.1.1.0 a.pre.0 refl refl (search rules)),
+          k.new.1.1.0 a.requires.0 refl refl (search rules)),
       search rules,
       search rules,
     ))

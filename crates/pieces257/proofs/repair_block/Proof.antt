@@ -22,7 +22,7 @@ block_sums_requires c κs =
     c.before.before.before.before.before.before.before.before.before.before.before.before.before.before.before.before.before.before.before.before.before in
     let a = s.args in
     summing_of gf257.order a.l a.lost.now a.helpers.now a.shares.now a.host.now a.w a.first a.spare.now a.sums.now
-    a.sides.now a.found.now a.points.now a.coefs.now a.row.now a.cur.now s.pre.0 s.pre.1 s.pre.2 s.pre.3
+    a.sides.now a.found.now a.points.now a.coefs.now a.row.now a.cur.now s.requires.0 s.requires.1 s.requires.2 s.requires.3
 
 repair_block_requires : tie.Need-repair_block-requires
 repair_block_requires c κs =
@@ -32,13 +32,13 @@ repair_block_requires c κs =
     let k =
     c.before.before.before.before.before.before.before.before.before.before.before.before.before.before.before.before.before.before.before.before.before.before.block_sums.auto in (
       repairing_of gf257.order a.l a.lost.now a.helpers.now a.shares.now a.host.now a.w a.first a.spare.now a.sums.now
-          a.sides.now a.found.now a.points.now a.coefs.now a.row.now a.cur.now s.pre.0 s.pre.1 s.pre.2 s.pre.3 gf257 _
+          a.sides.now a.found.now a.points.now a.coefs.now a.row.now a.cur.now s.requires.0 s.requires.1 s.requires.2 s.requires.3 gf257 _
           k.0,
       space_of gf257.order a.l a.lost.now a.helpers.now a.shares.now a.host.now a.w a.first a.spare.now a.sums.now
-          a.sides.now a.found.now a.points.now a.coefs.now a.row.now a.cur.now s.pre.0 s.pre.1 s.pre.2 s.pre.3 _ _ _ _ _ _
+          a.sides.now a.found.now a.points.now a.coefs.now a.row.now a.cur.now s.requires.0 s.requires.1 s.requires.2 s.requires.3 _ _ _ _ _ _
           k.1.1.1.1.1.1.1.1.0 k.1.1.1.1.1.1.1.1.1.0 k.1.1.1.1.1.1.1.1.1.1.0 k.1.1.1.1.1.1.1.1.1.1.1.0
           k.1.1.1.1.1.1.1.1.1.1.1.1.0 k.1.1.1.1.1.1.1.1.1.1.1.1.1.0,
-      s.pre.0.spare_long,
+      s.requires.0.spare_long,
     )
 
 same_length : tie.Need-shape_of-spare
@@ -71,8 +71,8 @@ returns c =
     c.before.before.before.before.before.before.before.before.before.before.before.before.before.before.before.before.before.before.before.before.before.before.before.before.before.before.before.before.before.before.before.before.before.before.before.before.before.before.before.before.before.before.before.before.before.before.before.before.before.before.before.before.before.before.before.before.before.before.before
     in
     let a = s.args in
-    repaired_piece working a.l a.lost.now a.helpers.now a.shares.now a.host.now a.w a.first _ s.pre.0.adm s.pre.0.losses
-    s.pre.1.block s.pre.1.inside
+    repaired_piece working a.l a.lost.now a.helpers.now a.shares.now a.host.now a.w a.first _ s.requires.0.adm s.requires.0.losses
+    s.requires.1.block s.requires.1.inside
     c.before.before.before.before.before.before.before.before.before.before.before.before.before.before.before.before.before.before.before.before.before.before.before.before.before.before.before.before.before.before.before.before.before.before.before.before.before.block_sums.ensures a.spare.now _
     c.before.before.before.before.before.before.before.before.before.before.before.before.before.before.repair_block.ensures
 

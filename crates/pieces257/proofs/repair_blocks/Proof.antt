@@ -58,12 +58,12 @@ repair_block_requires c κs =
     let o = c.before.before.before.before.before.before.before.before.before.before.loop-k in
     let w = c.before.before.before.before.before.before.before.before.block_at-w in (
       piecing_next gf257.order a.l a.lost.now a.helpers.now a.shares.now a.host.now a.first a.count o.k w.result a.spare.now _
-          s.pre.0 (omega (arith, w.ensures.1.within)) o.invariant.8.long,
-      groups_of a.l (a.first + o.k) (a.count - o.k) _ w.result (omega (arith, s.pre.0.within)) w.ensures.0 w.ensures.1,
+          s.requires.0 (omega (arith, w.ensures.1.within)) o.invariant.8.long,
+      groups_of a.l (a.first + o.k) (a.count - o.k) _ w.result (omega (arith, s.requires.0.within)) w.ensures.0 w.ensures.1,
       fitting_in a.l (length a.lost.now) _ _ _ _ a.count _ _
           c.before.before.before.before.before.before.before.before.before.before.before.row_count-rows.ensures w.ensures.1
-          (omega (arith, w.ensures.1.within)) s.pre.1 o.invariant.1,
-      rooms_next a.sums.now a.sides.now a.found.now a.points.now a.coefs.now a.row.now a.cur.now _ _ _ _ _ _ _ s.pre.2 o.invariant.1
+          (omega (arith, w.ensures.1.within)) s.requires.1 o.invariant.1,
+      rooms_next a.sums.now a.sides.now a.found.now a.points.now a.coefs.now a.row.now a.cur.now _ _ _ _ _ _ _ s.requires.2 o.invariant.1
           o.invariant.2 o.invariant.3 o.invariant.4 o.invariant.5 o.invariant.6 o.invariant.7,
     )
 

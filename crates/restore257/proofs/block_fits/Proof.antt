@@ -66,7 +66,7 @@ block_fits_spec =
     let c1 =
     c.before.before.before.before.before.before.before.before.before.before.before.before.before.before.before.before.before.before.before.before.before.before.before.before.before.before.before.before.before.before.before.before.before.before.before.before in
     let c2 = c1.before.before.before.before.before.before.before.before.before in
-    all_fits c2.args.l c2.args.w c2.args.first c1.check_count-r.result c2.pre.0 c1.check_count-r.ensures)
+    all_fits c2.args.l c2.args.w c2.args.first c1.check_count-r.result c2.requires.0 c1.check_count-r.ensures)
     (λ c κs. let a =
     c.before.before.before.before.before.before.before.before.before.before.before.before.before.before.before.before.before.before.before.before.before.before.before.before.before.before.before.before.before.before.before.before.before.before.before.before.before.before.before.before.before.before.before.before.before.args in let e : length c.before.before.before.before.before.before.before.found_terms.new.0
     ≡ length

@@ -12,10 +12,10 @@ solve_sides_requires c κs =
     let s =
     c.before.before.before.before.before.before.before.before.before.before.before.before.before.before.before.before.before.before.before.before.before.before.before.before in
     let a = s.args in (
-      s.pre.0.received.chosen,
-      s.pre.0.block,
+      s.requires.0.received.chosen,
+      s.requires.0.block,
       space_of a.l a.h a.w a.first a.helpers.now a.shares.now a.e a.sums.now a.sides.now
-          a.found.now a.points.now a.coefs.now a.row.now a.cur.now s.pre.0 _ _
+          a.found.now a.points.now a.coefs.now a.row.now a.cur.now s.requires.0 _ _
           c.before.before.before.before.before.before.before.before.before.before.before.block_sides.auto.0
           c.before.before.before.before.before.before.before.before.before.before.before.block_sides.auto.1.1.1.1.1.1.1.1.1.1.0,
     )
@@ -26,7 +26,7 @@ weigh_sums_requires c κs =
     c.before.before.before.before.before.before.before.before.before.before.before.before.before.before.before.before.before.before.before.before.before.before.before.before.before.before.before.before.before.before.before.before.before.before.before in
     let a = s.args in
     weighing_of a.l a.h a.w a.first a.helpers.now a.shares.now a.e a.sums.now a.sides.now a.found.now a.points.now
-    a.coefs.now a.row.now a.cur.now s.pre.0 a.m _ s.pre.1
+    a.coefs.now a.row.now a.cur.now s.requires.0 a.m _ s.requires.1
     c.before.before.before.before.before.before.before.before.before.before.solve_sides.auto.0
 
 same_length : tie.Need-shape_of-sums
@@ -55,10 +55,10 @@ returns c =
     let s =
     c.before.before.before.before.before.before.before.before.before.before.before.before.before.before.before.before.before.before.before.before.before.before.before.before.before.before.before.before.before.before.before.before.before.before.before.before.before.before in
     let a = s.args in
-    weights_more working a.l a.h a.w a.first a.helpers.now a.shares.now a.e a.m _ _ a.sums.now _ s.pre.0.received.chosen
+    weights_more working a.l a.h a.w a.first a.helpers.now a.shares.now a.e a.m _ _ a.sums.now _ s.requires.0.received.chosen
     c.before.before.before.before.before.before.before.before.before.before.before.before.before.before.before.before.before.before.before.before.before.before.before.before.before.block_sides.ensures
     c.before.before.before.before.before.before.before.before.before.before.before.before.before.solve_sides.ensures
-    c.before.before.weigh_sums.ensures s.pre.2
+    c.before.before.weigh_sums.ensures s.requires.2
 
 pub weight_sums_spec : {M : Type 1} → statement M
 weight_sums_spec =

@@ -41,7 +41,7 @@ returns c =
     let s =
     c.before.before.before.before.before.before.before.before.before.before.before.before.before.before.before.before.before.before.before.before.before.before.before.before.before.before in
     let a = s.args in
-    found_of working a.l a.h a.w a.first a.helpers.now a.v a.run s.pre.2 _ _ a.sides.now _ _ s.pre.0.adm
+    found_of working a.l a.h a.w a.first a.helpers.now a.v a.run s.requires.2 _ _ a.sides.now _ _ s.requires.0.adm
     c.before.before.before.before.before.before.before.before.before.before.before.before.before.before.before.before.before.before.before.unknown_count-n.ensures
     c.before.before.before.before.before.before.before.before.before.before.before.before.before.before.before.before.before.before.digit_count-s.ensures
     c.before.before.before.before.before.before.before.before.before.before.before.before.before.before.before.unknown_points.ensures

@@ -65,7 +65,7 @@ all_residues_spec =
     c.before.before.before.before.before.before.before.before.before.before.before.before.before.before.before.before.before.before.before.before.before.before in
     let c2 = c1.before.before.before.before in
     let c3 = c2.before.before.before.before.before.before.before.before.before.before in
-    next_fits c3.args.l _ _ _ _ c3.pre.0.chosen.adm c2.group_count-total.ensures (omega arith) c1.block_at-w.ensures.1)
+    next_fits c3.args.l _ _ _ _ c3.requires.0.chosen.adm c2.group_count-total.ensures (omega arith) c1.block_at-w.ensures.1)
     (λ c.
     let c1 =
     c.before.before.before.before.before.before.before.before.before.before.before.before.before.before.before.before.before.before.before.before.before.before in
