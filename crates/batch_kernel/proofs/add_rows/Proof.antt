@@ -20,7 +20,7 @@ add_rows_spec =
     tie.close (tie.spec invariant-loop-o decreases-loop-o
     (λ c. (omega arith, refl, rows_none _ _ _ _ _ _))
     (λ c. omega arith)
-    (λ c. row_at_fits _ _ _ _ c.before.before.before.before.before.before.requires.2 _ (omega arith) (search rules))
+    (λ c. row_at_fits _ _ _ _ c.requires.2 _ (omega arith) (search rules))
     (λ c κs. (search rules, omega arith, search row_column, search rules))
     (λ c. omega arith)
     (λ c. omega arith)

@@ -18,7 +18,7 @@ same_length : tie.Need-shape_of-picks
 same_length c = search rules
 
 returns : tie.Need-returns
-returns c = (search ready, weighs _ _ _ _ _ c.before.before.prepare_fours.ensures (λ i. c.before.before.before.before.shared_slice_known-1.given i))
+returns c = (search ready, weighs _ _ _ _ _ c.prepare_fours.ensures (λ i. c.shared_slice_known-1.given i))
 
 pub prepare_spec : {M : Type 1} → statement M
 prepare_spec = tie.close (tie.spec mul_prepare_fours prepare_fours_requires same_length returns)

@@ -24,4 +24,4 @@ quarter_spec =
     (λ c. search rules)
     (λ c. search rules)
     (λ c. search rules)
-    (λ c. quarter_done working _ _ _ _ _ _ _ _ _ c.before.before.before.before.before.requires c.before.before.before.sum.ensures c.before.before.sum-2.ensures c.sum-4.ensures c.before.sum-3.ensures))
+    (λ c. quarter_done working _ _ _ _ _ _ _ _ _ c.requires c.sum.ensures c.sum-2.ensures c.sum-4.ensures c.sum-3.ensures))

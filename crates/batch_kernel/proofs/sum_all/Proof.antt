@@ -24,7 +24,7 @@ sum_all_spec =
     (λ c. omega arith)
     (λ c κs. omega arith)
     (λ c. (omega arith, refl, refl, search (sums_none working)))
-    (λ c κs. (summing_still _ _ _ _ _ _ _ _ _ _ _ _ c.before.before.before.before.before.before.before.before.before.before.before.before.before.requires c.before.before.before.before.before.before.fill.ensures c.before.before.before.loop-q.invariant.2 c.before.before.before.loop-q.invariant.1, search rules))
+    (λ c κs. (summing_still _ _ _ _ _ _ _ _ _ _ _ _ c.requires c.fill.ensures c.loop-q.invariant.2 c.loop-q.invariant.1, search rules))
     (λ c. omega arith)
     (λ c. omega arith)
     (λ c. (omega arith, search rules, search rules, search (sums_more working)))

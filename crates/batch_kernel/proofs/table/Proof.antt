@@ -32,6 +32,6 @@ table_spec =
     (λ c κs. omega arith)
     (λ c. omega arith)
     (λ c. omega arith)
-    (λ c. (omega arith, search rules, tabled_more gf256 _ _ _ _ _ _ _ _ _ _ c.before.before.before.before.before.before.before.before.before.before.before.before.args.w (omega arith) (omega arith) c.before.before.before.before.before.before.before.before.before.loop-j.invariant.2 c.before.before.sixteen.ensures))
+    (λ c. (omega arith, search rules, tabled_more gf256 _ _ _ _ _ _ _ _ _ _ c.args.w (omega arith) (omega arith) c.loop-j.invariant.2 c.sixteen.ensures))
     (λ c. search rules)
     (λ c. search (tabled_end gf256)))

@@ -26,16 +26,16 @@ abbrev decreases-loop-g : tie.decreases-loop-g
 decreases-loop-g many x host first count u h lost total s unit g₀ g = u - g
 
 sound : (c : tie.After-block_width invariant-loop-g decreases-loop-g) (i : ℕ) (r : Bool) →
-    let a = c.before.before.before.before.args in
+    let a = c.args in
     i < a.l.size →
-    r ≡ tray_symbols gf256 (a.x ∷ []) (a.x / a.l.size * a.l.size + i) a.host.now (i * (c.before.before.layer_count.result * a.many))
-    c.before.digit_count-s.result
+    r ≡ tray_symbols gf256 (a.x ∷ []) (a.x / a.l.size * a.l.size + i) a.host.now (i * (c.layer_count.result * a.many))
+    c.digit_count-s.result
     (c.block_width.result * a.many) (a.first * a.many) (a.count * a.many) →
     r ≡ all (λ q. sound_symbols gf256 a.l (a.x ∷ []) (a.x / a.l.size) (part a.many q a.host.now) a.first a.count i) a.many
 sound c i r h e =
-    let a = c.before.before.before.before.args in
-    tray_is gf256 a.l a.many a.x a.host.now a.first a.count c.before.before.before.before.requires i _ _ _ _ _ r h
-    c.before.before.layer_count.ensures c.before.digit_count-s.ensures
+    let a = c.args in
+    tray_is gf256 a.l a.many a.x a.host.now a.first a.count c.requires i _ _ _ _ _ r h
+    c.layer_count.ensures c.digit_count-s.ensures
     c.block_width.ensures refl refl e
 
 pub hosts_symbols_spec : {M : Type 1} → statement M
@@ -44,72 +44,72 @@ hosts_symbols_spec =
     (tie.spec
     invariant-loop-g
     decreases-loop-g
-    (λ c. (bounds _ c.before.requires.adm).size_low)
+    (λ c. (bounds _ c.requires.adm).size_low)
     (λ c κs. search rules)
     (λ c. search rules)
-    (λ c. let a = c.before.before.args in let e : c.layer_count.result ≤ layers a.l = omega (arith, c.layer_count.ensures) in
-    omega (arith, total_in gf256 a.l a.many a.x a.host.now a.first a.count c.before.before.requires _ e))
+    (λ c. let a = c.args in let e : c.layer_count.result ≤ layers a.l = omega (arith, c.layer_count.ensures) in
+    omega (arith, total_in gf256 a.l a.many a.x a.host.now a.first a.count c.requires _ e))
     (λ c κs. search rules)
     (λ c. search rules)
-    (λ c κs. let a = c.before.before.before.args in (
-      c.before.before.before.requires.adm,
+    (λ c κs. let a = c.args in (
+      c.requires.adm,
       omega (
         arith,
         host_in gf256 a.l a.many a.x a.host.now a.first a.count
-            c.before.before.before.requires,
+            c.requires,
       ),
     ))
-    (λ c. let a = c.before.before.before.before.args in
+    (λ c. let a = c.args in
     omega (
       arith,
-      total_in gf256 a.l a.many a.x a.host.now a.first a.count c.before.before.before.before.requires _
-          (unit_below gf256 a.l a.many a.x a.host.now a.first a.count c.before.before.before.before.requires _
+      total_in gf256 a.l a.many a.x a.host.now a.first a.count c.requires _
+          (unit_below gf256 a.l a.many a.x a.host.now a.first a.count c.requires _
           c.block_width.ensures),
     ))
     (λ c. (omega arith, below_none _))
     (λ c. search rules)
-    (λ c. let a = c.before.before.before.before.before.before.before.args in
-    let p = c.before.before.before.before.before.before.before.requires in
+    (λ c. let a = c.args in
+    let p = c.requires in
     omega (arith, div-add-mod' a.x a.l.size, p.lost_in, p.adm.trays_high))
-    (λ c. let a = c.before.before.before.before.before.before.before.args in
-    let p = c.before.before.before.before.before.before.before.requires in
-    omega (arith, div-add-mod' a.x a.l.size, p.lost_in, p.adm.trays_high, (bounds _ p.adm).size_high, c.before.loop-g-test.true))
+    (λ c. let a = c.args in
+    let p = c.requires in
+    omega (arith, div-add-mod' a.x a.l.size, p.lost_in, p.adm.trays_high, (bounds _ p.adm).size_high, c.loop-g-test.true))
     (λ c. search rules)
-    (λ c. let a = c.before.before.before.before.before.before.before.args in
+    (λ c. let a = c.args in
     omega (
       arith,
       start_in gf256 a.l a.many a.x a.host.now a.first a.count
-          c.before.before.before.before.before.before.before.requires _ _ c.before.loop-g-test.true
-          c.before.before.before.before.before.layer_count.ensures,
+          c.requires _ _ c.loop-g-test.true
+          c.layer_count.ensures,
     ))
-    (λ c. let a = c.before.before.before.before.before.before.before.args in
+    (λ c. let a = c.args in
     omega (
       arith,
       total_in gf256 a.l a.many a.x a.host.now a.first a.count
-          c.before.before.before.before.before.before.before.requires _ (groups_below gf256 a.l a.many a.x a.host.now a.first
-          a.count c.before.before.before.before.before.before.before.requires a.first (omega arith)),
+          c.requires _ (groups_below gf256 a.l a.many a.x a.host.now a.first
+          a.count c.requires a.first (omega arith)),
     ))
-    (λ c. let a = c.before.before.before.before.before.before.before.args in
+    (λ c. let a = c.args in
     omega (
       arith,
       total_in gf256 a.l a.many a.x a.host.now a.first a.count
-          c.before.before.before.before.before.before.before.requires _ (groups_below gf256 a.l a.many a.x a.host.now a.first
-          a.count c.before.before.before.before.before.before.before.requires a.count (omega arith)),
+          c.requires _ (groups_below gf256 a.l a.many a.x a.host.now a.first
+          a.count c.requires a.count (omega arith)),
     ))
-    (λ c κs. let a = c.before.before.before.before.before.before.before.args in
+    (λ c κs. let a = c.args in
     places_so gf256 a.l a.many a.x a.host.now a.first a.count
-    c.before.before.before.before.before.before.before.requires _ _ _ _ _ _ c.before.loop-g-test.true
-    c.before.before.before.before.before.layer_count.ensures c.before.before.before.before.digit_count-s.ensures
-    c.before.before.before.block_width.ensures refl refl)
-    (λ c. hosts_false gf256 _ _ _ _ _ _ c.before.before.before.before.before.before.before.before.before.requires _ _
-    c.before.before.before.loop-g-test.true (sound c.before.before.before.before.before _ _
-    c.before.before.before.loop-g-test.true c.before.tray_symbols.ensures) c.if-not-tray_symbols.true-raw)
+    c.requires _ _ _ _ _ _ c.loop-g-test.true
+    c.layer_count.ensures c.digit_count-s.ensures
+    c.block_width.ensures refl refl)
+    (λ c. hosts_false gf256 _ _ _ _ _ _ c.requires _ _
+    c.loop-g-test.true (sound c.before.before.before.before.before _ _
+    c.loop-g-test.true c.tray_symbols.ensures) c.if-not-tray_symbols.true-raw)
     (λ c. omega arith)
     (λ c. omega arith)
     (λ c. (
       omega arith,
-      below_more _ _ c.before.before.before.before.loop-g.invariant.1 (told_true c.before.tray_symbols.ensures
+      below_more _ _ c.loop-g.invariant.1 (told_true c.tray_symbols.ensures
           c.if-not-tray_symbols.false-raw),
     ))
-    (λ c. hosts_true gf256 _ _ _ _ _ _ c.before.before.before.before.before.before.requires c.before.loop-g.g (omega arith) (λ i h. sym (sound
-    c.before.before i true (omega (arith, c.before.loop-g.invariant.0)) (sym (c.before.loop-g.invariant.1 i h))))))
+    (λ c. hosts_true gf256 _ _ _ _ _ _ c.requires c.loop-g.g (omega arith) (λ i h. sym (sound
+    c.before.before i true (omega (arith, c.loop-g.invariant.0)) (sym (c.loop-g.invariant.1 i h))))))

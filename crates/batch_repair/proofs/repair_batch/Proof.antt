@@ -16,17 +16,17 @@ use Rattle.batch_repair.proofs.repair_batch.Tie as tie
 
 -- the ground that was found, in terms of what the call was lent
 found : (c : tie.After-refusal-ground) →
-    let a = c.before.before.before.before.before.before.before.args in
+    let a = c.args in
     c.refusal-ground.result ≡ repair_batch_refusal gf256 a.l a.many a.lost.0 a.helpers.now a.shares.now a.host.now (length
     a.spare.now) a.first a.budget
 found c =
-    let a = c.before.before.before.before.before.before.before.args in
+    let a = c.args in
     c.refusal-ground.ensures
     ∙ ap (λ x. repair_batch_refusal gf256 a.l a.many x a.helpers.now a.shares.now a.host.now (length a.spare.now) a.first
-    a.budget) c.before.number-x.ensures
+    a.budget) c.number-x.ensures
 
 none : (c : tie.Else-ground-ne0) →
-    let a = c.before.before.before.before.before.before.before.before.args in
+    let a = c.args in
     repair_batch_refusal gf256 a.l a.many a.lost.0 a.helpers.now a.shares.now a.host.now (length a.spare.now) a.first
     a.budget ≡ 0
 none c = sym (found c.before) ∙ c.if-ground-ne0.false
@@ -34,15 +34,15 @@ none c = sym (found c.before) ∙ c.if-ground-ne0.false
 shares_fit : (c : tie.Start) → length c.args.shares.now < 18446744073709551616
 shares_fit c = omega arith
 
-first_in : (c : tie.After-group_count) → c.before.before.before.before.before.before.before.before.before.args.first ≤ c.group_count.result
-first_in c = let a = c.before.before.before.before.before.before.before.before.before.args in
+first_in : (c : tie.After-group_count) → c.args.first ≤ c.group_count.result
+first_in c = let a = c.args in
     first_below working a.l a.many a.lost.0 a.helpers.now a.shares.now a.host.now a.spare.now a.first a.budget (none
     c.before) _ c.group_count.ensures
 
 high : (c : tie.After-group_count) → (c.group_count.result ≤ layer_limit) ×
-    (c.before.before.before.before.before.before.before.before.before.args.l.helpers ≤ tray_limit)
+    (c.args.l.helpers ≤ tray_limit)
 high c =
-    let a = c.before.before.before.before.before.before.before.before.before.args in
+    let a = c.args in
     let q = cabinet_of working a.l a.many a.lost.0 a.helpers.now a.shares.now a.host.now a.spare.now a.first a.budget
     (none c.before) in
     let b = bounds _ q in
@@ -56,7 +56,7 @@ repair_batch_spec =
     (λ c κs. search rules)
     (λ c κs. search rules)
     (λ c. (found c.before, omega (arith, c.if-ground-ne0.true), refl))
-    (λ c κs. let a = c.before.before.before.before.before.before.before.before.args in
+    (λ c κs. let a = c.args in
     cabinet_of working a.l a.many a.lost.0 a.helpers.now a.shares.now a.host.now a.spare.now a.first a.budget
     (none c))
     (λ c. search rules)
@@ -64,17 +64,17 @@ repair_batch_spec =
     (λ c κs. search rules)
     (λ c. omega (arith, first_in c.before, (high c.before).0))
     (λ c. omega (arith, c.smaller-count.ensures, (high c.before).0))
-    (λ c κs. let a = c.before.before.before.before.before.before.before.before.before.before.before.args in
-    rw c.before.before.before.before.before.number-x.ensures (told_of working a.l a.many a.lost.0 a.helpers.now a.shares.now
-    a.host.now a.spare.now a.first a.budget (none c.before.before.before) _ (c.before.smaller-count.ensures ∙ ap (λ k. min
-    a.budget (k - a.first)) c.before.before.group_count.ensures)))
+    (λ c κs. let a = c.args in
+    rw c.number-x.ensures (told_of working a.l a.many a.lost.0 a.helpers.now a.shares.now
+    a.host.now a.spare.now a.first a.budget (none c.before.before.before) _ (c.smaller-count.ensures ∙ ap (λ k. min
+    a.budget (k - a.first)) c.group_count.ensures)))
     (λ c. let h = high c.before.before.before.before.before in
-    record { fits = mul_below tray_limit layer_limit h.1 (omega (arith, c.before.before.before.before.smaller-count.ensures, h.0)) tt })
-    (λ c. let a = c.before.before.before.before.before.before.before.before.before.before.before.before.before.before.args in
-    let e : c.before.before.before.before.smaller-count.result ≤ groups a.l = omega (
+    record { fits = mul_below tray_limit layer_limit h.1 (omega (arith, c.smaller-count.ensures, h.0)) tt })
+    (λ c. let a = c.args in
+    let e : c.smaller-count.result ≤ groups a.l = omega (
       arith,
-      c.before.before.before.before.smaller-count.ensures,
-      c.before.before.before.before.before.group_count.ensures,
+      c.smaller-count.ensures,
+      c.group_count.ensures,
     ) in
     omega (
       arith,
@@ -83,12 +83,12 @@ repair_batch_spec =
       shares_fit
           c.before.before.before.before.before.before.before.before.before.before.before.before.before.before,
     ))
-    (λ c. omega (arith, c.before.before.before.before.smaller-count.ensures))
+    (λ c. omega (arith, c.smaller-count.ensures))
     (λ c. let h = high c.before.before.before.before.before in
     record { fits = mul_below tray_limit layer_limit h.1 (omega (arith, h.0)) tt })
-    (λ c. let a = c.before.before.before.before.before.before.before.before.before.before.before.before.before.before.args in
-    let e : c.before.before.before.before.before.group_count.result - a.first - c.before.before.before.before.smaller-count.result ≤ groups
-    a.l = omega (arith, c.before.before.before.before.before.group_count.ensures) in
+    (λ c. let a = c.args in
+    let e : c.group_count.result - a.first - c.smaller-count.result ≤ groups
+    a.l = omega (arith, c.group_count.ensures) in
     omega (
       arith,
       report_in working a.l a.many a.lost.0 a.helpers.now a.shares.now a.host.now a.spare.now a.first
@@ -96,9 +96,9 @@ repair_batch_spec =
       shares_fit
           c.before.before.before.before.before.before.before.before.before.before.before.before.before.before,
     ))
-    (λ c. c.before.before.repair_groups.ensures.long)
-    (λ c. let a = c.before.before.before.before.before.before.before.before.before.before.before.before.before.before.args in
+    (λ c. c.repair_groups.ensures.long)
+    (λ c. let a = c.args in
     answer_done working a.l a.many a.lost.0 a.helpers.now a.shares.now a.host.now a.spare.now a.first a.budget (none
-    c.before.before.before.before.before.before) _ _ _ _ _ _ c.before.before.before.before.before.group_count.ensures
-    c.before.before.before.before.smaller-count.ensures refl refl
-    c.before.before.before.before.before.before.before.before.number-x.ensures c.before.before.repair_groups.ensures))
+    c.before.before.before.before.before.before) _ _ _ _ _ _ c.group_count.ensures
+    c.smaller-count.ensures refl refl
+    c.number-x.ensures c.repair_groups.ensures))

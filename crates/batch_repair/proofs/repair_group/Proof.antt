@@ -11,21 +11,21 @@ repair_group_spec =
     tie.close
     (tie.spec
     (λ c. search rules)
-    (λ c. (bounds _ c.before.before.before.before.before.requires.adm.admissible.cabinet).size_low)
-    (λ c κs. let a = c.before.before.before.before.before.args in (
+    (λ c. (bounds _ c.requires.adm.admissible.cabinet).size_low)
+    (λ c κs. let a = c.args in (
       grouped working a.l a.many a.x a.helpers.now a.shares.now a.host.now a.p a.spare.now
-          c.before.before.before.before.before.requires,
+          c.requires,
       omega arith,
     ))
     (λ c. search rules)
-    (λ c κs. let a = c.before.before.before.before.before.before.before.before.before.args in
+    (λ c κs. let a = c.args in
     layering working a.l a.many a.x a.helpers.now a.shares.now a.host.now a.p a.spare.now
-    c.before.before.before.before.before.before.before.before.before.requires _ (omega (
+    c.requires _ (omega (
       arith,
-      c.before.before.before.right_multipliers.auto,
+      c.right_multipliers.auto,
     )))
     (λ c. search rules)
-    (λ c. let a = c.before.before.before.before.before.before.before.before.before.before.before.before.args in
+    (λ c. let a = c.args in
     group_piece working a.l a.many a.x a.helpers.now a.shares.now a.host.now a.p a.spare.now
-    c.before.before.before.before.before.before.before.before.before.before.before.before.requires _
-    c.before.before.before.before.before.before.right_multipliers.ensures _ c.before.before.repair_layers.ensures))
+    c.requires _
+    c.right_multipliers.ensures _ c.repair_layers.ensures))

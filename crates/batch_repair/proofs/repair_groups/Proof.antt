@@ -22,13 +22,13 @@ repair_groups_spec =
     invariant-loop-k
     decreases-loop-k
     (λ c. (omega arith, pieces_none working _ _ _ _ _ _ _ _))
-    (λ c. let p = c.before.before.before.before.before.before.requires in
+    (λ c. let p = c.requires in
     omega (arith, p.within, (bounds _ p.adm.admissible.cabinet).groups_high, c.loop-k-test.true))
-    (λ c κs. let a = c.before.before.before.before.before.before.before.args in
+    (λ c κs. let a = c.args in
     told_next working a.l a.many a.x a.helpers.now a.shares.now a.host.now a.first a.count _ _ a.spare.now _
-    c.before.before.before.before.before.before.before.requires refl c.before.loop-k-test.true c.before.before.loop-k.invariant.1.long)
+    c.requires refl c.loop-k-test.true c.loop-k.invariant.1.long)
     (λ c. omega arith)
     (λ c. omega arith)
     (λ c. (omega arith, search (pieces_more working)))
-    (λ c. c.before.loop-k.invariant.1.long)
+    (λ c. c.loop-k.invariant.1.long)
     (λ c. search (pieces_end working)))

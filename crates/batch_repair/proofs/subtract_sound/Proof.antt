@@ -5,9 +5,9 @@ use Rattle.batch_repair.proofs.subtract_sound.Tie as tie
 
 pub subtract_sound_spec : {M : Type 1} → statement M
 subtract_sound_spec = tie.close (tie.spec (λ c. (λ e. refl, λ d. absurd (d c.if-g-lost.true))) (λ c κs. (
-  c.before.before.before.before.requires.0,
-  c.before.before.before.before.requires.1,
+  c.requires.0,
+  c.requires.1,
 )) (λ c. search rules) (λ c. (
-  λ e. absurd (c.before.before.before.before.if-g-lost.false e),
-  λ d. c.before.before.subtract.ensures,
+  λ e. absurd (c.if-g-lost.false e),
+  λ d. c.subtract.ensures,
 )))

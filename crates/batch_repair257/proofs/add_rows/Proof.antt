@@ -22,16 +22,16 @@ add_rows_spec =
     invariant-loop-k
     decreases-loop-k
     (λ c. (omega arith, search (card_none working)))
-    (λ c. omega (arith, c.before.before.before.before.before.requires.card_long))
-    (λ c κs. omega (arith, c.before.before.before.before.before.requires.card_long))
-    (λ c. omega (arith, c.before.before.before.before.before.before.before.requires.rows _ c.before.before.loop-k-test.true))
-    (λ c. omega (arith, c.before.before.before.before.before.before.before.requires.rows _ c.before.before.loop-k-test.true))
+    (λ c. omega (arith, c.requires.card_long))
+    (λ c κs. omega (arith, c.requires.card_long))
+    (λ c. omega (arith, c.requires.rows _ c.loop-k-test.true))
+    (λ c. omega (arith, c.requires.rows _ c.loop-k-test.true))
     (λ c κs. (
-      omega (arith, c.before.before.before.loop-k.invariant.1.long, c.before.before.before.before.before.before.before.requires.room),
-      c.before.before.before.before.before.before.before.requires.rows _ c.before.before.loop-k-test.true,
+      omega (arith, c.loop-k.invariant.1.long, c.requires.room),
+      c.requires.rows _ c.loop-k-test.true,
     ))
     (λ c. omega arith)
     (λ c. omega arith)
     (λ c. (omega arith, search (card_more working)))
-    (λ c. c.before.loop-k.invariant.1.long)
+    (λ c. c.loop-k.invariant.1.long)
     (λ c. search (card_end working)))

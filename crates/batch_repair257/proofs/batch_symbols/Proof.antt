@@ -19,44 +19,44 @@ batch_symbols_spec =
     (λ c. search rules)
     (λ c κs. search rules)
     (λ c. search rules)
-    (λ c. let e = c.before.before.group_count-total.ensures in let a = c.before.before.before.before.before.before.before.args in
+    (λ c. let e = c.group_count-total.ensures in let a = c.args in
     omega (
       arith,
       shares_in gf257 a.l a.many a.x a.shares.now a.host.now a.first a.budget
-          c.before.before.before.before.before.before.before.requires c.before.before.group_count-total.result (omega (
+          c.requires c.group_count-total.result (omega (
             arith,
-            c.before.before.group_count-total.ensures,
+            c.group_count-total.ensures,
           )),
     ))
-    (λ c. let a = c.before.before.before.before.before.before.before.args in
+    (λ c. let a = c.args in
     omega (
       arith,
       shares_in gf257 a.l a.many a.x a.shares.now a.host.now a.first a.budget
-          c.before.before.before.before.before.before.before.requires a.first (omega (
+          c.requires a.first (omega (
             arith,
-            c.before.before.group_count-total.ensures,
-            c.before.if-total-first.false,
+            c.group_count-total.ensures,
+            c.if-total-first.false,
           )),
     ))
-    (λ c. let a = c.before.before.before.before.before.before.before.args in
+    (λ c. let a = c.args in
     omega (
       arith,
       shares_in gf257 a.l a.many a.x a.shares.now a.host.now a.first a.budget
-          c.before.before.before.before.before.before.before.requires c.smaller-count.result (omega (
+          c.requires c.smaller-count.result (omega (
             arith,
-            c.before.before.group_count-total.ensures,
-            c.before.if-total-first.false,
+            c.group_count-total.ensures,
+            c.if-total-first.false,
             c.smaller-count.ensures,
           )),
     ))
-    (λ c κs. let a = c.before.before.before.before.before.before.before.args in (
+    (λ c κs. let a = c.args in (
       rows_room gf257 a.l a.many a.x a.shares.now a.host.now a.first a.budget _ _ (omega (
         arith,
-        c.before.if-total-first.false,
+        c.if-total-first.false,
         c.smaller-count.ensures,
       )),
       rows_long gf257 a.l a.many a.x a.shares.now a.host.now a.first a.budget
-          c.before.before.before.before.before.before.before.requires _ c.before.before.group_count-total.ensures,
+          c.requires _ c.group_count-total.ensures,
     ))
     (λ c. search (batch_false gf257))
     (λ c κs. search (batch_looking gf257))

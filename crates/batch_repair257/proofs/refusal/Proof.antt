@@ -7,8 +7,8 @@ use borrow.Author.Rules.{rules}
 use Rattle.batch_repair257.proofs.refusal.Statement.{statement}
 use Rattle.batch_repair257.proofs.refusal.Tie as tie
 
-cabinet : (c : tie.Else-not-admitted_with) → Cabinet c.before.before.before.before.before.args.l
-cabinet c = (with_so gf257.order 0 _ _ c.before.admitted_with.ensures c.if-not-admitted_with.false-raw).admissible.cabinet
+cabinet : (c : tie.Else-not-admitted_with) → Cabinet c.args.l
+cabinet c = (with_so gf257.order 0 _ _ c.admitted_with.ensures c.if-not-admitted_with.false-raw).admissible.cabinet
 
 pub refusal_spec : {M : Type 1} → statement M
 refusal_spec =
@@ -24,8 +24,8 @@ refusal_spec =
     (λ c κs. search rules)
     (λ c. search (return_4 gf257))
     (λ c κs. wide_of _ _ _ _ _ _ _ _ (cabinet c.before.before.before.before.before.before)
-    c.before.before.before.before.before.right_lengths.ensures c.before.before.before.before.if-not-right_lengths.false-raw
-    c.before.before.before.tray_count.ensures c.before.before.if-tray_count-x.false)
+    c.right_lengths.ensures c.if-not-right_lengths.false-raw
+    c.tray_count.ensures c.if-tray_count-x.false)
     (λ c. search (return_5 gf257))
     (λ c κs. cabinet c.before.before.before.before.before.before.before.before)
     (λ c. search (return_6 gf257))

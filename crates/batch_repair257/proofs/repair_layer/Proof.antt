@@ -19,23 +19,23 @@ repair_layer_spec =
     (λ c. search rules)
     (λ c κs. search rules)
     (λ c. search rules)
-    (λ c. let a = c.before.before.before.before.before.before.args in
+    (λ c. let a = c.args in
     omega (
       arith,
       groups_in a.l a.many a.x a.card.now a.shares.now a.host.now a.p a.spare.now
-          c.before.before.before.before.before.before.requires.0 _ c.group_count.ensures,
+          c.requires.0 _ c.group_count.ensures,
     ))
     (λ c κs. search rules)
     (λ c. search rules)
-    (λ c. let a = c.before.before.before.before.before.before.before.args in
+    (λ c. let a = c.args in
     omega (
       arith,
       total_in a.l a.many a.x a.card.now a.shares.now a.host.now a.p a.spare.now
-          c.before.before.before.before.before.before.before.requires.0 _ c.layer_count.ensures,
+          c.requires.0 _ c.layer_count.ensures,
     ))
-    (λ c. (bounds _ c.before.before.before.before.before.before.before.requires.0.wide.adm).size_low)
-    (λ c κs. let a = c.before.before.before.before.before.before.before.args in
-    let p = c.before.before.before.before.before.before.before.requires in
+    (λ c. (bounds _ c.requires.0.wide.adm).size_low)
+    (λ c κs. let a = c.args in
+    let p = c.requires in
     record {
       adm = p.0.wide.adm;
       host_in = host_in a.l a.many a.x a.card.now a.shares.now a.host.now a.p a.spare.now
@@ -44,51 +44,51 @@ repair_layer_spec =
       digit_in = p.1;
     })
     (λ c. search rules)
-    (λ c. let a = c.before.before.before.before.before.before.before.before.args in
+    (λ c. let a = c.args in
     omega (
       arith,
       layer_in a.l a.many a.x a.card.now a.shares.now a.host.now a.p a.spare.now
-          c.before.before.before.before.before.before.before.before.requires.0 _ c.layer_of.ensures.1,
+          c.requires.0 _ c.layer_of.ensures.1,
     ))
-    (λ c κs. let a = c.before.before.before.before.before.before.before.before.before.args in
+    (λ c κs. let a = c.args in
     layer_room a.l a.many a.x a.card.now a.shares.now a.host.now a.p a.spare.now
-    c.before.before.before.before.before.before.before.before.before.requires.0 _ c.before.layer_of.ensures.1 a.spare.now refl)
-    (λ c. let p = c.before.before.before.before.before.before.before.before.before.before.before.before.before.requires in
+    c.requires.0 _ c.layer_of.ensures.1 a.spare.now refl)
+    (λ c. let p = c.requires in
     let b = bounds _ p.0.wide.adm in record {
       fits = mul_below tray_limit tray_limit (omega (arith, digits_small _ p.0.wide.adm, p.1))
           (omega (arith, p.0.wide.adm.helpers_high)) tt;
     })
-    (λ c. let a = c.before.before.before.before.before.before.before.before.before.before.before.before.before.args in
+    (λ c. let a = c.args in
     omega (
       arith,
       start_in a.l a.many a.x a.card.now a.shares.now a.host.now a.p a.spare.now
-          c.before.before.before.before.before.before.before.before.before.before.before.before.before.requires.0,
+          c.requires.0,
     ))
-    (λ c κs. let a = c.before.before.before.before.before.before.before.before.before.before.before.before.before.args in
+    (λ c κs. let a = c.args in
     adding a.l a.many a.x a.card.now a.shares.now a.host.now a.p a.spare.now
-    c.before.before.before.before.before.before.before.before.before.before.before.before.before.requires.0 _
-    c.before.before.before.before.before.layer_of.ensures.1 a.b _ _ _ _
-    c.before.before.before.before.before.before.before.before.before.before.before.before.before.requires.1 (ap (λ n. n * a.many)
-    c.before.before.before.before.before.before.before.group_count.ensures) refl refl c.before.before.before.fill.ensures)
-    (λ c. (bounds _ c.before.before.before.before.before.before.before.before.before.before.before.before.before.before.before.before.before.requires.0.wide.adm).size_low)
-    (λ c κs. let a = c.before.before.before.before.before.before.before.before.before.before.before.before.before.before.before.before.before.args in
+    c.requires.0 _
+    c.layer_of.ensures.1 a.b _ _ _ _
+    c.requires.1 (ap (λ n. n * a.many)
+    c.group_count.ensures) refl refl c.fill.ensures)
+    (λ c. (bounds _ c.requires.0.wide.adm).size_low)
+    (λ c κs. let a = c.args in
     lessening a.l a.many a.x a.card.now a.shares.now a.host.now a.p a.spare.now
-    c.before.before.before.before.before.before.before.before.before.before.before.before.before.before.before.before.before.requires.0 _
-    c.before.before.before.before.before.before.before.before.before.layer_of.ensures.1 working a.b _ _ _ _ _
-    c.before.before.before.before.before.before.before.before.before.layer_of.ensures.0 (ap (λ n. n * a.many)
-    c.before.before.before.before.before.before.before.before.before.before.before.group_count.ensures) refl refl
-    c.before.before.before.before.before.before.before.fill.ensures c.before.before.before.add_rows.ensures _ (ap
-    (λ n. n * a.many) c.before.before.before.before.before.before.before.before.before.before.layer_count.ensures))
-    (λ c. c.before.before.subtract_rack.ensures.long
-    ∙ c.before.before.before.before.before.before.add_rows.ensures.long
-    ∙ c.before.before.before.before.before.before.before.before.before.before.fill.ensures.long)
-    (λ c. let a = c.before.before.before.before.before.before.before.before.before.before.before.before.before.before.before.before.before.before.before.before.args in
+    c.requires.0 _
+    c.layer_of.ensures.1 working a.b _ _ _ _ _
+    c.layer_of.ensures.0 (ap (λ n. n * a.many)
+    c.group_count.ensures) refl refl
+    c.fill.ensures c.add_rows.ensures _ (ap
+    (λ n. n * a.many) c.layer_count.ensures))
+    (λ c. c.subtract_rack.ensures.long
+    ∙ c.add_rows.ensures.long
+    ∙ c.fill.ensures.long)
+    (λ c. let a = c.args in
     layer_repaired a.l a.many a.x a.card.now a.shares.now a.host.now a.p a.spare.now
-    c.before.before.before.before.before.before.before.before.before.before.before.before.before.before.before.before.before.before.before.before.requires.0 _
-    c.before.before.before.before.before.before.before.before.before.before.before.before.layer_of.ensures.1 working
-    a.b _ _ _ _ _ c.before.before.before.before.before.before.before.before.before.before.before.before.layer_of.ensures.0 (ap
-    (λ n. n * a.many) c.before.before.before.before.before.before.before.before.before.before.before.before.before.before.group_count.ensures) refl refl
-    c.before.before.before.before.before.before.before.before.before.before.fill.ensures
-    c.before.before.before.before.before.before.add_rows.ensures _ _ (ap (λ n. n * a.many)
-    c.before.before.before.before.before.before.before.before.before.before.before.before.before.layer_count.ensures)
-    c.before.before.subtract_rack.ensures))
+    c.requires.0 _
+    c.layer_of.ensures.1 working
+    a.b _ _ _ _ _ c.layer_of.ensures.0 (ap
+    (λ n. n * a.many) c.group_count.ensures) refl refl
+    c.fill.ensures
+    c.add_rows.ensures _ _ (ap (λ n. n * a.many)
+    c.layer_count.ensures)
+    c.subtract_rack.ensures))

@@ -22,27 +22,27 @@ repair_layers_spec =
     decreases-loop-b
     (λ c κs. search rules)
     (λ c. (omega arith, group_none gf257 _ _ _ _ _ _ _ _))
-    (λ c κs. let a = c.before.before.before.before.before.before.before.before.args in (
+    (λ c κs. let a = c.args in (
       layering_next a.l a.many a.x a.card.now a.shares.now a.host.now a.p a.spare.now _
-          c.before.before.before.before.before.before.before.before.requires c.before.before.loop-b.invariant.1.long,
+          c.requires c.loop-b.invariant.1.long,
       omega (
         arith,
-        c.before.before.before.digit_count-s.ensures,
-        c.before.loop-b-test.true,
+        c.digit_count-s.ensures,
+        c.loop-b-test.true,
       ),
     ))
     (λ c. omega arith)
     (λ c. omega arith)
-    (λ c. let a = c.before.before.before.before.before.before.before.before.before.before.before.args in (
+    (λ c. let a = c.args in (
       omega arith,
       group_more gf257 a.l a.many a.x a.card.now a.shares.now a.host.now a.p _ _ _ _ (layers_apart a.l
           a.many a.x a.card.now a.shares.now a.host.now a.p a.spare.now
-          c.before.before.before.before.before.before.before.before.before.before.before.requires _ (omega (
+          c.requires _ (omega (
             arith,
-            c.before.before.before.before.before.before.digit_count-s.ensures,
-            c.before.before.before.before.loop-b-test.true,
+            c.digit_count-s.ensures,
+            c.loop-b-test.true,
           )))
-          c.before.before.before.before.before.loop-b.invariant.1 c.before.before.repair_layer.ensures,
+          c.loop-b.invariant.1 c.repair_layer.ensures,
     ))
-    (λ c. c.before.loop-b.invariant.1.long)
+    (λ c. c.loop-b.invariant.1.long)
     (λ c. search (group_end gf257)))

@@ -21,26 +21,26 @@ right_lengths_spec =
     (λ c κs. search rules)
     (λ c. search rules)
     (λ c. record {
-      fits = let b = bounds _ c.before.before.before.before.requires in
-          mul_below tray_limit layer_limit (omega (arith, c.before.before.before.before.requires.helpers_high)) (omega (
+      fits = let b = bounds _ c.requires in
+          mul_below tray_limit layer_limit (omega (arith, c.requires.helpers_high)) (omega (
             arith,
             c.group_count-groups.ensures,
             b.groups_high,
           )) tt;
     })
-    (λ c κs. rw c.group_count-groups.ensures (traffic_pos _ c.before.before.before.before.requires))
+    (λ c κs. rw c.group_count-groups.ensures (traffic_pos _ c.requires))
     (λ c. search lengths_1)
     (λ c. record {
-      fits = let b = bounds _ c.before.before.before.before.before.before.requires in
+      fits = let b = bounds _ c.requires in
           mul_below tray_limit layer_limit (omega arith) (omega (
             arith,
-            c.before.before.before.layer_count-total.ensures,
-            c.before.before.before.before.before.before.requires.layers_high,
+            c.layer_count-total.ensures,
+            c.requires.layers_high,
           )) tt;
     })
-    (λ c κs. let b = bounds _ c.before.before.before.before.before.before.requires in
-    mul-pos b.size_low (omega (arith, c.before.before.before.layer_count-total.ensures, b.layers_low)))
+    (λ c κs. let b = bounds _ c.requires in
+    mul-pos b.size_low (omega (arith, c.layer_count-total.ensures, b.layers_low)))
     (λ c. search lengths_2)
-    (λ c κs. let b = bounds _ c.before.before.before.before.before.before.before.before.requires in
-    omega (arith, c.before.before.before.before.before.layer_count-total.ensures, b.layers_low))
+    (λ c κs. let b = bounds _ c.requires in
+    omega (arith, c.layer_count-total.ensures, b.layers_low))
     (λ c. search lengths_3))

@@ -25,18 +25,18 @@ subtract_rack_spec =
     decreases-loop-g
     (λ c. (omega arith, search (rack_none working)))
     (λ c. search rules)
-    (λ c. omega (arith, c.before.before.before.before.before.requires.rows _ c.before.loop-g-test.true))
-    (λ c. omega (arith, c.before.before.before.before.before.requires.rows _ c.before.loop-g-test.true))
+    (λ c. omega (arith, c.requires.rows _ c.loop-g-test.true))
+    (λ c. omega (arith, c.requires.rows _ c.loop-g-test.true))
     (λ c κs. (
-      omega (arith, c.before.before.loop-g.invariant.1.long, c.before.before.before.before.before.requires.room),
-      c.before.before.before.before.before.requires.rows _ c.before.loop-g-test.true,
+      omega (arith, c.loop-g.invariant.1.long, c.requires.room),
+      c.requires.rows _ c.loop-g-test.true,
     ))
     (λ c. omega arith)
     (λ c. omega arith)
     (λ c. (
       omega arith,
-      rack_more working _ _ _ _ _ _ _ _ _ _ _ refl c.before.before.before.before.before.loop-g.invariant.1
-          c.before.before.subtract_sound.ensures,
+      rack_more working _ _ _ _ _ _ _ _ _ _ _ refl c.loop-g.invariant.1
+          c.subtract_sound.ensures,
     ))
-    (λ c. c.before.loop-g.invariant.1.long)
+    (λ c. c.loop-g.invariant.1.long)
     (λ c. search (rack_end working)))

@@ -25,7 +25,7 @@ shared_slice_read_skipped : tie.Need-bounds-es-d invariant-loop-d decreases-loop
 shared_slice_read_skipped c = omega arith
 
 skipped_requires : tie.Need-skipped-x-requires invariant-loop-d decreases-loop-d
-skipped_requires c κs = let a = c.before.before.before.before.args in other_low a.es.now a.i c.before.before.loop-d.d _ c.before.before.loop-d.invariant.1 c.before.before.before.before.requires.0 c.before.before.before.before.requires.1 (omega arith)
+skipped_requires c κs = let a = c.args in other_low a.es.now a.i c.loop-d.d _ c.loop-d.invariant.1 c.requires.0 c.requires.1 (omega arith)
 
 add_d : tie.Need-overflow-add-d invariant-loop-d decreases-loop-d
 add_d c = omega arith
@@ -34,10 +34,10 @@ loop_less : tie.Need-loop-d-smaller invariant-loop-d decreases-loop-d
 loop_less c = omega arith
 
 loop_again : tie.Need-loop-d-preserved invariant-loop-d decreases-loop-d
-loop_again c = let a = c.before.before.before.before.before.args in (omega arith, other_more a.es.now a.i c.before.before.before.loop-d.d _ c.before.before.before.loop-d.invariant.1 _ c.skipped-x.ensures)
+loop_again c = let a = c.args in (omega arith, other_more a.es.now a.i c.loop-d.d _ c.loop-d.invariant.1 _ c.skipped-x.ensures)
 
 returns : tie.Need-returns invariant-loop-d decreases-loop-d
-returns c = let a = c.before.before.before.args in other_end a.es.now a.i c.before.loop-d.d _ c.before.loop-d.invariant.1 (omega arith) (omega arith)
+returns c = let a = c.args in other_end a.es.now a.i c.loop-d.d _ c.loop-d.invariant.1 (omega arith) (omega arith)
 
 pub other_spec : {M : Type 1} → statement M
 other_spec = tie.close (tie.spec invariant-loop-d decreases-loop-d loop_holds mul_skipped shared_slice_read_skipped skipped_requires add_d loop_less loop_again returns)

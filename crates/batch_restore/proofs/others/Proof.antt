@@ -38,13 +38,13 @@ loop_less : tie.Need-loop-i-smaller invariant-loop-i decreases-loop-i
 loop_less c = omega arith
 
 loop_again : tie.Need-loop-i-preserved invariant-loop-i decreases-loop-i
-loop_again c = (omega arith, simp length-set (omega arith), upto_more (free (λ k. get_or c.before.before.before.before.before.args.es.now k 0) (length c.before.before.before.before.before.args.es.now)) c.before.before.loop-i.invariant.2 (omega arith) c.other.ensures)
+loop_again c = (omega arith, simp length-set (omega arith), upto_more (free (λ k. get_or c.args.es.now k 0) (length c.args.es.now)) c.loop-i.invariant.2 (omega arith) c.other.ensures)
 
 same_length : tie.Need-shape_of-ks invariant-loop-i decreases-loop-i
 same_length c = omega arith
 
 returns : tie.Need-returns invariant-loop-i decreases-loop-i
-returns c = is_table c.before.loop-i.ks (free (λ k. get_or c.before.before.before.before.args.es.now k 0) (length c.before.before.before.before.args.es.now)) (length c.before.before.before.before.args.ks.now) c.before.loop-i.invariant.1 (λ k h. c.before.loop-i.invariant.2.low k (omega arith))
+returns c = is_table c.loop-i.ks (free (λ k. get_or c.args.es.now k 0) (length c.args.es.now)) (length c.args.ks.now) c.loop-i.invariant.1 (λ k h. c.loop-i.invariant.2.low k (omega arith))
 
 pub others_spec : {M : Type 1} → statement M
 others_spec = tie.close (tie.spec invariant-loop-i decreases-loop-i loop_holds cast_other other_requires mul_ks slice_write_ks add_i loop_less loop_again same_length returns)

@@ -58,7 +58,7 @@ same_length_4 : tie.Need-shape_of-g
 same_length_4 c = search rules
 
 returns : tie.Need-returns
-returns c = (search ready_as, let a = c.before.before.before.before.before.before.before.before.before.before.before.before.before.before.before.before.before.before.before.before.before.before.before.before.before.before.before.before.before.before.args in weights_of a.l a.es.now a.ks.now c.before.before.before.before.before.before.before.before.before.before.before.before.before.before.before.before.before.before.before.before.before.before.before.before.before.before.before.before.before.before.requires.0 a.wide c.before.before.before.before.before.before.before.before.before.before.before.before.before.before.before.before.before.before.before.before.before.before.before.eights-count.result c.before.before.before.before.before.before.before.before.before.before.before.before.before.before.before.before.before.before.before.before.before.before.before.before.before.before.before.before.before.before.requires.1 c.before.before.before.before.before.before.before.before.before.before.before.before.before.before.before.before.before.before.before.before.before.before.before.eights-count.ensures working a.j _ _ _ _ _ _ _ _ c.before.before.before.before.before.before.before.before.before.before.before.before.before.before.before.before.before.before.before.before.before.list_points.ensures c.before.before.before.before.before.before.before.before.before.before.before.before.before.before.before.before.before.list_points-2.ensures c.before.before.before.before.before.before.before.before.before.before.before.before.before.fill.ensures c.before.before.before.before.before.before.before.factors.ensures c.before.before.prepare.ensures.1)
+returns c = (search ready_as, let a = c.args in weights_of a.l a.es.now a.ks.now c.requires.0 a.wide c.eights-count.result c.requires.1 c.eights-count.ensures working a.j _ _ _ _ _ _ _ _ c.list_points.ensures c.list_points-2.ensures c.fill.ensures c.factors.ensures c.prepare.ensures.1)
 
 pub layer_factors_spec : {M : Type 1} → statement M
 layer_factors_spec = tie.close (tie.spec eights_requires list_points_requires list_points_requires_2 mul_fill mul_fill_2 sub_fill mul_fill_3 fill_requires factors_requires prepare_requires same_length same_length_2 same_length_3 same_length_4 returns)

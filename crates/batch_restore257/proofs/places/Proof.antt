@@ -59,7 +59,7 @@ same_length : tie.Need-shape_of-at invariant-loop-t decreases-loop-t
 same_length c = omega arith
 
 returns : tie.Need-returns invariant-loop-t decreases-loop-t
-returns c = placed_end _ _ _ _ _ _ _ c.before.loop-t.invariant.2 (omega arith) (omega arith)
+returns c = placed_end _ _ _ _ _ _ _ c.loop-t.invariant.2 (omega arith) (omega arith)
 
 pub places_spec : {M : Type 1} → statement M
 places_spec = tie.close (tie.spec invariant-loop-t decreases-loop-t loop_holds sub_smaller smaller_requires mul_at shared_slice_read_at cast_at mul_at_2 add_at mul_at_3 slice_write_at add_t loop_less loop_again same_length returns)

@@ -26,7 +26,7 @@ shared_slice_read_copy : tie.Need-bounds-es-o invariant-loop-o decreases-loop-o
 shared_slice_read_copy c = omega arith
 
 cast_copy : tie.Need-overflow-cast-copy invariant-loop-o decreases-loop-o
-cast_copy c = record { fits = omega (arith, c.shared_slice_known-in-loop-o-1.given c.before.before.before.loop-o.o) }
+cast_copy c = record { fits = omega (arith, c.shared_slice_known-in-loop-o-1.given c.loop-o.o) }
 
 mul_copy_2 : tie.Need-overflow-mul-copy-2 invariant-loop-o decreases-loop-o
 mul_copy_2 c = search put_fits

@@ -23,10 +23,10 @@ array_borrow_prefix_ks : tie.Need-slice_bounds-ks-end
 array_borrow_prefix_ks c = search left_few
 
 slice_aggregate_restore_listed : tie.Need-slice_bounds-restore_listed-end
-slice_aggregate_restore_listed c = zeros_long (c.before.before.tray_count.result - length c.before.before.before.before.before.args.es.now) (search left_few)
+slice_aggregate_restore_listed c = zeros_long (c.tray_count.result - length c.args.es.now) (search left_few)
 
 restore_listed_requires : tie.Need-restore_listed-requires
-restore_listed_requires c κs = let a = c.before.before.before.before.before.args in (c.before.before.before.before.before.requires, left_count a.l a.m a.es.now a.c.now c.before.before.before.before.before.requires c.before.before.tray_count.result c.before.before.tray_count.ensures _ (sym (zeros_long (c.before.before.tray_count.result - length a.es.now) (search left_few))))
+restore_listed_requires c κs = let a = c.args in (c.requires, left_count a.l a.m a.es.now a.c.now c.requires c.tray_count.result c.tray_count.ensures _ (sym (zeros_long (c.tray_count.result - length a.es.now) (search left_few))))
 
 same_length : tie.Need-shape_of-c
 same_length c = search rules

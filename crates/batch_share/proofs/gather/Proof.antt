@@ -19,40 +19,40 @@ gather_spec =
     (tie.spec
     invariant-loop-g
     decreases-loop-g
-    (λ c κs. c.before.before.requires.adm.cabinet)
-    (λ c κs. let p = c.before.before.before.requires in (p.adm.cabinet, p.host_in, c.Counts-of.ensures))
+    (λ c κs. c.requires.adm.cabinet)
+    (λ c κs. let p = c.requires in (p.adm.cabinet, p.host_in, c.counts_of-n.ensures))
     (λ c κs. omega arith)
     (λ c. (
       omega arith,
-      partly_start working c.before.before.before.before.before.before.before.before.args.l
-          c.before.before.before.before.before.before.before.before.args.h
-          c.before.before.before.before.before.before.before.before.args.many
-          c.before.before.before.before.before.before.before.before.args.rack.now
-          c.before.before.before.before.before.before.before.before.args.out.now
-          c.before.before.before.before.before.before.before.before.requires _ _ refl c.before.before.fill.ensures,
+      partly_start working c.args.l
+          c.args.h
+          c.args.many
+          c.args.rack.now
+          c.args.out.now
+          c.requires _ _ refl c.fill.ensures,
     ))
     (λ c. omega arith)
     (λ c κs. omega arith)
-    (λ c κs. let a = c.before.before.before.before.before.before.before.before.before.before.before.before.args in (
+    (λ c κs. let a = c.args in (
       partly_told working a.l a.h a.many a.rack.now a.out.now
-          c.before.before.before.before.before.before.before.before.before.before.before.before.requires _ _ _
-          c.before.before.before.loop-g.invariant.1 c.before.at_once-m.ensures c.before.before.loop-g-test.true,
-      c.before.before.before.before.before.before.before.before.runs_of-r.ensures,
+          c.requires _ _ _
+          c.loop-g.invariant.1 c.at_once-m.ensures c.loop-g-test.true,
+      c.runs_of-r.ensures,
     ))
-    (λ c. let m = c.before.before.before.before.at_once-m.ensures in
-    let b = bounds _ c.before.before.before.before.before.before.before.before.before.before.before.before.before.before.before.requires.adm.cabinet in
-    omega (arith, m.1, c.before.before.before.before.before.loop-g-test.true, b.size_high))
-    (λ c. let m = c.before.before.before.before.at_once-m.ensures in
-    omega (arith, m.0, m.1, c.before.before.before.before.before.loop-g-test.true))
-    (λ c. let a = c.before.before.before.before.before.before.before.before.before.before.before.before.before.before.before.args in
-    let m = c.before.before.before.before.at_once-m.ensures in (
-      omega (arith, m.1, c.before.before.before.before.before.loop-g-test.true),
+    (λ c. let m = c.at_once-m.ensures in
+    let b = bounds _ c.requires.adm.cabinet in
+    omega (arith, m.1, c.loop-g-test.true, b.size_high))
+    (λ c. let m = c.at_once-m.ensures in
+    omega (arith, m.0, m.1, c.loop-g-test.true))
+    (λ c. let a = c.args in
+    let m = c.at_once-m.ensures in (
+      omega (arith, m.1, c.loop-g-test.true),
       partly_turn working a.l a.h a.many
-          a.rack.now _ _ _ _ c.before.before.before.before.before.before.loop-g.invariant.1 c.before.before.feed.ensures,
+          a.rack.now _ _ _ _ c.loop-g.invariant.1 c.feed.ensures,
     ))
-    (λ c. let a = c.before.before.before.before.before.before.before.before.before.before.args in
-    c.before.loop-g.invariant.1.long ∙ sym c.before.before.before.before.before.before.before.before.before.before.requires.room)
-    (λ c. let a = c.before.before.before.before.before.before.before.before.before.before.args in
+    (λ c. let a = c.args in
+    c.loop-g.invariant.1.long ∙ sym c.requires.room)
+    (λ c. let a = c.args in
     partly_end working a.l a.h a.many a.rack.now a.out.now
-    c.before.before.before.before.before.before.before.before.before.before.requires _ _ c.before.loop-g.invariant.1 c.before.loop-g.invariant.0
+    c.requires _ _ c.loop-g.invariant.1 c.loop-g.invariant.0
     (omega arith)))

@@ -10,8 +10,8 @@ use borrow.Author.Rules.{rules}
 use Rattle.batch_share.proofs.refusal.Statement.{statement}
 use Rattle.batch_share.proofs.refusal.Tie as tie
 
-cabinet : (c : tie.Else-not-admitted) → Cabinet c.before.before.before.before.args.l
-cabinet c = (admitted_so gf256.order _ _ c.before.admitted.ensures c.if-not-admitted.false-raw).cabinet
+cabinet : (c : tie.Else-not-admitted) → Cabinet c.args.l
+cabinet c = (admitted_so gf256.order _ _ c.admitted.ensures c.if-not-admitted.false-raw).cabinet
 
 pub refusal_spec : {M : Type 1} → statement M
 refusal_spec =
@@ -27,11 +27,11 @@ refusal_spec =
     (λ c. search rules)
     (λ c. record {
       fits = let b = bounds _ (cabinet c.before.before) in let k = cabinet c.before.before in
-          mul_below tray_limit layer_limit (omega arith) (omega (arith, c.before.layer_count-total.ensures, k.layers_high)) tt;
+          mul_below tray_limit layer_limit (omega arith) (omega (arith, c.layer_count-total.ensures, k.layers_high)) tt;
     })
-    (λ c κs. let b = bounds _ (cabinet c.before.before) in mul-pos b.size_low (omega (arith, c.before.layer_count-total.ensures, b.layers_low)))
+    (λ c κs. let b = bounds _ (cabinet c.before.before) in mul-pos b.size_low (omega (arith, c.layer_count-total.ensures, b.layers_low)))
     (λ c. search (return_2 gf256))
-    (λ c κs. omega (arith, groups_pos _ (cabinet c.before.before.before.before), c.before.before.group_count-groups.ensures))
+    (λ c κs. omega (arith, groups_pos _ (cabinet c.before.before.before.before), c.group_count-groups.ensures))
     (λ c. search (return_3 gf256))
     (λ c. search (return_4 gf256))
     (λ c. search (return_5 gf256))

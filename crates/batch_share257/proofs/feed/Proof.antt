@@ -9,15 +9,15 @@ use Rattle.batch_share257.proofs.feed.Tie as tie
 
 pub feed_spec : {M : Type 1} → statement M
 feed_spec =
-    tie.close (tie.spec (λ c. let a = c.before.before.before.args in let p = c.before.before.before.requires in
+    tie.close (tie.spec (λ c. let a = c.args in let p = c.requires in
     omega (arith, far_in working a.l a.h a.many a.rack.now a.g a.m a.out.now p.0 _ _ _ _ p.1))
-    (λ c. let a = c.before.before.before.args in let p = c.before.before.before.requires in
+    (λ c. let a = c.args in let p = c.requires in
     omega (arith, run_in working a.l a.h a.many a.rack.now a.g a.m a.out.now p.0 _ _ _ _ p.1))
-    (λ c. let a = c.before.before.before.args in let p = c.before.before.before.requires in
+    (λ c. let a = c.args in let p = c.requires in
     omega (arith, start_in working a.l a.h a.many a.rack.now a.g a.m a.out.now p.0 _ _ _ _ p.1))
-    (λ c κs. let a = c.before.before.before.before.args in let p = c.before.before.before.before.requires in
+    (λ c κs. let a = c.args in let p = c.requires in
     in_trays working a.l a.h a.many a.rack.now a.g a.m a.out.now p.0 _ _ _ _ p.1 _ _ refl refl) (λ c. search rules)
-    (λ c. let a = c.before.before.before.before.before.before.before.args in
-    let p = c.before.before.before.before.before.before.before.requires in
+    (λ c. let a = c.args in
+    let p = c.requires in
     fed working a.l a.h a.many a.rack.now a.g a.m a.out.now p.0 _ _ _ _ p.1 _ _ refl refl _
-    c.before.before.add_long.ensures))
+    c.add_long.ensures))

@@ -10,7 +10,7 @@ use Rattle.batch_store.proofs.parity.Statement.{statement}
 use Rattle.batch_store.proofs.parity.Tie as tie
 
 few : (c : tie.After-check_count-r) → c.check_count-r.result ≤ tray_limit
-few c = let a = c.before.before.requires.adm in omega arith
+few c = let a = c.requires.adm in omega arith
 
 pub parity_spec : {M : Type 1} → statement M
 parity_spec =
@@ -19,6 +19,6 @@ parity_spec =
     (λ c. search rules)
     (λ c. search rules)
     (λ c. sym (zeros_long _ (few c.before.before)))
-    (λ c κs. (c.before.before.before.before.requires, zeros_long _ (few c.before.before) ∙ c.before.before.check_count-r.ensures))
+    (λ c κs. (c.requires, zeros_long _ (few c.before.before) ∙ c.check_count-r.ensures))
     (λ c. search rules)
     (λ c. search rules))

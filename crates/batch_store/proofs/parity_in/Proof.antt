@@ -13,14 +13,14 @@ use Rattle.batch_store.proofs.Answers.{parity_told}
 use Rattle.batch_store.proofs.parity_in.Statement.{statement}
 use Rattle.batch_store.proofs.parity_in.Tie as tie
 
-listed : (c : tie.After-trays_from) → c.trays_from.new.1.0 ≡ parity_trays c.before.before.before.before.args.l
-listed c = c.trays_from.ensures ∙ ap (table (λ (i : ℕ). c.before.before.before.before.args.l.dimension + i)) c.before.before.before.before.requires.1
+listed : (c : tie.After-trays_from) → c.trays_from.new.1.0 ≡ parity_trays c.args.l
+listed c = c.trays_from.ensures ∙ ap (table (λ (i : ℕ). c.args.l.dimension + i)) c.requires.1
 
 pub parity_in_spec : {M : Type 1} → statement M
 parity_in_spec =
     tie.close (tie.spec
-    (λ c κs. let a = c.before.before.before.requires.0.adm in (omega (arith, dimension_in _ a), omega arith))
-    (λ c κs. let s = c.before.before.before.before.before.before.before.before in subst (λ es. Restoring s.args.l s.args.many es s.args.out.now) (sym (listed c.before.before.before.before)) (parity_told s.args.l s.args.many s.args.out.now s.requires.0))
+    (λ c κs. let a = c.requires.0.adm in (omega (arith, dimension_in _ a), omega arith))
+    (λ c κs. subst (λ es. Restoring c.args.l c.args.many es c.args.out.now) (sym (listed c.before.before.before.before)) (parity_told c.args.l c.args.many c.args.out.now c.requires.0))
     (λ c. search rules)
     (λ c. search rules)
-    (λ c. let s = c.before.before.before.before.before.before.before.before.before.before.before in subst (λ es. Restored gf256 s.args.l s.args.many es s.args.out.now c.before.before.restore.new.1.1.0) (listed c.before.before.before.before.before.before.before) c.before.before.restore.ensures))
+    (λ c. subst (λ es. Restored gf256 c.args.l c.args.many es c.args.out.now c.restore.new.1.1.0) (listed c.before.before.before.before.before.before.before) c.restore.ensures))

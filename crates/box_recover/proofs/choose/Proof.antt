@@ -19,17 +19,17 @@ choose_spec =
     (λ c. search rules)
     (λ c κs. search rules)
     (λ c. search rules)
-    (λ c. omega (arith, c.before.survivor.ensures.1))
+    (λ c. omega (arith, c.survivor.ensures.1))
     (λ c. search rules)
-    (λ c. let u = c.before.before.before.loop-i.invariant.1.same in omega arith)
+    (λ c. let u = c.loop-i.invariant.1.same in omega arith)
     (λ c. search rules)
     (λ c. search rules)
     (λ c.
-    let a = c.before.before.before.before.before.before.before.args in (
+    let a = c.args in (
       omega arith,
-      upto_more (chosen_at a.erased.now a.from.now) c.before.before.before.loop-i.invariant.1 (omega arith)
-          (chosen_at_lem a.erased.now a.from.now c.before.before.before.loop-i.i _ c.before.survivor.ensures.0),
+      upto_more (chosen_at a.erased.now a.from.now) c.loop-i.invariant.1 (omega arith)
+          (chosen_at_lem a.erased.now a.from.now c.loop-i.i _ c.survivor.ensures.0),
     ))
-    (λ c. c.before.loop-i.invariant.1.same)
-    (λ c. let a = c.before.before.before.before.before.args in chosen_is a.erased.now a.from.now _ _ c.before.loop-i.i (search rules) (omega arith)
-    c.before.loop-i.invariant.1))
+    (λ c. c.loop-i.invariant.1.same)
+    (λ c. let a = c.args in chosen_is a.erased.now a.from.now _ _ c.loop-i.i (search rules) (omega arith)
+    c.loop-i.invariant.1))

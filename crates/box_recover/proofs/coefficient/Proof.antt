@@ -26,10 +26,10 @@ coefficient_spec =
     (λ c. search rules)
     (λ c. search rules)
     (λ c.
-    let a = c.before.before.before.before.before.before.before.args in (
+    let a = c.args in (
       omega arith,
-      sums_more (coefficient_term a.word.now a.j) c.before.before.before.before.loop-x.x _ _ _ _ c.before.before.before.before.loop-x.invariant.1 c.add_product-sum.ensures
-          (coefficient_term_lem a.word.now c.before.before.before.before.before.all_points-points.result a.j c.before.before.before.before.loop-x.x _
-          c.before.before.before.before.before.all_points-points.ensures c.before.before.power-factor.ensures),
+      sums_more (coefficient_term a.word.now a.j) c.loop-x.x _ _ _ _ c.loop-x.invariant.1 c.add_product-sum.ensures
+          (coefficient_term_lem a.word.now c.all_points-points.result a.j c.loop-x.x _
+          c.all_points-points.ensures c.power-factor.ensures),
     ))
-    (λ c. let a = c.before.before.before.before.args in coefficient_end a.word.now a.j c.before.loop-x.x _ (omega arith) c.before.loop-x.invariant.1))
+    (λ c. let a = c.args in coefficient_end a.word.now a.j c.loop-x.x _ (omega arith) c.loop-x.invariant.1))

@@ -19,13 +19,13 @@ coefficients_spec =
     (λ c. search rules)
     (λ c κs. search rules)
     (λ c. search rules)
-    (λ c. let u = c.before.before.loop-j.invariant.1.same in omega arith)
+    (λ c. let u = c.loop-j.invariant.1.same in omega arith)
     (λ c. search rules)
     (λ c. search rules)
-    (λ c. let a = c.before.before.before.before.before.args in (
+    (λ c. let a = c.args in (
       omega arith,
-      upto_more (coefficient_number a.word.now) c.before.before.loop-j.invariant.1 (omega arith)
-          (coefficient_number_lem a.word.now c.before.before.loop-j.j _ c.coefficient.ensures),
+      upto_more (coefficient_number a.word.now) c.loop-j.invariant.1 (omega arith)
+          (coefficient_number_lem a.word.now c.loop-j.j _ c.coefficient.ensures),
     ))
-    (λ c. c.before.loop-j.invariant.1.same)
-    (λ c. let a = c.before.before.before.before.args in coefficients_are a.word.now _ _ c.before.loop-j.j (search rules) (omega arith) c.before.loop-j.invariant.1))
+    (λ c. c.loop-j.invariant.1.same)
+    (λ c. let a = c.args in coefficients_are a.word.now _ _ c.loop-j.j (search rules) (omega arith) c.loop-j.invariant.1))

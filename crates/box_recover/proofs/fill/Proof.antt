@@ -20,21 +20,21 @@ fill_spec =
     (λ c. (omega arith, fill_none _ _ _))
     (λ c. search rules)
     (λ c. search rules)
-    (λ c. let b = entry_in c.before.before.before.args.erased.now c.before.before.loop-k.k 16 c.before.before.before.requires.0 (omega arith) refl in
+    (λ c. let b = entry_in c.args.erased.now c.loop-k.k 16 c.requires.0 (omega arith) refl in
     record { fits = omega (arith, b) })
-    (λ c. entry_in c.before.before.before.before.args.erased.now c.before.before.before.loop-k.k _ c.before.before.before.before.requires.0 (omega arith)
-    c.before.before.before.before.requires.1)
-    (λ c. entry_in c.before.before.before.before.args.erased.now c.before.before.before.loop-k.k _ c.before.before.before.before.requires.0 (omega arith)
-    (c.before.before.before.loop-k.invariant.1.long ∙ c.before.before.before.before.requires.2))
+    (λ c. entry_in c.args.erased.now c.loop-k.k _ c.requires.0 (omega arith)
+    c.requires.1)
+    (λ c. entry_in c.args.erased.now c.loop-k.k _ c.requires.0 (omega arith)
+    (c.loop-k.invariant.1.long ∙ c.requires.2))
     (λ c. search rules)
     (λ c. search rules)
     (λ c.
-    let a = c.before.before.before.before.args in (
+    let a = c.args in (
       omega arith,
-      fill_more a.erased.now a.word.now a.c.now c.before.before.before.loop-k.c c.before.before.before.loop-k.k
-          c.before.before.before.loop-k.invariant.1
-          (entry_in a.erased.now c.before.before.before.loop-k.k _ c.before.before.before.before.requires.0 (omega arith)
-          (c.before.before.before.loop-k.invariant.1.long ∙ c.before.before.before.before.requires.2)),
+      fill_more a.erased.now a.word.now a.c.now c.loop-k.c c.loop-k.k
+          c.loop-k.invariant.1
+          (entry_in a.erased.now c.loop-k.k _ c.requires.0 (omega arith)
+          (c.loop-k.invariant.1.long ∙ c.requires.2)),
     ))
-    (λ c. c.before.loop-k.invariant.1.long)
-    (λ c. let a = c.before.before.args in fill_end a.erased.now a.word.now a.c.now c.before.loop-k.c c.before.loop-k.k (omega arith) c.before.loop-k.invariant.1))
+    (λ c. c.loop-k.invariant.1.long)
+    (λ c. let a = c.args in fill_end a.erased.now a.word.now a.c.now c.loop-k.c c.loop-k.k (omega arith) c.loop-k.invariant.1))

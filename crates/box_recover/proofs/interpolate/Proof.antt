@@ -19,16 +19,16 @@ interpolate_spec =
     (λ c. (omega arith, upto_none _ _))
     (λ c. search rules)
     (λ c κs. search rules)
-    (λ c. let u = c.before.before.loop-x.invariant.1.same in omega arith)
+    (λ c. let u = c.loop-x.invariant.1.same in omega arith)
     (λ c. search rules)
     (λ c. search rules)
     (λ c.
-    let a = c.before.before.before.before.before.before.before.args in (
+    let a = c.args in (
       omega arith,
-      upto_more (value_of a.at.now a.values.now) c.before.before.loop-x.invariant.1 (omega arith)
-          (value_of_lem a.at.now a.values.now c.before.before.before.all_points-points.result c.before.before.loop-x.x _
-          c.before.before.before.all_points-points.ensures c.through.ensures),
+      upto_more (value_of a.at.now a.values.now) c.loop-x.invariant.1 (omega arith)
+          (value_of_lem a.at.now a.values.now c.all_points-points.result c.loop-x.x _
+          c.all_points-points.ensures c.through.ensures),
     ))
-    (λ c. c.before.loop-x.invariant.1.same)
-    (λ c. let a = c.before.before.before.before.before.before.args in values_are a.at.now a.values.now _ _ c.before.loop-x.x (search rules)
-    (omega arith) c.before.loop-x.invariant.1))
+    (λ c. c.loop-x.invariant.1.same)
+    (λ c. let a = c.args in values_are a.at.now a.values.now _ _ c.loop-x.x (search rules)
+    (omega arith) c.loop-x.invariant.1))

@@ -21,11 +21,11 @@ survivor_spec =
     (λ c. (omega arith, free_none _ _))
     (λ c. search rules)
     (λ c. search rules)
-    (λ c κs. let a = c.before.before.before.before.args in let few = c.before.before.before.before.requires.0.few in
-    omega (arith, free_small (entry_of a.erased.now) c.before.before.loop-k.k a.i _ c.before.before.loop-k.invariant.1 c.before.before.before.before.requires.1))
+    (λ c κs. let a = c.args in let few = c.requires.0.few in
+    omega (arith, free_small (entry_of a.erased.now) c.loop-k.k a.i _ c.loop-k.invariant.1 c.requires.1))
     (λ c. search rules)
     (λ c. search rules)
-    (λ c. let a = c.before.before.before.before.before.args in
-    (omega arith, free_more (entry_of a.erased.now) c.before.before.before.loop-k.k a.i _ _ c.before.before.before.loop-k.invariant.1 c.skipped-x.ensures))
-    (λ c. let a = c.before.before.before.args in survivor_is a.erased.now c.before.loop-k.k a.i _ c.before.before.before.requires.0
-    c.before.before.before.requires.1 (omega arith) c.before.loop-k.invariant.1))
+    (λ c. let a = c.args in
+    (omega arith, free_more (entry_of a.erased.now) c.loop-k.k a.i _ _ c.loop-k.invariant.1 c.skipped-x.ensures))
+    (λ c. let a = c.args in survivor_is a.erased.now c.loop-k.k a.i _ c.requires.0
+    c.requires.1 (omega arith) c.loop-k.invariant.1))

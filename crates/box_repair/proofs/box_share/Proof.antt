@@ -8,14 +8,14 @@ use borrow.Author.Rules.{rules}
 use Rattle.box_repair.proofs.box_share.Statement.{statement}
 use Rattle.box_repair.proofs.box_share.Tie as tie
 
-told : (c : tie.After-share_refusal-ground) → let a = c.before.before.before.before.before.args in
+told : (c : tie.After-share_refusal-ground) → let a = c.args in
     c.share_refusal-ground.result ≡ share_refusal a.host.0 a.helper.0 a.values.now (length a.out.now)
-told c = rw (← c.before.before.number-h.ensures, ← c.before.number-i.ensures) c.share_refusal-ground.ensures
+told c = rw (← c.number-h.ensures, ← c.number-i.ensures) c.share_refusal-ground.ensures
 
-none : (c : tie.Else-ground-ne0) → let a = c.before.before.before.before.before.before.args in share_refusal a.host.0 a.helper.0 a.values.now (length a.out.now) ≡ 0
+none : (c : tie.Else-ground-ne0) → let a = c.args in share_refusal a.host.0 a.helper.0 a.values.now (length a.out.now) ≡ 0
 none c = sym (told c.before) ∙ c.if-ground-ne0.false
 
-ok : (c : tie.Else-ground-ne0) → let a = c.before.before.before.before.before.before.args in Sharable a.host.0 a.helper.0 a.values.now (length a.out.now)
+ok : (c : tie.Else-ground-ne0) → let a = c.args in Sharable a.host.0 a.helper.0 a.values.now (length a.out.now)
 ok c = sharable _ _ _ _ (none c)
 
 pub box_share_spec : {M : Type 1} → statement M

@@ -10,10 +10,10 @@ numbers_fit_spec = tie.close (tie.spec
     (λ c. search rules)
     (λ c. fit_lost _ _ _ _ (omega arith))
     (λ c κs. search rules)
-    (λ c. fit_helpers _ _ _ _ (omega arith) (told_false c.before.all_below.ensures c.if-not-all_below.true-raw))
+    (λ c. fit_helpers _ _ _ _ (omega arith) (told_false c.all_below.ensures c.if-not-all_below.true-raw))
     (λ c κs. search rules)
-    (λ c. fit_shares _ _ _ _ (omega arith) (told_true c.before.before.before.all_below.ensures c.before.before.if-not-all_below.false-raw)
-    (told_false c.before.all_symbols.ensures c.if-not-all_symbols.true-raw))
+    (λ c. fit_shares _ _ _ _ (omega arith) (told_true c.all_below.ensures c.if-not-all_below.false-raw)
+    (told_false c.all_symbols.ensures c.if-not-all_symbols.true-raw))
     (λ c κs. search rules)
-    (λ c. fit_rack _ _ _ _ (omega arith) (told_true c.before.before.before.before.all_below.ensures c.before.before.before.if-not-all_below.false-raw) _
-    (told_true c.before.before.all_symbols.ensures c.before.if-not-all_symbols.false-raw) c.others_below.ensures))
+    (λ c. fit_rack _ _ _ _ (omega arith) (told_true c.all_below.ensures c.if-not-all_below.false-raw) _
+    (told_true c.all_symbols.ensures c.if-not-all_symbols.false-raw) c.others_below.ensures))

@@ -21,9 +21,9 @@ rack_sum_spec =
     (λ c. search rules)
     (λ c. search rules)
     (λ c.
-    let a = c.before.before.before.before.before.args in (
+    let a = c.args in (
       omega arith,
-      sums_add (value_term a.vs.now) c.before.before.before.loop-g.g _ _ _ c.before.before.before.loop-g.invariant.1 c.add-sum.ensures
-          (c.before.before.before.before.before.requires.1 c.before.before.before.loop-g.g (omega arith)) (value_term_lem a.vs.now c.before.before.before.loop-g.g),
+      sums_add (value_term a.vs.now) c.loop-g.g _ _ _ c.loop-g.invariant.1 c.add-sum.ensures
+          (c.requires.1 c.loop-g.g (omega arith)) (value_term_lem a.vs.now c.loop-g.g),
     ))
-    (λ c. let a = c.before.before.before.args in rack_end a.vs.now c.before.loop-g.g _ (omega arith) c.before.loop-g.invariant.1))
+    (λ c. let a = c.args in rack_end a.vs.now c.loop-g.g _ (omega arith) c.loop-g.invariant.1))

@@ -11,8 +11,8 @@ repair_refusal_spec = tie.close (tie.spec
     (λ c. repair_2 _ _ _ _ _ (λ p q r. c.if-rack-ne-SIZE.true q))
     (λ c. repair_2 _ _ _ _ _ (λ p q r. c.if-room-ne1.true r))
     (λ c κs. search rules)
-    (λ c. repair_3 _ _ _ _ _ c.before.before.before.before.if-shares.false c.before.before.before.if-rack-ne-SIZE.false c.before.before.if-room-ne1.false
-    (told_false c.before.numbers_fit.ensures c.if-not-numbers_fit.true-raw))
+    (λ c. repair_3 _ _ _ _ _ c.if-shares.false c.if-rack-ne-SIZE.false c.if-room-ne1.false
+    (told_false c.numbers_fit.ensures c.if-not-numbers_fit.true-raw))
     (λ c κs. search rules)
-    (λ c. repair_rest _ _ _ _ _ c.before.before.before.before.before.if-shares.false c.before.before.before.before.if-rack-ne-SIZE.false
-    c.before.before.before.if-room-ne1.false _ (told_true c.before.before.numbers_fit.ensures c.before.if-not-numbers_fit.false-raw) c.helper_refusal.ensures))
+    (λ c. repair_rest _ _ _ _ _ c.if-shares.false c.if-rack-ne-SIZE.false
+    c.if-room-ne1.false _ (told_true c.numbers_fit.ensures c.if-not-numbers_fit.false-raw) c.helper_refusal.ensures))

@@ -13,8 +13,8 @@ card_print_spec =
     (λ c. search (print_host working))
     (λ c. search (print_group working))
     (λ c κs.
-    let e = c.before in
-    let a = e.before.before.before.before.before.args in
-    print_given working a.l a.lost.0 _ a.helpers.now a.group a.card.now e.before.before.number-x.ensures _ e.before.print_ground-ground.ensures e.if-ground-ne0.false)
+    
+    let a = c.args in
+    print_given working a.l a.lost.0 _ a.helpers.now a.group a.card.now c.number-x.ensures _ c.print_ground-ground.ensures c.if-ground-ne0.false)
     (λ c. search rules)
     (λ c. search (print_done working)))

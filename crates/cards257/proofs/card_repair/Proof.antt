@@ -11,11 +11,11 @@ use Rattle.cards257.proofs.card_repair.Tie as tie
 
 -- past the grounds before the last
 given : (c : tie.Else-ground-ne0) →
-    let a = c.before.before.before.before.before.before.before.before.before.args in
-    Repairable gf257 a.l c.before.before.number-x.result a.helpers.now a.group a.card.now a.shares.now a.host.now (length a.spare.now)
+    let a = c.args in
+    Repairable gf257 a.l c.number-x.result a.helpers.now a.group a.card.now a.shares.now a.host.now (length a.spare.now)
 given c =
-    let a = c.before.before.before.before.before.before.before.before.before.args in
-    repairable_so gf257 a.l _ a.helpers.now a.group a.card.now a.shares.now a.host.now (length a.spare.now) _ c.before.repair_ground-ground.ensures c.if-ground-ne0.false
+    let a = c.args in
+    repairable_so gf257 a.l _ a.helpers.now a.group a.card.now a.shares.now a.host.now (length a.spare.now) _ c.repair_ground-ground.ensures c.if-ground-ne0.false
 
 pub card_repair_spec : {M : Type 1} → statement M
 card_repair_spec =
@@ -27,16 +27,16 @@ card_repair_spec =
     (λ c. search (repair_host working))
     (λ c. search (repair_group working))
     (λ c κs.
-    let a = c.before.before.before.before.before.before.before.before.before.args in
-    repair_given working a.l a.lost.0 _ a.helpers.now a.card.now a.shares.now a.host.now a.group a.spare.now c.before.before.number-x.ensures _
-    c.before.repair_ground-ground.ensures c.if-ground-ne0.false)
+    let a = c.args in
+    repair_given working a.l a.lost.0 _ a.helpers.now a.card.now a.shares.now a.host.now a.group a.spare.now c.number-x.ensures _
+    c.repair_ground-ground.ensures c.if-ground-ne0.false)
     (λ c. search (repair_wrong working))
     (λ c. search (repair_group working))
     (λ c κs.
-    let e = c.before.before.before in
-    let a = e.before.before.before.before.before.before.before.before.before.args in
-    card_repairing_of working a.l a.lost.0 _ a.helpers.now a.card.now a.shares.now a.host.now a.group a.spare.now e.before.before.number-x.ensures _
-    e.before.repair_ground-ground.ensures e.if-ground-ne0.false _ c.before.before.right_card.ensures c.before.if-not-right_card.false-raw)
+    
+    let a = c.args in
+    card_repairing_of working a.l a.lost.0 _ a.helpers.now a.card.now a.shares.now a.host.now a.group a.spare.now c.number-x.ensures _
+    c.repair_ground-ground.ensures c.if-ground-ne0.false _ c.right_card.ensures c.if-not-right_card.false-raw)
     (λ c κs. (given c.before.before.before.before.before.before).adm.admissible.cabinet)
     (λ c. search rules)
     (λ c. omega (arith, c.group_count.ensures, (given c.before.before.before.before.before.before.before).inside))
@@ -44,9 +44,9 @@ card_repair_spec =
     (λ c. report_fits _ _ _ (given c.before.before.before.before.before.before.before).adm.admissible.cabinet c.group_count.ensures)
     (λ c. search rules)
     (λ c.
-    let m = c.before.before.before in
-    let i = m.before.before in
-    let e = i.before.before in
-    let a = e.before.before.before.before.before.before.before.before.before.args in
-    done_of working a.l a.lost.0 _ a.helpers.now a.card.now a.shares.now a.host.now a.group a.spare.now e.before.before.number-x.ensures _
-    e.before.repair_ground-ground.ensures e.if-ground-ne0.false _ i.before.right_card.ensures i.if-not-right_card.false-raw _ _ c.group_count.ensures m.repair_by_card.ensures))
+    
+    
+    
+    let a = c.args in
+    done_of working a.l a.lost.0 _ a.helpers.now a.card.now a.shares.now a.host.now a.group a.spare.now c.number-x.ensures _
+    c.repair_ground-ground.ensures c.if-ground-ne0.false _ c.right_card.ensures c.if-not-right_card.false-raw _ _ c.group_count.ensures c.repair_by_card.ensures))

@@ -33,12 +33,12 @@ card_sum_spec =
     (λ c. omega arith)
     (λ c. omega arith)
     (λ c.
-    let r = c.before.before.before in
-    let o = r.before.before.before.before in
-    let a = o.before.before.before.before.args in (
+    
+    
+    let a = c.args in (
       omega arith,
-      part_more working a.card.now a.shares.now a.l.helpers _ a.p a.b o.loop-k.k _ _ _ _ _ _ _ o.loop-k.invariant.1
-          r.before.before.cell.ensures r.before.at-m.ensures
-          r.cell-in-loop-k.ensures c.before.before.at.ensures c.before.product.ensures c.difference-v.ensures,
+      part_more working a.card.now a.shares.now a.l.helpers _ a.p a.b c.loop-k.k _ _ _ _ _ _ _ c.loop-k.invariant.1
+          c.cell.ensures c.at-m.ensures
+          c.cell-in-loop-k.ensures c.at.ensures c.product.ensures c.difference-v.ensures,
     ))
     (λ c. search (part_all working)))

@@ -14,7 +14,7 @@ card_test_spec =
     (λ c. search (test_host working))
     (λ c. search (test_group working))
     (λ c κs.
-    let a = c.before.before.before.before.before.args in
-    test_given working a.l a.lost.0 _ a.helpers.now a.card.now a.group c.before.before.number-x.ensures _ c.before.test_ground-ground.ensures c.if-ground-ne0.false)
+    let a = c.args in
+    test_given working a.l a.lost.0 _ a.helpers.now a.card.now a.group c.number-x.ensures _ c.test_ground-ground.ensures c.if-ground-ne0.false)
     (λ c. search (test_wrong working))
     (λ c. search (test_right working)))

@@ -12,7 +12,7 @@ group_symbols_spec =
     tie.close (tie.spec
     (λ c. search rules)
     (λ c κs.
-    let s = c.before.before.before in
-    let g = s.requires in
-    (g.adm, one_below s.args.l s.args.x g.lost_in, g.shares_long ∙ sym (one-mul (traffic s.args.l)), g.host_long))
+    
+    let g = c.requires in
+    (g.adm, one_below c.args.l c.args.x g.lost_in, g.shares_long ∙ sym (one-mul (traffic c.args.l)), g.host_long))
     (λ c. search rules))

@@ -9,16 +9,16 @@ use Rattle.cards257.proofs.repair_ground.Tie as tie
 
 -- past the lengths and the numbers
 past : (c : tie.Else-not-in_layout) →
-    let a = c.before.before.before.before.before.before.before.before.before.before.before.before.before.before.before.before.before.args in
+    let a = c.args in
     Measured gf257 a.l a.x a.helpers.now a.group a.card.now a.shares.now a.host.now a.spare
 past c =
-    let g = c.before.before.before.before.before in
-    let d = g.before.before in
-    let h = d.before.before in
-    let a = h.before.before.before.before.before.before.before.before.args in
-    measured_of gf257 a.l a.x a.helpers.now a.group a.card.now a.shares.now a.host.now a.spare _ h.before.admits.ensures h.if-not-admits.false-raw
-    _ d.before.layer_count-total.ensures _ _ d.digit_count.ensures g.group_count.ensures g.before.if-card-digit_count.false c.before.before.before.before.if-shares-d.false
-    c.before.before.before.if-host-u.false c.before.before.if-spare-total.false _ c.before.in_layout.ensures c.if-not-in_layout.false-raw
+    
+    
+    
+    let a = c.args in
+    measured_of gf257 a.l a.x a.helpers.now a.group a.card.now a.shares.now a.host.now a.spare _ c.admits.ensures c.if-not-admits.false-raw
+    _ c.layer_count-total.ensures _ _ c.digit_count.ensures c.group_count.ensures c.if-card-digit_count.false c.if-shares-d.false
+    c.if-host-u.false c.if-spare-total.false _ c.in_layout.ensures c.if-not-in_layout.false-raw
 
 pub repair_ground_spec : {M : Type 1} → statement M
 repair_ground_spec =
@@ -44,14 +44,14 @@ repair_ground_spec =
     (λ c κs. search cabinet_so)
     (λ c. search repair_3)
     (λ c κs. omega arith)
-    (λ c. repair_card gf257 _ _ _ _ _ _ _ _ (past c.before.before) _ c.before.are_symbols.ensures c.if-not-are_symbols.true-raw)
+    (λ c. repair_card gf257 _ _ _ _ _ _ _ _ (past c.before.before) _ c.are_symbols.ensures c.if-not-are_symbols.true-raw)
     (λ c κs. looking_of gf257 _ _ _ _ _ _ _ _ (past c.before.before))
     (λ c.
     let e = c.before.before in
-    repair_symbols gf257 _ _ _ _ _ _ _ _ (past e.before.before) _ e.before.are_symbols.ensures e.if-not-are_symbols.false-raw _ c.before.group_symbols.ensures c.if-not-group_symbols.true-raw)
+    repair_symbols gf257 _ _ _ _ _ _ _ _ (past e.before.before) _ c.are_symbols.ensures c.if-not-are_symbols.false-raw _ c.group_symbols.ensures c.if-not-group_symbols.true-raw)
     (λ c κs. search cabinet_so)
     (λ c.
     let z = c.before.before in
     let e = z.before in
-    repair_rest gf257 _ _ _ _ _ _ _ _ (past e.before.before) _ e.before.are_symbols.ensures e.if-not-are_symbols.false-raw _ z.group_symbols.ensures c.before.if-not-group_symbols.false-raw _
+    repair_rest gf257 _ _ _ _ _ _ _ _ (past e.before.before) _ c.are_symbols.ensures c.if-not-are_symbols.false-raw _ c.group_symbols.ensures c.if-not-group_symbols.false-raw _
     c.helpers_ground.ensures))

@@ -15,12 +15,12 @@ right_card_spec =
     (λ c κs. search rules)
     (λ c. search rules)
     (λ c κs.
-    let s = c.before.before.before.before.before.before in
-    let a = s.args in
-    let m = c.before.before.right_multipliers in
-    (omega arith, card_room working a.l a.h a.p a.helpers.now s.requires.0 a.card.now m.new.0 s.requires.1 (m.auto.0 ∙ room_long)))
+    
+    let a = c.args in
+    let m = c.right_multipliers in
+    (omega arith, card_room working a.l a.h a.p a.helpers.now c.requires.0 a.card.now m.new.0 c.requires.1 (m.auto.0 ∙ room_long)))
     (λ c.
-    let c1 = c.before.before.before in
-    let c2 = c1.before.before.before.before in
-    let s = c2 in let a = s.args in verdict_of working a.l a.h a.p a.helpers.now s.requires.0 a.card.now _ _ s.requires.1 s.requires.2
-    c1.right_multipliers.ensures c.alike.ensures))
+    
+    
+    let a = c.args in verdict_of working a.l a.h a.p a.helpers.now c.requires.0 a.card.now _ _ c.requires.1 c.requires.2
+    c.right_multipliers.ensures c.alike.ensures))

@@ -23,5 +23,5 @@ by_eights_spec =
     (λ c. search rules)
     (λ c. search rules)
     (λ c. (search rules, search eights_more))
-    (λ c κs. (c.before.before.before.before.requires 0 (omega arith), search rules))
+    (λ c κs. (c.requires 0 (omega arith), search rules))
     (λ c. search rules))

@@ -11,7 +11,7 @@ entry_spec = tie.close (tie.spec
     (λ c. let h = low_lt c.args.r c.args.b (search rules) in omega arith)
     (λ c. let h = low_lt c.args.r c.args.b (search rules) in omega arith)
     (λ c. let h = low_lt c.args.r c.args.b (search rules) in omega arith)
-    (λ c. let h = low_lt c.before.args.r c.before.args.b (search rules) in omega arith)
+    (λ c. let h = low_lt c.args.r c.args.b (search rules) in omega arith)
     (λ c. search rules)
     (λ c. search rules)
     (λ c. search rules)

@@ -35,10 +35,10 @@ add_columns_spec =
     (λ c. (
       omega arith,
       search rules,
-      let c1 = c.before.before in
-          let c2 = c1.before in
-          let c3 = c2.before.before.before in
-          let k = c3.loop-c in columns_more working _ _ _ _ _ _ _ _ _ _ k.c _ k.invariant.2 c2.at.ensures c1.add_multiple.ensures,
+      
+          
+          
+          let k = c.loop-c in columns_more working _ _ _ _ _ _ _ _ _ _ k.c _ k.invariant.2 c.at.ensures c.add_multiple.ensures,
     ))
     (λ c. search rules)
     (λ c. search (columns_end working)))

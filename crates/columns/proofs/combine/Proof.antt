@@ -26,34 +26,34 @@ combine_spec =
     (λ c. search found_fits)
     (λ c. search coefs_fits)
     (λ c κs.
-    let c1 = c.before.before.before in
-    let c2 = c1.before.before.before in
-    let c3 = c2.before.before.before.before.before.before in (
-      places_of c3.args.w c3.args.v c3.args.run c3.args.turns c3.args.m c3.args.i c1.loop-t.t c3.args.found.now
-          c2.fill.new.out c1.loop-t.found c3.args.sums.now c3.args.coefs.now c3.args.row.now c3.requires.0 c2.fill.ensures.long
-          c1.loop-t.invariant.1 c3.requires.1 (omega arith),
-      row_room c3.args.w c3.args.v c3.args.run c3.args.turns c3.args.m
-          c3.args.found.now c3.args.sums.now c3.args.coefs.now c3.args.row.now c1.loop-t.row c3.requires.0 c1.loop-t.invariant.2,
+    
+    
+    (
+      places_of c.args.w c.args.v c.args.run c.args.turns c.args.m c.args.i c.loop-t.t c.args.found.now
+          c.fill.new.out c.loop-t.found c.args.sums.now c.args.coefs.now c.args.row.now c.requires.0 c.fill.ensures.long
+          c.loop-t.invariant.1 c.requires.1 (omega arith),
+      row_room c.args.w c.args.v c.args.run c.args.turns c.args.m
+          c.args.found.now c.args.sums.now c.args.coefs.now c.args.row.now c.loop-t.row c.requires.0 c.loop-t.invariant.2,
     ))
     (λ c. omega arith)
     (λ c. omega arith)
     (λ c.
-    let c1 = c.before.before.before.before in
-    let c2 = c1.before.before.before.before in
-    let c3 = c2.before.before.before in
-    let c4 = c3.before.before.before.before.before.before in (
+    
+    
+    
+    (
       omega arith,
       search rules,
       search rules,
-      let s = c4 in let a = s.args in let k = c2.loop-t in let r = c1.add_row in combined_more working a.w a.v
-          a.run a.turns a.m k.t a.i a.sums.now a.coefs.now c3.fill.new.out k.found r.new.found s.requires.0.width k.invariant.3
+      let a = c.args in let k = c.loop-t in let r = c.add_row in combined_more working a.w a.v
+          a.run a.turns a.m k.t a.i a.sums.now a.coefs.now c.fill.new.out k.found r.new.found c.requires.0.width k.invariant.3
           r.ensures,
     ))
     (λ c. search rules)
     (λ c. search rules)
     (λ c.
-    let c1 = c.before in
-    let c2 = c1.before.before.before in
-    let c3 = c2.before.before.before.before.before.before in
-    combined_end working c3.args.w c3.args.v c3.args.run c3.args.m c1.loop-t.t c3.args.i c3.args.sums.now c3.args.coefs.now
-    c3.args.found.now c2.fill.new.out c1.loop-t.found c2.fill.ensures c1.loop-t.invariant.3 (omega arith) (omega arith)))
+    
+    
+    
+    combined_end working c.args.w c.args.v c.args.run c.args.m c.loop-t.t c.args.i c.args.sums.now c.args.coefs.now
+    c.args.found.now c.fill.new.out c.loop-t.found c.fill.ensures c.loop-t.invariant.3 (omega arith) (omega arith)))

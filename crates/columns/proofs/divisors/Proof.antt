@@ -24,8 +24,8 @@ divisors_spec =
     (λ c κs. search all_in)
     (λ c. (omega arith, omega arith, search rules, search (turned_start working, minus_one_is)))
     (λ c κs. (
-      (let a = c.before.before.before.before.before.before.before.before.before in columns_next a.args.v a.args.m
-          a.args.points.now a.args.out.now c.before.before.loop-k.out a.requires.0 (search rules)),
+      (columns_next c.args.v c.args.m
+          c.args.points.now c.args.out.now c.loop-k.out c.requires.0 (search rules)),
       omega arith,
       omega arith,
       search rules,
@@ -35,12 +35,12 @@ divisors_spec =
     (λ c. (omega arith, omega arith, search rules, search rules))
     (λ c. search whole_fits)
     (λ c κs.
-    let a = c.before.before.before.before.before.before.before.before.before in
-    all_in a.args.v a.args.m a.args.points.now c.before.before.loop-k.out
-    (columns_next a.args.v a.args.m a.args.points.now a.args.out.now c.before.before.loop-k.out a.requires.0 (search rules)))
+    
+    all_in c.args.v c.args.m c.args.points.now c.loop-k.out
+    (columns_next c.args.v c.args.m c.args.points.now c.args.out.now c.loop-k.out c.requires.0 (search rules)))
     (λ c. search rules)
     (λ c.
-    let a = c.before.before.before.before.before.before.before.before.before.before.before.before in
-    let k = c.before.before.before.before.before.loop-k in
-    divisors_of working a.args.v a.args.m k.k a.args.points.now k.out c.before.before.invert.new.out k.invariant.3
-    (omega arith) (omega arith) c.before.before.invert.ensures))
+    
+    let k = c.loop-k in
+    divisors_of working c.args.v c.args.m k.k c.args.points.now k.out c.invert.new.out k.invariant.3
+    (omega arith) (omega arith) c.invert.ensures))

@@ -34,8 +34,8 @@ quotient_spec =
     (λ c. search point_fits)
     (λ c κs. (
       search next_after,
-      (let a = c.before.before.before.before.before.before.before.before.before.before in let k = c.before.before.loop-t in
-          next_in a.args.v a.args.m a.args.points.now a.args.out.now a.requires.0 k.t k.out k.invariant.0 (omega arith) (search rules)),
+      (let k = c.loop-t in
+          next_in c.args.v c.args.m c.args.points.now c.args.out.now c.requires.0 k.t k.out k.invariant.0 (omega arith) (search rules)),
       search product_in,
       search point_in,
     ))

@@ -27,8 +27,8 @@ locator_spec =
     (λ c. (omega arith, search rules, refl, search (locator_start working)))
     (λ c κs. omega arith)
     (λ c κs. (
-      (let a = c.before.before.before.before.before.before.before.before.before.before.before.before.before.before.before.before in
-          columns_next a.args.v a.args.m a.args.points.now a.args.out.now c.before.before.before.before.loop-q.out a.requires.0 (search rules)),
+      (
+          columns_next c.args.v c.args.m c.args.points.now c.args.out.now c.loop-q.out c.requires.0 (search rules)),
       search rules,
       search top_in,
       omega arith,

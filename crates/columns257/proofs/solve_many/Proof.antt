@@ -12,25 +12,24 @@ solve_many_spec =
     (λ c. search rules)
     (λ c. search rules)
     (λ c κs. (
-      let c1 = c.before.before.before.before.before.before.before.before in
-          (let a = c1 in columns_room a.args.w a.args.v a.args.run a.args.turns a.args.m a.args.found.now a.args.sums.now
-          a.args.coefs.now a.args.points.now a.args.row.now a.requires.0 a.requires.1 a.requires.3),
-      let c1 = c.before.before.before.before.before.before.before.before in
-          (let a = c1 in columns_room a.args.w a.args.v a.args.run a.args.turns a.args.m a.args.found.now a.args.sums.now
-          a.args.coefs.now a.args.points.now a.args.row.now a.requires.0 a.requires.1 a.requires.3),
-      let c1 = c.before.before.before.before.before.before.before.before in
-          (let a = c1 in carry_in a.args.w a.args.v a.args.run a.args.turns a.args.m a.args.found.now a.args.sums.now a.args.coefs.now
-          a.args.row.now a.args.row.now a.requires.0 refl),
+      
+          (columns_room c.args.w c.args.v c.args.run c.args.turns c.args.m c.args.found.now c.args.sums.now
+          c.args.coefs.now c.args.points.now c.args.row.now c.requires.0 c.requires.1 c.requires.3),
+      
+          (columns_room c.args.w c.args.v c.args.run c.args.turns c.args.m c.args.found.now c.args.sums.now
+          c.args.coefs.now c.args.points.now c.args.row.now c.requires.0 c.requires.1 c.requires.3),
+      
+          (carry_in c.args.w c.args.v c.args.run c.args.turns c.args.m c.args.found.now c.args.sums.now c.args.coefs.now
+          c.args.row.now c.args.row.now c.requires.0 refl),
       omega arith,
     ))
     (λ c. search rules)
     (λ c. search rules)
     (λ c κs. (
-      (let a =
-          c.before.before.before.before.before.before.before.before.before.before.before.before.before.before.before.before.before.before in
-          let k = c.before.before.before.before.before.before.before.before.before.factor in systems_next a.args.w a.args.v a.args.run
-          a.args.turns a.args.m a.args.found.now a.args.found.now a.args.sums.now a.args.coefs.now a.args.coefs.now a.args.row.now
-          k.new.1.1.0 a.requires.0 refl refl (search rules)),
+      (
+          let k = c.factor in systems_next c.args.w c.args.v c.args.run
+          c.args.turns c.args.m c.args.found.now c.args.found.now c.args.sums.now c.args.coefs.now c.args.coefs.now c.args.row.now
+          k.new.1.1.0 c.requires.0 refl refl (search rules)),
       search rules,
       search rules,
     ))

@@ -15,9 +15,9 @@ solve_row_spec =
     (λ c. search rules)
     (λ c. search rules)
     (λ c κs. (
-      (let a = c.before.before.before.before.before.before.before.before.before.before.before.before.before.before.before in
-          systems_next a.args.w a.args.v a.args.run a.args.turns a.args.m a.args.found.now a.args.found.now a.args.sums.now a.args.coefs.now
-          c.before.before.before.before.before.before.quotient.new.0 a.args.row.now a.args.row.now a.requires.0 refl (search rules) refl),
+      (
+          systems_next c.args.w c.args.v c.args.run c.args.turns c.args.m c.args.found.now c.args.found.now c.args.sums.now c.args.coefs.now
+          c.quotient.new.0 c.args.row.now c.args.row.now c.requires.0 refl (search rules) refl),
       search rules,
       search rules,
       search rules,

@@ -23,10 +23,10 @@ solve_rows_spec =
     tie.close (tie.spec invariant-loop-i decreases-loop-i
     (λ c. (omega arith, refl, refl, refl, solved_none working _ _ _ _ _ _ _))
     (λ c κs. (
-      (let a = c.before.before.before.before.before.before.before.before.before.before.before.before in
-          let k = c.before.before.before.before.loop-i in
-          systems_next a.args.w a.args.v a.args.run a.args.turns a.args.m a.args.found.now k.found-1 a.args.sums.now a.args.coefs.now k.coefs-1
-          a.args.row.now k.row-1 a.requires.0 k.invariant.1 k.invariant.2 k.invariant.3),
+      (
+          let k = c.loop-i in
+          systems_next c.args.w c.args.v c.args.run c.args.turns c.args.m c.args.found.now k.found-1 c.args.sums.now c.args.coefs.now k.coefs-1
+          c.args.row.now k.row-1 c.requires.0 k.invariant.1 k.invariant.2 k.invariant.3),
       search rules,
       omega arith,
     ))

@@ -12,37 +12,37 @@ rebuild_in_spec =
     (λ c κs. search rules)
     (λ c. search rules)
     (λ c.
-    let c1 = c.before.before.before.before.before.before.before in
-    let a = c1.args in
-    product_fits gf257.order a.l a.x a.helpers.now a.shares.now a.host.now a.k a.spare.now c1.requires.0 _ c.group_count.ensures)
+    
+    let a = c.args in
+    product_fits gf257.order a.l a.x a.helpers.now a.shares.now a.host.now a.k a.spare.now c.requires.0 _ c.group_count.ensures)
     (λ c.
-    let c1 = c.before.before.before.before.before.before.before in
-    let a = c1.args in
-    let p = c1.requires in
+    
+    let a = c.args in
+    let p = c.requires in
     left_room gf257.order a.l a.x a.helpers.now a.shares.now a.host.now a.k a.spare.now p.0 a.few.now p.1)
     (λ c.
-    let c1 = c.before.before.before.before.before.before.before.before in
-    let a = c1.args in
-    let p = c1.requires in
+    
+    let a = c.args in
+    let p = c.requires in
     cut_left gf257.order a.l a.x a.helpers.now a.shares.now a.host.now a.k a.spare.now p.0 a.few.now p.1)
     (λ c.
-    let c1 = c.before in
-    let c2 = c1.before.before.before.before.before.before.before in
-    let a = c2.args in
-    let p = c2.requires in
-    sent_room gf257.order a.l a.x a.helpers.now a.shares.now a.host.now a.k a.spare.now p.0 _ a.sent.now c1.group_count.ensures p.2)
+    
+    
+    let a = c.args in
+    let p = c.requires in
+    sent_room gf257.order a.l a.x a.helpers.now a.shares.now a.host.now a.k a.spare.now p.0 _ a.sent.now c.group_count.ensures p.2)
     (λ c.
-    let c1 = c.before.before in
-    let c2 = c1.before.before.before.before.before.before.before in
-    let a = c2.args in
-    let p = c2.requires in
-    cut_sent gf257.order a.l a.x a.helpers.now a.shares.now a.host.now a.k a.spare.now p.0 _ a.sent.now c1.group_count.ensures p.2)
+    
+    
+    let a = c.args in
+    let p = c.requires in
+    cut_sent gf257.order a.l a.x a.helpers.now a.shares.now a.host.now a.k a.spare.now p.0 _ a.sent.now c.group_count.ensures p.2)
     (λ c κs.
-    let c1 = c.before.before.before in
-    let c2 = c1.before.before.before.before.before.before.before in
-    let a = c2.args in
-    let p = c2.requires in
-    let f = cut_fits gf257.order a.l a.x a.helpers.now a.shares.now a.host.now a.k a.spare.now p.0 _ a.few.now a.sent.now c1.group_count.ensures p.1 p.2 in (p.0, f.0, f.1))
+    
+    
+    let a = c.args in
+    let p = c.requires in
+    let f = cut_fits gf257.order a.l a.x a.helpers.now a.shares.now a.host.now a.k a.spare.now p.0 _ a.few.now a.sent.now c.group_count.ensures p.1 p.2 in (p.0, f.0, f.1))
     (λ c. search rules)
     (λ c. search rules)
     (λ c. search rules)

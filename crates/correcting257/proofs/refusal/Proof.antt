@@ -29,9 +29,9 @@ refusal_spec =
     (λ c. search stop_3_helpers)
     (λ c κs. (
       search (cabinet_so gf257.order),
-      let c1 = c.before.before.before.before.before in
-          let c2 = c1.before.before.before in
-          long_so _ _ _ _ c1.if-host-u.false c2.layer_count-total.ensures,
+      
+          
+          long_so _ _ _ _ c.if-host-u.false c.layer_count-total.ensures,
     ))
     (λ c. search stop_3_symbols)
     (λ c κs. search rules)

@@ -23,38 +23,38 @@ gather_all_spec =
     (λ c κs. search rules)
     (λ c. search rules)
     (λ c. (omega arith, gathered_none _ _ _ _ _ _))
-    (λ c κs. let a = c.before.before.before.before.before.before.before.before.args in
-    place_of edition1 a.l a.volume a.images.now a.codeword.now a.missing.now c.before.before.loop-x.x _ _ _
-    c.before.before.before.before.before.before.before.before.requires c.before.before.before.before.tray_count-n.ensures
-    c.before.before.before.layer_count-total.ensures (omega arith) c.before.before.loop-x.invariant.1.long)
-    (λ c κs. let a = c.before.before.before.before.before.before.before.before.before.before.before.before.args in
+    (λ c κs. let a = c.args in
+    place_of edition1 a.l a.volume a.images.now a.codeword.now a.missing.now c.loop-x.x _ _ _
+    c.requires c.tray_count-n.ensures
+    c.layer_count-total.ensures (omega arith) c.loop-x.invariant.1.long)
+    (λ c κs. let a = c.args in
     note_in edition1 a.l a.volume a.images.now a.codeword.now a.missing.now
-    c.before.before.before.before.before.before.loop-x.x _ _ _ _
-    c.before.before.before.before.before.before.before.before.before.before.before.before.requires
-    c.before.before.before.before.before.before.before.before.tray_count-n.ensures (omega arith)
-    c.before.before.before.before.before.before.loop-x.invariant.1)
+    c.loop-x.x _ _ _ _
+    c.requires
+    c.tray_count-n.ensures (omega arith)
+    c.loop-x.invariant.1)
     (λ c. search rules)
     (λ c. search rules)
-    (λ c. let a = c.before.before.before.before.before.before.before.before.before.before.before.before.before.before.before.args
+    (λ c. let a = c.args
     in (
       omega arith,
       gathered_more edition1 a.l a.volume a.images.now a.codeword.now a.missing.now
-          c.before.before.before.before.before.before.before.before.before.loop-x.x
-          c.before.before.before.before.before.before.before.before.before.before.layer_count-total.result
-          c.before.before.before.before.before.before.before.before.before.loop-x.codeword
-          c.before.before.before.before.before.before.before.before.before.loop-x.missing _ _
-          c.before.before.before.before.before.before.before.before.before.loop-x.count _
-          c.before.before.before.before.before.before.take_tray-there.result
-          c.before.before.before.before.before.before.before.before.before.before.before.before.before.before.before.requires
-          (omega (arith, c.before.before.before.before.before.before.before.before.before.before.before.tray_count-n.ensures))
-          c.before.before.before.before.before.before.before.before.before.before.layer_count-total.ensures
-          c.before.before.before.before.before.before.before.before.before.loop-x.invariant.1
-          c.before.before.before.before.before.before.take_tray-there.ensures.0
-          c.before.before.before.before.before.before.take_tray-there.ensures.1 c.before.before.note-count.ensures.0
-          c.before.before.note-count.ensures.1,
+          c.loop-x.x
+          c.layer_count-total.result
+          c.loop-x.codeword
+          c.loop-x.missing _ _
+          c.loop-x.count _
+          c.take_tray-there.result
+          c.requires
+          (omega (arith, c.tray_count-n.ensures))
+          c.layer_count-total.ensures
+          c.loop-x.invariant.1
+          c.take_tray-there.ensures.0
+          c.take_tray-there.ensures.1 c.note-count.ensures.0
+          c.note-count.ensures.1,
     ))
-    (λ c. c.before.loop-x.invariant.1.long)
-    (λ c. c.before.loop-x.invariant.1.list_long)
-    (λ c. let a = c.before.before.before.before.before.before.before.args in
-    gathered_end edition1 a.l a.volume a.images.now a.codeword.now a.missing.now c.before.loop-x.x _ _ _ _
-    c.before.before.before.tray_count-n.ensures c.before.loop-x.invariant.0 (omega arith) c.before.loop-x.invariant.1))
+    (λ c. c.loop-x.invariant.1.long)
+    (λ c. c.loop-x.invariant.1.list_long)
+    (λ c. let a = c.args in
+    gathered_end edition1 a.l a.volume a.images.now a.codeword.now a.missing.now c.loop-x.x _ _ _ _
+    c.tray_count-n.ensures c.loop-x.invariant.0 (omega arith) c.loop-x.invariant.1))

@@ -9,13 +9,13 @@ pub gather_spec : {M : Type 1} → statement M
 gather_spec =
     tie.close
     (tie.spec (λ c κs. search rules)
-    (λ c. let a = c.before.before.before.before.before.args in
-    gather_refused edition2 a.l a.volume a.images.now a.codeword.now a.missing.now _ c.before.refusal-ground.ensures
-    c.if-ground-ne0.true) (λ c κs. let a = c.before.before.before.before.before.before.before.args in
+    (λ c. let a = c.args in
+    gather_refused edition2 a.l a.volume a.images.now a.codeword.now a.missing.now _ c.refusal-ground.ensures
+    c.if-ground-ne0.true) (λ c κs. let a = c.args in
     gather_told edition2 a.l a.volume a.images.now a.codeword.now a.missing.now _
-    c.before.before.before.refusal-ground.ensures c.before.before.if-ground-ne0.false) (λ c. search rules) (λ c. search rules)
-    (λ c. let a = c.before.before.before.before.before.before.before.before.before.before.before.before.args in
+    c.refusal-ground.ensures c.if-ground-ne0.false) (λ c. search rules) (λ c. search rules)
+    (λ c. let a = c.args in
     gather_done edition2 a.l a.volume a.images.now a.codeword.now a.missing.now _
-    c.before.before.before.before.before.before.before.before.refusal-ground.ensures
-    c.before.before.before.before.before.before.before.if-ground-ne0.false _ _ _
-    c.before.before.before.before.gather_all-count.ensures))
+    c.refusal-ground.ensures
+    c.if-ground-ne0.false _ _ _
+    c.gather_all-count.ensures))

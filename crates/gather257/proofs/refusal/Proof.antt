@@ -13,44 +13,44 @@ use borrow.Author.Rules.{rules}
 use Rattle.gather257.proofs.refusal.Statement.{statement}
 use Rattle.gather257.proofs.refusal.Tie as tie
 
-adm : (c : tie.Else-not-admitted) → admissible edition2.order c.before.before.args.l ≡ true
-adm c = told_true c.before.admitted.ensures c.if-not-admitted.false-raw
+adm : (c : tie.Else-not-admitted) → admissible edition2.order c.args.l ≡ true
+adm c = told_true c.admitted.ensures c.if-not-admitted.false-raw
 
-facts : (c : tie.Else-not-admitted) → Cabinet c.before.before.args.l
+facts : (c : tie.Else-not-admitted) → Cabinet c.args.l
 facts c = (admissible_facts edition2.order _ (adm c)).cabinet
 
-long : (c : tie.Else-images-n) → c.before.before.before.before.before.args.images ≡ trays
-    c.before.before.before.before.before.args.l * image_length edition2 c.before.before.before.before.before.args.l
-long c = c.if-images-n.false ∙ ap₂ ◌*◌ c.before.before.tray_count-n.ensures c.before.image_length.ensures
+long : (c : tie.Else-images-n) → c.args.images ≡ trays
+    c.args.l * image_length edition2 c.args.l
+long c = c.if-images-n.false ∙ ap₂ ◌*◌ c.tray_count-n.ensures c.image_length.ensures
 
-room : (c : tie.Else-room-n) → c.before.before.before.before.before.before.before.args.room ≡ trays
-    c.before.before.before.before.before.before.before.args.l * layers
-    c.before.before.before.before.before.before.before.args.l
-room c = c.if-room-n.false ∙ ap₂ ◌*◌ c.before.before.before.before.tray_count-n.ensures c.before.layer_count.ensures
+room : (c : tie.Else-room-n) → c.args.room ≡ trays
+    c.args.l * layers
+    c.args.l
+room c = c.if-room-n.false ∙ ap₂ ◌*◌ c.tray_count-n.ensures c.layer_count.ensures
 
 pub refusal_spec : {M : Type 1} → statement M
 refusal_spec =
     tie.close
     (tie.spec
     (λ c κs. search rules)
-    (λ c. gather_1 edition2 _ _ _ _ (told_false c.before.admitted.ensures c.if-not-admitted.true-raw))
+    (λ c. gather_1 edition2 _ _ _ _ (told_false c.admitted.ensures c.if-not-admitted.true-raw))
     (λ c κs. facts c)
     (λ c. search rules)
     (λ c κs. facts c.before)
     (λ c. let a = facts c.before.before in
-    record { fits = mul_below 60 8216 (omega (arith, c.before.tray_count-n.ensures)) (omega (arith, c.image_length.ensures)) tt })
+    record { fits = mul_below 60 8216 (omega (arith, c.tray_count-n.ensures)) (omega (arith, c.image_length.ensures)) tt })
     (λ c. gather_2_images edition2 _ _ _ _ (adm c.before.before.before)
-    (λ e. c.if-images-n.true (e ∙ sym (ap₂ ◌*◌ c.before.before.tray_count-n.ensures c.before.image_length.ensures))))
+    (λ e. c.if-images-n.true (e ∙ sym (ap₂ ◌*◌ c.tray_count-n.ensures c.image_length.ensures))))
     (λ c κs. facts c.before.before.before)
     (λ c. search rules)
     (λ c. let a = facts c.before.before.before.before in
     record {
-      fits = mul_below 60 4096 (omega (arith, c.before.before.before.tray_count-n.ensures))
+      fits = mul_below 60 4096 (omega (arith, c.tray_count-n.ensures))
           (omega (arith, c.layer_count.ensures)) tt;
     })
     (λ c. gather_2_room edition2 _ _ _ _ (adm c.before.before.before.before.before) (long c.before.before)
-    (λ e. c.if-room-n.true (e ∙ sym (ap₂ ◌*◌ c.before.before.before.before.tray_count-n.ensures c.before.layer_count.ensures))))
+    (λ e. c.if-room-n.true (e ∙ sym (ap₂ ◌*◌ c.tray_count-n.ensures c.layer_count.ensures))))
     (λ c. gather_2_list edition2 _ _ _ _ (adm c.before.before.before.before.before.before) (long c.before.before.before)
-    (room c.before) (λ e. c.if-places-n.true (e ∙ sym c.before.before.before.before.before.tray_count-n.ensures)))
+    (room c.before) (λ e. c.if-places-n.true (e ∙ sym c.tray_count-n.ensures)))
     (λ c. gather_0 edition2 _ _ _ _ (adm c.before.before.before.before.before.before) (long c.before.before.before)
-    (room c.before) (c.if-places-n.false ∙ c.before.before.before.before.before.tray_count-n.ensures)))
+    (room c.before) (c.if-places-n.false ∙ c.tray_count-n.ensures)))

@@ -7,6 +7,6 @@ pub is_times_spec : {M : Type 1} → statement M
 is_times_spec =
     tie.close (tie.spec
     (λ c. search rules)
-    (λ c. times_false _ _ _ c.before.requires c.if-n-unit.true)
+    (λ c. times_false _ _ _ c.requires c.if-n-unit.true)
     (λ c. search rules)
-    (λ c. times_test _ _ _ c.before.requires c.if-n-unit.false))
+    (λ c. times_test _ _ _ c.requires c.if-n-unit.false))

@@ -23,13 +23,13 @@ one_rack_spec =
     (λ c. search size_pos)
     (λ c. search rules)
     (λ c. search size_pos)
-    (λ c. rack_false _ _ c.before.before.before.before.loop-i.i (omega arith) c.if-lost-i.true)
+    (λ c. rack_false _ _ c.loop-i.i (omega arith) c.if-lost-i.true)
     (λ c. search rules)
     (λ c. search rules)
     (λ c. (
       omega arith,
-      let c1 = c.before.before.before.before in
-          let c2 = c1.before in
-          rack_more c2.args.lost.now c2.args.l.size c1.loop-i.i c1.loop-i.invariant.1 c.if-lost-i.false,
+      
+          
+          rack_more c.args.lost.now c.args.l.size c.loop-i.i c.loop-i.invariant.1 c.if-lost-i.false,
     ))
-    (λ c. rack_true _ _ (λ k h. c.before.loop-i.invariant.1 k (omega arith))))
+    (λ c. rack_true _ _ (λ k h. c.loop-i.invariant.1 k (omega arith))))

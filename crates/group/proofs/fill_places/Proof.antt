@@ -32,7 +32,7 @@ fill_places_spec =
     (λ c κs. omega arith)
     (λ c. omega arith)
     (λ c. omega arith)
-    (λ c. let d = c.before.before in let i = d.before.before.before.before.before in
-    (omega arith, search rules, places_more working _ _ _ _ _ _ i.loop-i.invariant.2 d.fill.ensures d.before.place_power.ensures))
+    (λ c. 
+    (omega arith, search rules, places_more working _ _ _ _ _ _ c.loop-i.invariant.2 c.fill.ensures c.place_power.ensures))
     (λ c. search rules)
     (λ c. search (places_end working)))

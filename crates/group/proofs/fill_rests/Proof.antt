@@ -23,17 +23,17 @@ fill_rests_spec =
     tie.close (tie.spec invariant-loop-g decreases-loop-g
     (λ c κs. search rules)
     (λ c. search rules)
-    (λ c κs. let s = c.before.before.before.before.before.before.before.before in let d = c.before.digit_count-s.ensures in
-    (s.requires.2.sums_long, rw d s.requires.4, rw d s.requires.3, s.requires.1.some))
+    (λ c κs. let d = c.digit_count-s.ensures in
+    (c.requires.2.sums_long, rw d c.requires.4, rw d c.requires.3, c.requires.1.some))
     (λ c. (omega arith, search rules, refl, refl, search (grow_none working)))
     (λ c κs.
-    let c1 = c.before.before.before.before in
-    let s = c1.before.before.before.before.before.before.before.before.before.before.before.before in
-    let a = s.args in
-    let k = c1.loop-g in (
-      s.requires.0,
-      s.requires.1,
-      room_next a.w (length a.lost.now) a.rests.now a.cur.now a.row.now k.rests-1 k.cur-1 k.row-1 s.requires.2
+    
+    
+    let a = c.args in
+    let k = c.loop-g in (
+      c.requires.0,
+      c.requires.1,
+      room_next a.w (length a.lost.now) a.rests.now a.cur.now a.row.now k.rests-1 k.cur-1 k.row-1 c.requires.2
           (search rules) k.invariant.2 k.invariant.3,
       omega arith,
     ))

@@ -12,27 +12,27 @@ repair_digit_spec =
     (λ c κs. search rules)
     (λ c κs. search rules)
     (λ c κs.
-    let c1 = c.before.before.before.before.before in
-    let c2 = c1.before.before.before.before in
-    let c3 = c2.before in
-    let s = c3.before.before.before.before.before.before.before.before.before.before.before.before.before.before.before in
-    let a = s.args in (
+    
+    
+    
+    
+    let a = c.args in (
       systems_of (length a.lost.now) a.w a.rests.now a.found.now a.places.now a.coefs.now a.row.now a.cur.now
-          c3.fill_rests.new.0 c3.fill_rests.new.1.1.1.1.1.1.1.1.1.1.0
-          (width_pos a.l a.w a.first s.requires.0.block) s.requires.2 c2.rests-1.given c1.row-1.given,
-      points_in (length a.lost.now) a.w a.rests.now a.found.now a.places.now a.coefs.now a.row.now a.cur.now s.requires.2,
-      points_few (length a.lost.now) a.w a.rests.now a.found.now a.places.now a.coefs.now a.row.now a.cur.now s.requires.2,
+          c.fill_rests.new.0 c.fill_rests.new.1.1.1.1.1.1.1.1.1.1.0
+          (width_pos a.l a.w a.first c.requires.0.block) c.requires.2 c.rests-1.given c.row-1.given,
+      points_in (length a.lost.now) a.w a.rests.now a.found.now a.places.now a.coefs.now a.row.now a.cur.now c.requires.2,
+      points_few (length a.lost.now) a.w a.rests.now a.found.now a.places.now a.coefs.now a.row.now a.cur.now c.requires.2,
     ))
     (λ c κs.
-    let c1 = c.before.before.before.before.before.before.before.before in
-    let c2 = c1.before.before.before.before.before.before.before.before.before.before.before.before.before.before.before in
-    let s = c2.before.before.before.before.before.before.before.before.before.before.before in
-    let a = s.args in (
-      s.requires.0.losing.adm,
-      c2.runs_of-r.ensures.in_tray,
-      s.requires.4,
+    
+    
+    
+    let a = c.args in (
+      c.requires.0.losing.adm,
+      c.runs_of-r.ensures.in_tray,
+      c.requires.4,
       found_in (length a.lost.now) a.w a.rests.now a.found.now a.places.now
-          a.coefs.now a.row.now a.cur.now c1.solve.new.0 s.requires.2 (search rules),
+          a.coefs.now a.row.now a.cur.now c.solve.new.0 c.requires.2 (search rules),
     ))
     (λ c. search rules)
     (λ c. search rules)
@@ -41,13 +41,13 @@ repair_digit_spec =
     (λ c. search rules)
     (λ c. search rules)
     (λ c.
-    let c1 = c.before.before in
-    let c2 = c1.before.before.before.before.before.before.before.before.before in
-    let c3 = c2.before.before.before.before.before.before.before.before.before.before.before in
-    let c4 = c3.before.before.before.before in
-    let s = c4.before.before.before.before.before.before.before.before.before.before.before in
-    let a = s.args in
-    let r = c4.runs_of-r.result in
+    
+    
+    
+    
+    
+    let a = c.args in
+    let r = c.runs_of-r.result in
     digit_repaired working a.l a.h a.lost.now a.host.now a.w a.first a.sums.now a.a r.start r.run r.count r.stride
-    a.places.now c3.fill_rests.new.0 c2.solve.new.0
-    c4.runs_of-r.ensures s.requires.3 c3.fill_rests.ensures c2.solve.ensures a.spare.now c1.put_rows.new.0 c1.put_rows.ensures))
+    a.places.now c.fill_rests.new.0 c.solve.new.0
+    c.runs_of-r.ensures c.requires.3 c.fill_rests.ensures c.solve.ensures a.spare.now c.put_rows.new.0 c.put_rows.ensures))

@@ -13,21 +13,21 @@ runs_of_spec =
     (λ c. search rules)
     (λ c κs. search rules)
     (λ c κs. search rules)
-    (λ c κs. let s = c.before.before.before in let g = s.requires.0 in record {
+    (λ c κs. let g = c.requires.0 in record {
       adm = g.block.adm;
-      host_in = s.requires.1;
-      group_in = first_in s.args.l
-          s.args.w s.args.first _ g refl;
+      host_in = c.requires.1;
+      group_in = first_in c.args.l
+          c.args.w c.args.first _ g refl;
       digit_in = omega arith;
     })
     (λ c. search rules)
     (λ c. search run_low)
     (λ c. search stride_fits)
     (λ c.
-    let c1 = c.before in
-    let c2 = c1.before in
-    let c3 = c2.before in
-    let s = c3.before in
-    let a = s.args in
-    lying a.l a.h a.w a.first a.a c3.digit_count-s.result c2.block_width-q.result c1.smaller-run.result s.requires.0 s.requires.1 s.requires.2 c3.digit_count-s.ensures
-    c2.block_width-q.ensures c1.smaller-run.ensures c.layer_of-start.result c.layer_of-start.ensures.0))
+    
+    
+    
+    
+    let a = c.args in
+    lying a.l a.h a.w a.first a.a c.digit_count-s.result c.block_width-q.result c.smaller-run.result c.requires.0 c.requires.1 c.requires.2 c.digit_count-s.ensures
+    c.block_width-q.ensures c.smaller-run.ensures c.layer_of-start.result c.layer_of-start.ensures.0))

@@ -21,13 +21,13 @@ place_terms_spec =
     (λ c. search rules)
     (λ c. search rules)
     (λ c.
-    let c1 = c.before.before.before.before in
-    let c2 = c1.before.before.before.before.before.before in
-    let c3 = c2.before.before in
-    let c4 = c3.before.before.before in
-    let c5 = c4.before.before.before in
-    let s = c5.before.before.before.before.before in
-    let a = s.args in
-    terms_of working a.l a.w a.e a.r.start a.r.run a.r.count a.r.stride c5.layer_count-total.result a.host.now a.g
-    c3.place_power-p.result a.cur.now c4.gather.new.0 a.row.now c2.fill.new.0
-    a.rests.now c1.add_terms.new.0 c5.layer_count-total.ensures c3.place_power-p.ensures s.requires.1 c4.gather.ensures c2.fill.ensures c1.add_terms.ensures))
+    
+    
+    
+    
+    
+    
+    let a = c.args in
+    terms_of working a.l a.w a.e a.r.start a.r.run a.r.count a.r.stride c.layer_count-total.result a.host.now a.g
+    c.place_power-p.result a.cur.now c.gather.new.0 a.row.now c.fill.new.0
+    a.rests.now c.add_terms.new.0 c.layer_count-total.ensures c.place_power-p.ensures c.requires.1 c.gather.ensures c.fill.ensures c.add_terms.ensures))

@@ -26,50 +26,50 @@ repair_block_spec =
     (λ c κs. search rules)
     (λ c. (omega arith, refl, refl, refl, refl, refl, refl, repaired_none working _ _ _ _ _ _ _ _))
     (λ c κs.
-    let c1 = c.before.before.before.before.before.before.before in
-    let c2 = c1.before in
-    let c3 = c2.before.before in
-    let c4 = c3.before in
-    let c5 = c4.before.before in
-    let s = c5.before.before.before.before.before.before.before.before.before.before.before in
-    let a = s.args in
-    let k = c2.loop-a in
-    let t : k.a < c5.digit_count-s.result = c1.loop-a-test.true in (
-      s.requires.0,
-      rw (sym c5.digit_count-s.ensures) t,
+    
+    
+    
+    
+    
+    
+    let a = c.args in
+    let k = c.loop-a in
+    let t : k.a < c.digit_count-s.result = c.loop-a-test.true in (
+      c.requires.0,
+      rw (sym c.digit_count-s.ensures) t,
       space_next (length a.lost.now) a.w a.rests.now a.found.now a.places.now a.coefs.now a.row.now a.cur.now k.rests-1 k.found-1
-          c4.fill_places.new.1.1.0 k.coefs-1 k.row-1 k.cur-1
-          s.requires.1 k.invariant.1 k.invariant.2 c3.places-1.given k.invariant.3 k.invariant.4 k.invariant.5,
-      c4.fill_places.ensures,
-      k.invariant.6 ∙ s.requires.2,
+          c.fill_places.new.1.1.0 k.coefs-1 k.row-1 k.cur-1
+          c.requires.1 k.invariant.1 k.invariant.2 c.places-1.given k.invariant.3 k.invariant.4 k.invariant.5,
+      c.fill_places.ensures,
+      k.invariant.6 ∙ c.requires.2,
     ))
     (λ c. omega arith)
     (λ c. omega arith)
     (λ c.
-    let c1 = c.before.before.before in
-    let c2 = c1.before.before in
-    let c3 = c2.before.before in
-    let c4 = c3.before.before in
-    let c5 = c4.before.before in
-    let c6 = c5.before in
-    let c7 = c6.before.before.before.before.before.before.before.before in
-    let c8 = c7.before in
-    let c9 = c8.before.before.before.before.before in
-    let s = c9.before.before.before.before.before.before.before.before.before.before.before in
-    let a = s.args in
-    let k = c8.loop-a in
-    let d = c6.repair_digit in
-    let t : k.a < c9.digit_count-s.result = c7.loop-a-test.true in
-    let n : k.a + 1 ≤ c9.digit_count-s.result = omega arith in (
+    
+    
+    
+    
+    
+    
+    
+    
+    
+    
+    let a = c.args in
+    let k = c.loop-a in
+    let d = c.repair_digit in
+    let t : k.a < c.digit_count-s.result = c.loop-a-test.true in
+    let n : k.a + 1 ≤ c.digit_count-s.result = omega arith in (
       n,
-      c5.rests-1.given ∙ k.invariant.1,
-      c4.found-1.given ∙ k.invariant.2,
-      c3.coefs-1.given ∙ k.invariant.3,
-      c2.row-1.given ∙ k.invariant.4,
-      c1.cur-1.given ∙ k.invariant.5,
-      c.before.spare-1.given ∙ k.invariant.6,
+      c.rests-1.given ∙ k.invariant.1,
+      c.found-1.given ∙ k.invariant.2,
+      c.coefs-1.given ∙ k.invariant.3,
+      c.row-1.given ∙ k.invariant.4,
+      c.cur-1.given ∙ k.invariant.5,
+      c.spare-1.given ∙ k.invariant.6,
       repaired_more working a.l a.h a.lost.now a.host.now a.w a.first a.sums.now k.a a.spare.now k.spare-1
-          d.new.1.1.1.1.1.1.1.1.1.1.1.1.1.1.0 s.requires.0 (rw (sym c9.digit_count-s.ensures) t) k.invariant.7 d.ensures,
+          d.new.1.1.1.1.1.1.1.1.1.1.1.1.1.1.0 c.requires.0 (rw (sym c.digit_count-s.ensures) t) k.invariant.7 d.ensures,
     ))
     (λ c. search rules)
     (λ c. search rules)

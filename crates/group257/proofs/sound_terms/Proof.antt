@@ -12,23 +12,23 @@ use Rattle.group257.proofs.sound_terms.Tie as tie
 pub sound_terms_spec : {M : Type 1} → statement M
 sound_terms_spec =
     tie.close (tie.spec
-    (λ c. let s = c.before.before.before.before.before in let q = rack_end working s.args.l s.args.h s.args.lost.now s.args.host.now s.requires.0 in omega arith)
-    (λ c. let s = c.before.before.before.before.before in let q = rack_end working s.args.l s.args.h s.args.lost.now s.args.host.now s.requires.0 in omega arith)
+    (λ c. let q = rack_end working c.args.l c.args.h c.args.lost.now c.args.host.now c.requires.0 in omega arith)
+    (λ c. let q = rack_end working c.args.l c.args.h c.args.lost.now c.args.host.now c.requires.0 in omega arith)
     (λ c κs. search rules)
     (λ c.
-    let c1 = c.before in
-    let c2 = c1.before.before.before.before.before.before in
-    let s = c2 in let a = s.args in terms_lost working a.l a.h a.lost.now a.host.now s.requires.0 a.w (length a.lost.now)
+    
+    
+    let a = c.args in terms_lost working a.l a.h a.lost.now a.host.now c.requires.0 a.w (length a.lost.now)
     (λ j. spot a.r.start a.r.run a.r.stride j) a.g a.rests.now s.requires.3 (told_false c1.is_absent.ensures c.if-not-is_absent.true-raw))
     (λ c κs. search rules)
     (λ c. search rules)
     (λ c. search rules)
     (λ c. search rules)
     (λ c.
-    let c1 = c.before.before.before.before.before.before in
-    let c2 = c1.before.before.before.before in
-    let c3 = c2.before in
-    let s = c3.before.before.before.before.before.before in
-    let a = s.args in
-    terms_sound working a.l a.h a.lost.now a.host.now s.requires.0 a.w (length a.lost.now) (λ j. spot a.r.start a.r.run a.r.stride j)
-    a.g a.rests.now c1.place_terms.new.0 (told_true c3.is_absent.ensures c2.if-not-is_absent.false-raw) c1.place_terms.ensures))
+    
+    
+    
+    
+    let a = c.args in
+    terms_sound working a.l a.h a.lost.now a.host.now c.requires.0 a.w (length a.lost.now) (λ j. spot a.r.start a.r.run a.r.stride j)
+    a.g a.rests.now c.place_terms.new.0 (told_true c.is_absent.ensures c.if-not-is_absent.false-raw) c.place_terms.ensures))

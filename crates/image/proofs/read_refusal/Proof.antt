@@ -13,5 +13,5 @@ read_refusal_spec =
     (λ c. search read_1)
     (λ c κs. search rules)
     (λ c. search part_9)
-    (λ c κs. formed_reads _ _ _ proper1 c.before.well_formed-2.ensures c.if-not-well_formed.false-raw)
+    (λ c κs. formed_reads _ _ _ proper1 c.well_formed-2.ensures c.if-not-well_formed.false-raw)
     (λ c. search part_formed))

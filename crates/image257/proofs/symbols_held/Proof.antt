@@ -23,4 +23,4 @@ symbols_held_spec =
     (λ c. omega arith)
     (λ c. omega arith)
     (λ c. (omega arith, search held_more))
-    (λ c. held_true _ _ (λ i h. c.before.loop-j.invariant.1 i (omega arith))))
+    (λ c. held_true _ _ (λ i h. c.loop-j.invariant.1 i (omega arith))))

@@ -16,7 +16,7 @@ abbrev decreases-loop-j : tie.decreases-loop-j
 decreases-loop-j out₀ to len src from gap n far m width j₀ out j = len - j
 
 -- the block of a turn
-inside : (c : tie.In-loop-j invariant-loop-j decreases-loop-j) → let a = c.before.before.before.before.args in c.before.loop-j.j + a.width ≤ a.len
+inside : (c : tie.In-loop-j invariant-loop-j decreases-loop-j) → let a = c.args in c.loop-j.j + a.width ≤ a.len
 inside c = search next_part
 
 pub add_blocks_spec : {M : Type 1} → statement M
@@ -26,16 +26,16 @@ add_blocks_spec =
     (λ c. omega arith)
     (λ c. omega arith)
     (λ c κs.
-    let a = c.before.before.before.before.before.args in
-    let p = c.before.before.before.before.before.requires in
-    let b = c.before.before.loop-j in (
+    let a = c.args in
+    let p = c.requires in
+    let b = c.loop-j in (
       block_told gf256 a.out.now b.out a.src.now a.to a.len a.from a.gap a.n a.far a.m b.j a.width p.0 b.invariant.2 (inside c.before),
       p.1.narrow,
     ))
     (λ c. omega (arith, inside c.before.before.before.before))
-    (λ c. omega (arith, inside c.before.before.before.before, c.before.before.before.before.before.before.before.before.requires.2))
+    (λ c. omega (arith, inside c.before.before.before.before, c.requires.2))
     (λ c.
-    let p = c.before.before.before.before.before.before.before.before.requires in
-    (inside c.before.before.before.before, part_on _ _ p.2 c.before.before.before.before.before.loop-j.invariant.1, search (block_next gf256)))
-    (λ c. c.before.loop-j.invariant.2.long)
+    let p = c.requires in
+    (inside c.before.before.before.before, part_on _ _ p.2 c.loop-j.invariant.1, search (block_next gf256)))
+    (λ c. c.loop-j.invariant.2.long)
     (λ c. search run_end))

@@ -26,5 +26,5 @@ all_zero_spec =
     (λ c. search zero_false)
     (λ c. omega arith)
     (λ c. omega arith)
-    (λ c. (omega arith, below_more _ _ c.before.before.before.before.loop-j.invariant.1 (sym c.before.index.ensures.0 ∙ c.if-index-ne0.false)))
-    (λ c. zero_true _ _ _ (λ i h. c.before.loop-j.invariant.1 i (omega arith))))
+    (λ c. (omega arith, below_more _ _ c.loop-j.invariant.1 (sym c.index.ensures.0 ∙ c.if-index-ne0.false)))
+    (λ c. zero_true _ _ _ (λ i h. c.loop-j.invariant.1 i (omega arith))))

@@ -18,12 +18,12 @@ abbrev decreases-loop-b : tie.decreases-loop-b
 decreases-loop-b v src at gap n sum₀ b₀ sum b = n - b
 
 -- the place read in a turn
-read_in : (c : tie.In-loop-b invariant-loop-b decreases-loop-b) → let a = c.before.before.before.args in a.at + c.before.loop-b.b * a.gap < length a.src.now
-read_in c = let a = c.before.before.before.args in place_in a.src.now a.at a.gap c.before.loop-b.b a.n c.before.before.before.requires.1 c.loop-b-test.true
+read_in : (c : tie.In-loop-b invariant-loop-b decreases-loop-b) → let a = c.args in a.at + c.loop-b.b * a.gap < length a.src.now
+read_in c = let a = c.args in place_in a.src.now a.at a.gap c.loop-b.b a.n c.requires.1 c.loop-b-test.true
 
 -- the symbol there
-read_below : (c : tie.In-loop-b invariant-loop-b decreases-loop-b) → let a = c.before.before.before.args in get_or a.src.now (a.at + c.before.loop-b.b * a.gap) 0 < gf256.coding.size
-read_below c = c.before.before.before.requires.0.at _ (read_in c)
+read_below : (c : tie.In-loop-b invariant-loop-b decreases-loop-b) → let a = c.args in get_or a.src.now (a.at + c.loop-b.b * a.gap) 0 < gf256.coding.size
+read_below c = c.requires.0.at _ (read_in c)
 
 pub gather_apart_spec : {M : Type 1} → statement M
 gather_apart_spec =

@@ -41,10 +41,10 @@ accrue_spec =
       omega arith,
       simp length-set (omega arith),
       simp length-set (omega arith),
-      let c1 = c.before.before in
-          let c2 = c1.before.before.before.before in
-          let c3 = c2.before.before.before.before in
-          let k = c2.loop-j.invariant in accrue_more gf257 _ _ _ _ _ _ _ c3.args.len _ _ k.3 k.4 (omega arith) (omega arith) c1.lazy_product-v.ensures.0 c.lazy_sum.ensures,
+      
+          
+          
+          let k = c.loop-j.invariant in accrue_more gf257 _ _ _ _ _ _ _ c.args.len _ _ k.3 k.4 (omega arith) (omega arith) c.lazy_product-v.ensures.0 c.lazy_sum.ensures,
       search step_more,
     ))
     (λ c. omega arith)

@@ -21,17 +21,17 @@ small : gf257.coding.size ≤ 257
 small = omega arith
 
 -- the places read and written in a turn
-to_in : (c : tie.In-loop-j invariant-loop-j decreases-loop-j) → let a = c.before.before.before.before.args in a.to + c.before.loop-j.j * a.step < length c.before.loop-j.out
-to_in c = let a = c.before.before.before.before.args in omega (
+to_in : (c : tie.In-loop-j invariant-loop-j decreases-loop-j) → let a = c.args in a.to + c.loop-j.j * a.step < length c.loop-j.out
+to_in c = let a = c.args in omega (
   arith,
-  c.before.loop-j.invariant.1,
-  place_in a.out.now a.to a.step c.before.loop-j.j
-      a.len c.before.before.before.before.requires.room c.loop-j-test.true,
+  c.loop-j.invariant.1,
+  place_in a.out.now a.to a.step c.loop-j.j
+      a.len c.requires.room c.loop-j-test.true,
 )
 
-from_in : (c : tie.In-loop-j invariant-loop-j decreases-loop-j) → let a = c.before.before.before.before.args in a.from + c.before.loop-j.j * a.stride < length a.src.now
-from_in c = let a = c.before.before.before.before.args in place_in a.src.now a.from a.stride c.before.loop-j.j a.len
-    c.before.before.before.before.requires.long c.loop-j-test.true
+from_in : (c : tie.In-loop-j invariant-loop-j decreases-loop-j) → let a = c.args in a.from + c.loop-j.j * a.stride < length a.src.now
+from_in c = let a = c.args in place_in a.src.now a.from a.stride c.loop-j.j a.len
+    c.requires.long c.loop-j-test.true
 
 pub add_spaced_spec : {M : Type 1} → statement M
 add_spaced_spec =
@@ -44,8 +44,8 @@ add_spaced_spec =
     (λ c. omega (arith, from_in c.before))
     (λ c. omega (arith, from_in c.before))
     (λ c κs.
-    let p = c.before.before.before.before.before.requires in
-    (p.given, p.lies _ c.before.loop-j-test.true, search (spaced_fits gf257, small)))
+    let p = c.requires in
+    (p.given, p.lies _ c.loop-j-test.true, search (spaced_fits gf257, small)))
     (λ c κs. search rules)
     (λ c. omega (arith, to_in c.before.before.before))
     (λ c. omega (arith, to_in c.before.before.before))

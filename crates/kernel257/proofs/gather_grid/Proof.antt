@@ -19,8 +19,8 @@ abbrev decreases-loop-g : tie.decreases-loop-g
 decreases-loop-g v src at gap n far m sum₀ g₀ sum g = m - g
 
 -- the row of a turn
-first_in : (c : tie.In-loop-g invariant-loop-g decreases-loop-g) → let a = c.before.before.before.args in a.at + c.before.loop-g.g * a.far < length a.src.now
-first_in c = let a = c.before.before.before.args in row_first a.src.now a.at a.gap a.n a.far a.m c.before.loop-g.g c.before.before.before.requires.1 c.loop-g-test.true
+first_in : (c : tie.In-loop-g invariant-loop-g decreases-loop-g) → let a = c.args in a.at + c.loop-g.g * a.far < length a.src.now
+first_in c = let a = c.args in row_first a.src.now a.at a.gap a.n a.far a.m c.loop-g.g c.requires.1 c.loop-g-test.true
 
 pub gather_grid_spec : {M : Type 1} → statement M
 gather_grid_spec =
@@ -28,9 +28,9 @@ gather_grid_spec =
     (λ c. (omega arith, grid_none working _ _ _ _ _ _, omega arith))
     (λ c. omega (arith, first_in c))
     (λ c. omega (arith, first_in c))
-    (λ c κs. let p = c.before.before.before.requires in let a = c.before.before.before.args in
-    (p.0, p.1.rows _ c.loop-g-test.true, omega (arith, row_before c.before.loop-g.g a.m a.n c.loop-g-test.true)))
+    (λ c κs. let p = c.requires in let a = c.args in
+    (p.0, p.1.rows _ c.loop-g-test.true, omega (arith, row_before c.loop-g.g a.m a.n c.loop-g-test.true)))
     (λ c. omega arith)
     (λ c. omega arith)
-    (λ c. (omega arith, search (grid_more working), omega (arith, row_end c.before.before.loop-g.g c.before.before.before.before.args.n)))
+    (λ c. (omega arith, search (grid_more working), omega (arith, row_end c.loop-g.g c.args.n)))
     (λ c. search (grid_end working)))

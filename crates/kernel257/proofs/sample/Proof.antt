@@ -19,8 +19,8 @@ pub sample_spec : {M : Type 1} → statement M
 sample_spec =
     tie.close (tie.spec invariant-loop-j decreases-loop-j
     (λ c. (omega arith, refl, run_none _ _ _))
-    (λ c. let e : c.before.loop-j.j * c.before.before.args.step < length c.before.before.args.src.now = search sample_in in omega arith)
-    (λ c. let e : c.before.loop-j.j * c.before.before.args.step < length c.before.before.args.src.now = search sample_in in omega arith)
+    (λ c. let e : c.loop-j.j * c.args.step < length c.args.src.now = search sample_in in omega arith)
+    (λ c. let e : c.loop-j.j * c.args.step < length c.args.src.now = search sample_in in omega arith)
     (λ c. search sample_in)
     (λ c. omega arith)
     (λ c. omega arith)

@@ -12,10 +12,10 @@ use Rattle.layout.proofs.admitted.Statement.{statement}
 use Rattle.layout.proofs.admitted.Tie as tie
 
 -- what the test of the size leaves
-allowed : (c : tie.Else-not-size_allowed) → size_allowed c.before.before.before.args.order c.before.before.before.args.l.size ≡ true
-allowed c = sym c.before.size_allowed.ensures ∙ not-false _ c.if-not-size_allowed.false-raw
+allowed : (c : tie.Else-not-size_allowed) → size_allowed c.args.order c.args.l.size ≡ true
+allowed c = sym c.size_allowed.ensures ∙ not-false _ c.if-not-size_allowed.false-raw
 
-sized : (c : tie.Else-not-size_allowed) → 1 ≤ c.before.before.before.args.l.size
+sized : (c : tie.Else-not-size_allowed) → 1 ≤ c.args.l.size
 sized c = (size_facts _ _ (allowed c)).0
 
 pub admitted_spec : {M : Type 1} → statement M
@@ -23,7 +23,7 @@ admitted_spec =
     tie.close (tie.spec
     (λ c. inadmissible _ _ (λ a. omega arith))
     (λ c κs. search rules)
-    (λ c. inadmissible _ _ (λ a. size_not _ _ (sym c.before.size_allowed.ensures ∙ not-true _ c.if-not-size_allowed.true-raw) a.cabinet.size_low a.size_ok))
+    (λ c. inadmissible _ _ (λ a. size_not _ _ (sym c.size_allowed.ensures ∙ not-true _ c.if-not-size_allowed.true-raw) a.cabinet.size_low a.size_ok))
     (λ c. inadmissible _ _ (λ a. omega (arith, bounds _ a.cabinet)))
     (λ c. inadmissible _ _ (λ a. omega (arith, bounds _ a.cabinet)))
     (λ c. record { fits = mul_below tray_limit tray_limit (omega arith) (omega arith) tt })
@@ -35,7 +35,7 @@ admitted_spec =
     (λ c. sized c.before.before.before.before.before.before.before)
     (λ c. search rules)
     (λ c.
-    let a = c.before.before.before.before.before.before.before.before.before.before.args in
+    let a = c.args in
     record { fits = omega (arith, div-le_self a.l.dimension a.l.size) })
     (λ c. inadmissible _ _ (λ a. omega arith))
     (λ c. inadmissible _ _ (λ a. omega arith))

@@ -7,4 +7,4 @@ pub admitted_with_spec : {M : Type 1} → statement M
 admitted_with_spec = tie.close (tie.spec
     (λ c. with_other _ _ _ c.if-e-errors.true)
     (λ c κs. search rules)
-    (λ c. with_same _ _ _ _ c.before.if-e-errors.false c.admitted.ensures))
+    (λ c. with_same _ _ _ _ c.if-e-errors.false c.admitted.ensures))

@@ -9,12 +9,12 @@ use Rattle.layout.proofs.digit_at.Tie as tie
 
 returns : tie.Need-returns
 unfolding digit
-returns c = ap (λ p. c.before.args.j / p % c.before.args.s) (omega arith)
+returns c = ap (λ p. c.args.j / p % c.args.s) (omega arith)
 
 pub digit_at_spec : {M : Type 1} → statement M
 digit_at_spec =
     tie.close (tie.spec
     (λ c κs. search rules)
-    (λ c. omega (arith, one-le-pow c.before.args.i c.before.args.s c.before.requires.0))
+    (λ c. omega (arith, one-le-pow c.args.i c.args.s c.requires.0))
     (λ c. search rules)
     returns)

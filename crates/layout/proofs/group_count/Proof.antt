@@ -10,4 +10,4 @@ group_count_spec =
     (λ c κs. search rules)
     (λ c κs. search rules)
     (λ c. search rules)
-    (λ c. ap₂ ◌/◌ c.before.layer_count.ensures c.digit_count.ensures))
+    (λ c. ap₂ ◌/◌ c.layer_count.ensures c.digit_count.ensures))

@@ -11,5 +11,5 @@ layer_count_spec = tie.close (tie.spec
     (λ c κs. search rules)
     (λ c κs. search rules)
     (λ c.
-    let a = c.before.before.args in
-    c.capped_power.ensures ∙ ap (λ s. min (s ^ a.l.racks) (layer_limit + 1)) c.before.digit_count.ensures ∙ omega (arith, c.before.before.requires)))
+    let a = c.args in
+    c.capped_power.ensures ∙ ap (λ s. min (s ^ a.l.racks) (layer_limit + 1)) c.digit_count.ensures ∙ omega (arith, c.requires)))

@@ -10,22 +10,22 @@ use Rattle.layout.proofs.Parts.{layer_high, Parts, parts}
 use Rattle.layout.proofs.layer_of.Statement.{statement}
 use Rattle.layout.proofs.layer_of.Tie as tie
 
-power : (c : tie.After-capped_power-q) → c.capped_power-q.result ≡ digits c.before.before.args.l ^ c.before.before.args.h
+power : (c : tie.After-capped_power-q) → c.capped_power-q.result ≡ digits c.args.l ^ c.args.h
 power c =
-    let a = c.before.before.args in
-    let p = c.before.before.requires in
+    let a = c.args in
+    let p = c.requires in
     c.capped_power-q.ensures
-    ∙ ap (λ s. min (s ^ a.h) (layer_limit + 1)) c.before.digit_count-s.ensures
+    ∙ ap (λ s. min (s ^ a.h) (layer_limit + 1)) c.digit_count-s.ensures
     ∙ omega (arith, power_in a.l p.adm a.h (le_of_lt p.host_in))
 
-known : (c : tie.After-capped_power-q) → Parts c.capped_power-q.result c.before.digit_count-s.result c.before.before.args.p c.before.before.args.a
-known c = rw (power c, c.before.digit_count-s.ensures) (parts _ _ _ _ c.before.before.requires)
+known : (c : tie.After-capped_power-q) → Parts c.capped_power-q.result c.digit_count-s.result c.args.p c.args.a
+known c = rw (power c, c.digit_count-s.ensures) (parts _ _ _ _ c.requires)
 
 returns : tie.Need-returns
 unfolding layer_of
 returns c =
-    let a = c.before.before.args in
-    rw (power c, c.before.digit_count-s.ensures) (refl, layer_high a.l a.h a.p a.a c.before.before.requires)
+    let a = c.args in
+    rw (power c, c.digit_count-s.ensures) (refl, layer_high a.l a.h a.p a.a c.requires)
 
 pub layer_of_spec : {M : Type 1} → statement M
 layer_of_spec =

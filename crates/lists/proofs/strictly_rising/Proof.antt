@@ -22,13 +22,13 @@ strictly_rising_spec =
     (λ c. search rules)
     (λ c. search rules)
     (λ c.
-    rising_false c.before.before.before.before.before.args.xs.now c.before.before.before.before.loop-k.k
-    c.before.before.before.before.loop-k.invariant.0 (omega arith) c.if-xs-k.true)
+    rising_false c.args.xs.now c.loop-k.k
+    c.loop-k.invariant.0 (omega arith) c.if-xs-k.true)
     (λ c. search rules)
     (λ c. search rules)
     (λ c. (
       omega arith,
-      rising_more c.before.before.before.before.before.args.xs.now c.before.before.before.before.loop-k.k
-          c.before.before.before.before.loop-k.invariant.0 c.before.before.before.before.loop-k.invariant.1 (omega arith),
+      rising_more c.args.xs.now c.loop-k.k
+          c.loop-k.invariant.0 c.loop-k.invariant.1 (omega arith),
     ))
-    (λ c. rising_true c.before.before.args.xs.now c.before.loop-k.k (omega arith) c.before.loop-k.invariant.1))
+    (λ c. rising_true c.args.xs.now c.loop-k.k (omega arith) c.loop-k.invariant.1))

@@ -7,6 +7,6 @@ pub all_clear_spec : {M : Type 1} → statement M
 all_clear_spec =
     tie.close (tie.spec
     (λ c κs. search rules)
-    (λ c. first_false _ _ _ c.before.all_zero.ensures c.if-not-all_zero.true-raw)
+    (λ c. first_false _ _ _ c.all_zero.ensures c.if-not-all_zero.true-raw)
     (λ c κs. search rules)
-    (λ c. let c1 = c.before in let c2 = c1.before in second_told _ _ _ _ c2.all_zero.ensures c1.if-not-all_zero.false-raw c.all_zero-2.ensures))
+    (λ c. second_told _ _ _ _ c.all_zero.ensures c.if-not-all_zero.false-raw c.all_zero-2.ensures))

@@ -24,102 +24,102 @@ is_located_spec =
     tie.close (tie.spec
     invariant-loop-p
     decreases-loop-p
-    (λ c κs. c.before.before.before.before.requires.0.adm)
+    (λ c κs. c.requires.0.adm)
     (λ c.
-    let c1 = c.before.before.before.before.before in
-    let a = c1.args in
+    
+    let a = c.args in
     (omega arith, refl, located_none working a.l a.h a.helpers.now a.zeroth.now a.first.now a.k))
     (λ c. omega arith)
     (λ c κs.
-    let c1 = c.before.before in
-    let c2 = c1.before.before.before.before.before in
-    (c2.requires.0.adm, omega arith, within_layers c2.args.l _ _ c1.group_count-total.ensures (omega arith), omega arith))
+    
+    
+    (c.requires.0.adm, omega arith, within_layers c.args.l _ _ c.group_count-total.ensures (omega arith), omega arith))
     (λ c. search rules)
     (λ c. search rules)
     (λ c. search rules)
-    (λ c. let c1 = c.before.before.before.before.before.before.before.before.before.before in let p = c1.requires in rw p.0.many p.1)
+    (λ c. let p = c.requires in rw p.0.many p.1)
     (λ c κs.
-    let c1 = c.before.before in
-    let c2 = c1.before.before in
-    let c3 = c2.before.before.before.before.before.before in
-    let p = c3.requires in (
-      c1.block_at-w.ensures.0,
+    
+    
+    
+    let p = c.requires in (
+      c.block_at-w.ensures.0,
       p.0.host_in,
       p.0.inside _ p.1,
       p.0.other _ p.1,
-      size_high c3.args.l p.0.adm,
+      size_high c.args.l p.0.adm,
       omega (
         arith,
-        c2.loop-p.invariant.1,
+        c.loop-p.invariant.1,
         p.4,
-        c1.block_at-w.ensures.1.small,
+        c.block_at-w.ensures.1.small,
       ),
     ))
     (λ c. search rules)
     (λ c. search rules)
     (λ c κs.
-    let c1 = c.before.before.before in
-    let c2 = c1.before.before.before in
-    let c3 = c2.before in
-    let c4 = c3.before in
-    let c5 = c4.before in
-    let c6 = c5.before.before.before.before.before in
-    let p = c6.requires in (
-      omega (arith, c2.block_at-w.ensures.1.within, p.2, c5.group_count-total.ensures, c3.loop-p-test.true),
+    
+    
+    
+    
+    
+    
+    let p = c.requires in (
+      omega (arith, c.block_at-w.ensures.1.within, p.2, c.group_count-total.ensures, c.loop-p-test.true),
       omega (
         arith,
-        c2.block_at-w.ensures.1.within,
+        c.block_at-w.ensures.1.within,
         p.3,
-        c5.group_count-total.ensures,
-        c3.loop-p-test.true,
+        c.group_count-total.ensures,
+        c.loop-p-test.true,
       ),
-      omega (arith, c1.rack_powers.auto.0, c4.loop-p.invariant.1, p.4, c2.block_at-w.ensures.1.small),
+      omega (arith, c.rack_powers.auto.0, c.loop-p.invariant.1, p.4, c.block_at-w.ensures.1.small),
     ))
     (λ c.
-    let c1 = c.before.before.before.before.before in
-    let c2 = c1.before.before.before.before.before in
-    c1.rack_powers.auto.0 ∙ c2.loop-p.invariant.1)
+    
+    
+    c.rack_powers.auto.0 ∙ c.loop-p.invariant.1)
     (λ c.
-    let c1 = c.before in
-    let c2 = c1.before.before.before.before in
-    let c3 = c2.before.before.before in
-    let c4 = c3.before in
-    let c5 = c4.before.before in
-    let c6 = c5.before.before.before.before.before in
-    let a = c6.args in
-    let p = c6.requires in
-    located_not working a.l a.h a.helpers.now a.zeroth.now a.first.now a.k p.0 p.1 _ _ _ c2.rack_powers.ensures (omega (
+    
+    
+    
+    
+    
+    
+    let a = c.args in
+    let p = c.requires in
+    located_not working a.l a.h a.helpers.now a.zeroth.now a.first.now a.k p.0 p.1 _ _ _ c.rack_powers.ensures (omega (
       arith,
-      c3.block_at-w.ensures.1.within,
-      c5.group_count-total.ensures,
-      c4.loop-p-test.true,
-    )) (says_false c1.row_agrees.result (not-true c1.row_agrees.result c.if-not-row_agrees.true-raw) c1.row_agrees.ensures))
+      c.block_at-w.ensures.1.within,
+      c.group_count-total.ensures,
+      c.loop-p-test.true,
+    )) (says_false c.row_agrees.result (not-true c.row_agrees.result c.if-not-row_agrees.true-raw) c.row_agrees.ensures))
     (λ c.
-    let c1 = c.before.before.before.before.before.before.before.before in
-    let c2 = c1.before.before.before in
-    let c3 = c2.before.before.before.before.before in
-    next_fits c3.args.l _ _ _ _ c3.requires.0.adm c2.group_count-total.ensures (omega arith) c1.block_at-w.ensures.1)
+    
+    
+    
+    next_fits c.args.l _ _ _ _ c.requires.0.adm c.group_count-total.ensures (omega arith) c.block_at-w.ensures.1)
     (λ c.
-    let c1 = c.before.before.before.before.before.before.before.before in
-    let c2 = c1.before in
-    omega (arith, c1.block_at-w.ensures.2, c2.loop-p-test.true))
+    
+    
+    omega (arith, c.block_at-w.ensures.2, c.loop-p-test.true))
     (λ c.
-    let c1 = c.before in
-    let c2 = c1.before.before.before.before in
-    let c3 = c2.before.before.before in
-    let c4 = c3.before.before in
-    let c5 = c4.before.before.before.before.before.before in
-    let a = c5.args in
-    let p = c5.requires in (
-      omega (arith, c3.block_at-w.ensures.1.within),
-      c2.rack_powers.auto.0 ∙ c4.loop-p.invariant.1,
+    
+    
+    
+    
+    
+    let a = c.args in
+    let p = c.requires in (
+      omega (arith, c.block_at-w.ensures.1.within),
+      c.rack_powers.auto.0 ∙ c.loop-p.invariant.1,
       located_more working a.l a.h a.helpers.now a.zeroth.now
-          a.first.now a.k p.0 p.1 _ _ _ c2.rack_powers.ensures (says_true c1.row_agrees.result (not-false c1.row_agrees.result c.if-not-row_agrees.false-raw) c1.row_agrees.ensures) c4.loop-p.invariant.2,
+          a.first.now a.k p.0 p.1 _ _ _ c.rack_powers.ensures (says_true c.row_agrees.result (not-false c.row_agrees.result c.if-not-row_agrees.false-raw) c.row_agrees.ensures) c.loop-p.invariant.2,
     ))
-    (λ c. c.before.loop-p.invariant.1)
+    (λ c. c.loop-p.invariant.1)
     (λ c.
-    let c1 = c.before in
-    let c2 = c1.before in
-    let c3 = c2.before.before.before.before.before in
-    let a = c3.args in
-    located_end working a.l a.h a.helpers.now a.zeroth.now a.first.now a.k _ _ c1.loop-p.invariant.2 (omega arith) c2.group_count-total.ensures))
+    
+    
+    
+    let a = c.args in
+    located_end working a.l a.h a.helpers.now a.zeroth.now a.first.now a.k _ _ c.loop-p.invariant.2 (omega arith) c.group_count-total.ensures))

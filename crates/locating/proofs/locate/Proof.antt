@@ -13,5 +13,5 @@ locate_spec =
     (λ c. search rules)
     (λ c. search rules)
     (λ c. search rules)
-    (λ c κs. let c1 = c.before.before.before.before.before.before.before.before.before in (c1.requires, rooms))
+    (λ c κs. (c.requires, rooms))
     (λ c. search rules))

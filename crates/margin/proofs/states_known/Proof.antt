@@ -18,8 +18,8 @@ states_known_spec =
     tie.close (tie.spec invariant-loop-x decreases-loop-x
     (λ c. below_none _)
     (λ c. search rules)
-    (λ c. known_false _ c.before.before.before.loop-x.x (omega arith) (omega arith))
+    (λ c. known_false _ c.loop-x.x (omega arith) (omega arith))
     (λ c. search rules)
     (λ c. search rules)
-    (λ c. below_more _ _ c.before.before.before.loop-x.invariant c.if-states-x-gt-STATES.false)
-    (λ c. known_true _ (λ i h. c.before.loop-x.invariant i (omega arith))))
+    (λ c. below_more _ _ c.loop-x.invariant c.if-states-x-gt-STATES.false)
+    (λ c. known_true _ (λ i h. c.loop-x.invariant i (omega arith))))

@@ -21,11 +21,11 @@ loop_holds c = (omega arith, refl, search (points_none working))
 
 loop_again : tie.Need-loop-k-preserved invariant-loop-k decreases-loop-k
 loop_again c =
-    let d = c.before.before in
-    let i = d.before.before.before.before in
-    let s = i.before.before.before.before.before in
-    let v = d.before.before.point_power-v.ensures in
-    (omega arith, search rules, points_more working _ _ _ _ s.requires.0 _ _ _ _ _ i.before.before.layer_of-j.ensures.0 (omega arith) v d.fill.ensures i.before.loop-k.invariant.2)
+    
+    
+    
+    let v = c.point_power-v.ensures in
+    (omega arith, search rules, points_more working _ _ _ _ c.requires.0 _ _ _ _ _ c.layer_of-j.ensures.0 (omega arith) v c.fill.ensures c.loop-k.invariant.2)
 
 pub helper_points_spec : {M : Type 1} → statement M
 helper_points_spec =
@@ -35,7 +35,7 @@ helper_points_spec =
     (λ c. search rules)
     (λ c. omega arith)
     (λ c. search tray_fits)
-    (λ c κs. let s = c.before.before.before.before.before.before in (s.requires.0.chosen.adm, search helper_tray, search size_under))
+    (λ c κs. (c.requires.0.chosen.adm, search helper_tray, search size_under))
     (λ c κs. search row_place)
     (λ c. omega arith)
     (λ c. omega arith)

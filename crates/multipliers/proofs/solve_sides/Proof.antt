@@ -7,39 +7,39 @@ use Rattle.multipliers.proofs.solve_sides.Tie as tie
 
 solve_first_requires : tie.Need-solve_first-requires
 solve_first_requires c κs =
-    let w = c.before.before.before.before.before.before.before.before.before.before.before in
-    let o = w.before.before.before.before.before.before.before.before in
-    let m = o.before.before.before in
-    let n = m.before in
-    let s = n.before.before.before.before.before.before.before.before.before in
-    let a = s.args in
-    let k = o.unknown_points.auto in
-    let v = w.power_sides.auto in
-    let e = n.unknown_count-n.ensures in (
-      systems_one a.l a.h a.p a.helpers.now s.requires.0 a.found.now a.sides.now a.points.now a.coefs.now a.row.now a.cur.now s.requires.1
+    
+    
+    
+    
+    
+    let a = c.args in
+    let k = c.unknown_points.auto in
+    let v = c.power_sides.auto in
+    let e = c.unknown_count-n.ensures in (
+      systems_one a.l a.h a.p a.helpers.now c.requires.0 a.found.now a.sides.now a.points.now a.coefs.now a.row.now a.cur.now c.requires.1
           _ _ _ e v.0 (v.1.1.1.1.1.0 ∙ k.1.1.1.1.1.1.1.1.0),
-      points_room a.l a.h a.p a.helpers.now s.requires.0 a.found.now a.sides.now a.points.now a.coefs.now a.row.now a.cur.now s.requires.1
-          _ o.unknown_points.new.0 e k.0,
-      digits_first a.l a.h a.p a.helpers.now s.requires.0 _ _ e m.digit_count-s.ensures,
-      points_few a.l a.h a.p a.helpers.now s.requires.0 _ e,
+      points_room a.l a.h a.p a.helpers.now c.requires.0 a.found.now a.sides.now a.points.now a.coefs.now a.row.now a.cur.now c.requires.1
+          _ c.unknown_points.new.0 e k.0,
+      digits_first a.l a.h a.p a.helpers.now c.requires.0 _ _ e c.digit_count-s.ensures,
+      points_few a.l a.h a.p a.helpers.now c.requires.0 _ e,
     )
 
 returns : tie.Need-returns
 returns c =
-    let d = c.before.before.before.before.before.before in
-    let w = d.before.before.before.before.before.before.before.before.before.before.before.before in
-    let o = w.before.before.before.before.before.before.before.before in
-    let m = o.before.before.before in
-    let n = m.before in
-    let s = n.before.before.before.before.before.before.before.before.before in
-    let a = s.args in
-    multipliers_of working a.l a.h a.p a.helpers.now s.requires.0 _ _ _ _ _ n.unknown_count-n.ensures m.digit_count-s.ensures o.unknown_points.ensures
-    w.power_sides.ensures d.solve_first.ensures
+    
+    
+    
+    
+    
+    
+    let a = c.args in
+    multipliers_of working a.l a.h a.p a.helpers.now c.requires.0 _ _ _ _ _ c.unknown_count-n.ensures c.digit_count-s.ensures c.unknown_points.ensures
+    c.power_sides.ensures c.solve_first.ensures
 
 power_sides_requires : tie.Need-power_sides-requires
 power_sides_requires c κs =
-    let s = c.before.before.before.before.before.before.before.before.before.before.before in
-    (s.before.before.before.before.before.before.before.before.before.requires.0, search space_of)
+    
+    (c.requires.0, search space_of)
 
 pub solve_sides_spec : {M : Type 1} → statement M
 solve_sides_spec =

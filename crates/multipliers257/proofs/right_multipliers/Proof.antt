@@ -13,6 +13,6 @@ right_multipliers_spec =
     (λ c. search rules)
     (λ c. search rules)
     (λ c κs.
-    let s = c.before.before.before.before.before.before.before.before in (s.requires.0, rooms _ s.requires.1))
+    (c.requires.0, rooms _ c.requires.1))
     (λ c. search rules)
     (λ c. search rules))

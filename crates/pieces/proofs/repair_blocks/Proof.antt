@@ -22,7 +22,7 @@ cast_row_count : tie.Need-overflow-cast-row-count invariant-loop-k decreases-loo
 cast_row_count c = search rules
 
 row_count_requires : tie.Need-row_count-rows-requires invariant-loop-k decreases-loop-k
-row_count_requires c κs = let p = c.before.before.before.before.before.before.before.before.before.before.before.before.requires.0 in (p.adm.admissible.cabinet, p.losses.few)
+row_count_requires c κs = let p = c.requires.0 in (p.adm.admissible.cabinet, p.losses.few)
 
 loop_holds : tie.Need-loop-k-init invariant-loop-k decreases-loop-k
 loop_holds c = (omega arith, refl, refl, refl, refl, refl, refl, refl, piece_none _ _ _ _ _ _ _ _)
@@ -35,15 +35,15 @@ sub_block_at c = search rules
 
 block_at_requires : tie.Need-block_at-w-requires invariant-loop-k decreases-loop-k
 block_at_requires c κs = let p =
-    c.before.before.before.before.before.before.before.before.before.before.before.before.before.before.before.requires.0 in (
+    c.requires.0 in (
       p.adm.admissible.cabinet,
       omega arith,
       omega (
         arith,
         p.within,
-        groups_under c.before.before.before.before.before.before.before.before.before.before.before.before.before.before.before.args.l,
+        groups_under c.args.l,
       ),
-      c.before.before.row_count-rows.ensures.few,
+      c.row_count-rows.ensures.few,
     )
 
 add_repair_block : tie.Need-overflow-add-repair-block invariant-loop-k decreases-loop-k
@@ -51,18 +51,17 @@ add_repair_block c = search rules
 
 repair_block_requires : tie.Need-repair_block-requires invariant-loop-k decreases-loop-k
 repair_block_requires c κs =
-    let s =
-    c.before.before.before.before.before.before.before.before.before.before.before.before.before.before.before.before.before.before.before.before.before.before.before.before in
-    let a = s.args in
-    let o = c.before.before.before.before.before.before.before.before.before.before.loop-k in
-    let w = c.before.before.before.before.before.before.before.before.block_at-w in (
+    
+    let a = c.args in
+    let o = c.loop-k in
+    let w = c.block_at-w in (
       piecing_next gf256.order a.l a.lost.now a.helpers.now a.shares.now a.host.now a.first a.count o.k w.result a.spare.now _
-          s.requires.0 (omega (arith, w.ensures.1.within)) o.invariant.8.long,
-      groups_of a.l (a.first + o.k) (a.count - o.k) _ w.result (omega (arith, s.requires.0.within)) w.ensures.0 w.ensures.1,
+          c.requires.0 (omega (arith, w.ensures.1.within)) o.invariant.8.long,
+      groups_of a.l (a.first + o.k) (a.count - o.k) _ w.result (omega (arith, c.requires.0.within)) w.ensures.0 w.ensures.1,
       fitting_in a.l (length a.lost.now) _ _ _ _ a.count _ _
-          c.before.before.before.before.before.before.before.before.before.before.before.row_count-rows.ensures w.ensures.1
-          (omega (arith, w.ensures.1.within)) s.requires.1 o.invariant.1,
-      rooms_next a.sums.now a.sides.now a.found.now a.points.now a.coefs.now a.row.now a.cur.now _ _ _ _ _ _ _ s.requires.2 o.invariant.1
+          c.row_count-rows.ensures w.ensures.1
+          (omega (arith, w.ensures.1.within)) c.requires.1 o.invariant.1,
+      rooms_next a.sums.now a.sides.now a.found.now a.points.now a.coefs.now a.row.now a.cur.now _ _ _ _ _ _ _ c.requires.2 o.invariant.1
           o.invariant.2 o.invariant.3 o.invariant.4 o.invariant.5 o.invariant.6 o.invariant.7,
     )
 
@@ -75,12 +74,12 @@ loop_less c = omega arith
 loop_again : tie.Need-loop-k-preserved invariant-loop-k decreases-loop-k
 loop_again c =
     let a =
-    c.before.before.before.before.before.before.before.before.before.before.before.before.before.before.before.before.before.before.before.before.before.before.before.before.before.before.before.before.before.before.before.before.before.before.before.before.before.before.before.before.before.args in
+    c.args in
     let o =
-    c.before.before.before.before.before.before.before.before.before.before.before.before.before.before.before.before.before.before.before.before.before.before.before.before.before.before.before.loop-k in
-    let m = c.before.before.before.before.before.before.before.before.before.before.before.before.before.before.before.before.repair_block in
+    c.loop-k in
+    let m = c.repair_block in
     let w =
-    c.before.before.before.before.before.before.before.before.before.before.before.before.before.before.before.before.before.before.before.before.before.before.before.before.before.block_at-w.ensures.1.within in (
+    c.block_at-w.ensures.1.within in (
       omega arith,
       m.auto.1.1.1.1.1.1.1.1.0 ∙ o.inv.1,
       m.auto.1.1.1.1.1.1.1.1.1.0 ∙ o.inv.2,
@@ -120,8 +119,8 @@ same_length_8 c = search rules
 
 returns : tie.Need-returns invariant-loop-k decreases-loop-k
 returns c =
-    let a = c.before.before.before.before.before.before.before.before.before.before.before.before.before.before.before.args in
-    subst (λ n. Piece gf256 a.l a.lost.now a.helpers.now a.shares.now a.host.now a.first n a.spare.now c.before.loop-k.spare) (omega arith) c.before.loop-k.invariant.8
+    let a = c.args in
+    subst (λ n. Piece gf256 a.l a.lost.now a.helpers.now a.shares.now a.host.now a.first n a.spare.now c.loop-k.spare) (omega arith) c.loop-k.invariant.8
 
 pub repair_blocks_spec : {M : Type 1} → statement M
 repair_blocks_spec =

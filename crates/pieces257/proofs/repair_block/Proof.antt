@@ -18,27 +18,25 @@ cast_e c = search rules
 
 block_sums_requires : tie.Need-block_sums-requires
 block_sums_requires c κs =
-    let s =
-    c.before.before.before.before.before.before.before.before.before.before.before.before.before.before.before.before.before.before.before.before.before in
-    let a = s.args in
+    
+    let a = c.args in
     summing_of gf257.order a.l a.lost.now a.helpers.now a.shares.now a.host.now a.w a.first a.spare.now a.sums.now
-    a.sides.now a.found.now a.points.now a.coefs.now a.row.now a.cur.now s.requires.0 s.requires.1 s.requires.2 s.requires.3
+    a.sides.now a.found.now a.points.now a.coefs.now a.row.now a.cur.now c.requires.0 c.requires.1 c.requires.2 c.requires.3
 
 repair_block_requires : tie.Need-repair_block-requires
 repair_block_requires c κs =
-    let s =
-    c.before.before.before.before.before.before.before.before.before.before.before.before.before.before.before.before.before.before.before.before.before.before.before.before.before.before.before.before.before.before.before.before.before.before.before.before.before.before.before.before.before.before.before.before in
-    let a = s.args in
+    
+    let a = c.args in
     let k =
-    c.before.before.before.before.before.before.before.before.before.before.before.before.before.before.before.before.before.before.before.before.before.before.block_sums.auto in (
+    c.block_sums.auto in (
       repairing_of gf257.order a.l a.lost.now a.helpers.now a.shares.now a.host.now a.w a.first a.spare.now a.sums.now
-          a.sides.now a.found.now a.points.now a.coefs.now a.row.now a.cur.now s.requires.0 s.requires.1 s.requires.2 s.requires.3 gf257 _
+          a.sides.now a.found.now a.points.now a.coefs.now a.row.now a.cur.now c.requires.0 c.requires.1 c.requires.2 c.requires.3 gf257 _
           k.0,
       space_of gf257.order a.l a.lost.now a.helpers.now a.shares.now a.host.now a.w a.first a.spare.now a.sums.now
-          a.sides.now a.found.now a.points.now a.coefs.now a.row.now a.cur.now s.requires.0 s.requires.1 s.requires.2 s.requires.3 _ _ _ _ _ _
+          a.sides.now a.found.now a.points.now a.coefs.now a.row.now a.cur.now c.requires.0 c.requires.1 c.requires.2 c.requires.3 _ _ _ _ _ _
           k.1.1.1.1.1.1.1.1.0 k.1.1.1.1.1.1.1.1.1.0 k.1.1.1.1.1.1.1.1.1.1.0 k.1.1.1.1.1.1.1.1.1.1.1.0
           k.1.1.1.1.1.1.1.1.1.1.1.1.0 k.1.1.1.1.1.1.1.1.1.1.1.1.1.0,
-      s.requires.0.spare_long,
+      c.requires.0.spare_long,
     )
 
 same_length : tie.Need-shape_of-spare
@@ -67,14 +65,12 @@ same_length_8 c = search rules
 
 returns : tie.Need-returns
 returns c =
-    let s =
-    c.before.before.before.before.before.before.before.before.before.before.before.before.before.before.before.before.before.before.before.before.before.before.before.before.before.before.before.before.before.before.before.before.before.before.before.before.before.before.before.before.before.before.before.before.before.before.before.before.before.before.before.before.before.before.before.before.before.before.before
-    in
-    let a = s.args in
-    repaired_piece working a.l a.lost.now a.helpers.now a.shares.now a.host.now a.w a.first _ s.requires.0.adm s.requires.0.losses
-    s.requires.1.block s.requires.1.inside
-    c.before.before.before.before.before.before.before.before.before.before.before.before.before.before.before.before.before.before.before.before.before.before.before.before.before.before.before.before.before.before.before.before.before.before.before.before.before.block_sums.ensures a.spare.now _
-    c.before.before.before.before.before.before.before.before.before.before.before.before.before.before.repair_block.ensures
+    
+    let a = c.args in
+    repaired_piece working a.l a.lost.now a.helpers.now a.shares.now a.host.now a.w a.first _ c.requires.0.adm c.requires.0.losses
+    c.requires.1.block c.requires.1.inside
+    c.block_sums.ensures a.spare.now _
+    c.repair_block.ensures
 
 pub repair_block_spec : {M : Type 1} → statement M
 repair_block_spec =

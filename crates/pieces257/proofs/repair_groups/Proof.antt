@@ -12,14 +12,14 @@ pub repair_groups_spec : {M : Type 1} → statement M
 repair_groups_spec =
     tie.close (tie.spec
     (λ c. search rules)
-    (λ c κs. let p = c.before.before.before.before.before.requires in (p.adm.admissible.cabinet, p.losses.few))
+    (λ c κs. let p = c.requires in (p.adm.admissible.cabinet, p.losses.few))
     (λ c. search rules)
     (λ c.
-    let p = c.before.before.before.before.before.before.requires in
+    let p = c.requires in
     let b = bounds _ p.adm.admissible.cabinet in
-    let n : c.before.before.before.before.before.before.args.count ≤ 4096 = omega (arith, p.within, b.groups_high) in
+    let n : c.args.count ≤ 4096 = omega (arith, p.within, b.groups_high) in
     omega (arith, mul-le-mul c.row_count-rows.ensures.few n))
-    (λ c κs. (c.before.before.before.before.before.before.before.before.requires, few_of _ _ _ _ c.before.before.row_count-rows.ensures c.before.if-rows-count-le-BLOCK.true))
+    (λ c κs. (c.requires, few_of _ _ _ _ c.row_count-rows.ensures c.if-rows-count-le-BLOCK.true))
     (λ c. search rules)
     (λ c. search rules)
     (λ c κs. search rules)

@@ -27,7 +27,7 @@ slice_aggregate_repair_blocks_7 c = search rules
 
 repair_blocks_requires : tie.Need-repair_blocks-requires
 repair_blocks_requires c κs = (
-  c.before.before.before.before.before.before.before.before.before.before.before.before.before.requires,
+  c.requires,
   spacious _ _ _,
   rooms,
 )

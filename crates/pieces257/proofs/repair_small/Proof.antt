@@ -27,8 +27,8 @@ slice_aggregate_repair_blocks_7 c = search rules
 
 repair_blocks_requires : tie.Need-repair_blocks-requires
 repair_blocks_requires c κs =
-    let s = c.before.before.before.before.before.before.before.before.before.before.before.before.before in
-    (s.requires.0, few_spacious _ _ _ s.requires.1, small_rooms)
+    
+    (c.requires.0, few_spacious _ _ _ c.requires.1, small_rooms)
 
 same_length : tie.Need-shape_of-spare
 same_length c = search rules

@@ -34,13 +34,13 @@ raise_rack_spec =
       omega arith,
       search rules,
       search rules,
-      let c1 = c.before.before.before.before.before.before.before.before.before.before.before in let a =
-          c1.before.before.before.before.before.before.before.before.before.before.before.args in let s =
-          c.before.before.before.before.before.before.before.before.rack_sum in weights_more working a.l a.w a.first a.r a.c.now a.es.now
-          a.i a.sums-1.now c1.loop-m.sums c.before.before.raise_weight.new.0 s.last.0 c1.loop-m.m c1.loop-m.invariant.3 s.ensures
-          c.before.before.raise_weight.ensures,
+      let a =
+          c.args in let s =
+          c.rack_sum in weights_more working a.l a.w a.first a.r a.c.now a.es.now
+          a.i a.sums.now c.loop-m.sums c.raise_weight.new.0 s.last.0 c.loop-m.m c.loop-m.invariant.3 s.ensures
+          c.raise_weight.ensures,
       last_next working _ _ _ _ _ _ _ _
-          c.before.before.before.before.before.before.before.before.rack_sum.ensures,
+          c.rack_sum.ensures,
     ))
     (λ c. search rules)
     (λ c. search rules)

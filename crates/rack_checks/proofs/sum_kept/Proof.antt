@@ -10,7 +10,7 @@ sum_kept_spec =
     (λ c κs. search rules)
     (λ c κs. (search rules, search rules, search listed_few))
     (λ c κs.
-    let q = c.before.before.before.before.by_racks.ensures c.before.before.before.if-by_racks.true in
+    let q = c.by_racks.ensures c.if-by_racks.true in
     (search rules, search rules, search rules, search rules, record { few = q.0; racks_in = search rules; rest_listed = search rules; divides = q.1 }))
     (λ c. search rules)
     (λ c. search rules)

@@ -28,9 +28,9 @@ rack_points_spec =
     (λ c. search rack_fits)
     (λ c κs. (
       search rack_there,
-      let a = c.before.before.before.before.before.before.before.before.before.before.before.before.before.args in sampled_in a.l
-          a.w a.first a.es.now a.v a.run a.points.now a.row.now c.before.before.before.before.power_row.new.0
-          c.before.before.before.before.before.before.before.before.before.before.before.before.before.requires.0 (search rules),
+      let a = c.args in sampled_in a.l
+          a.w a.first a.es.now a.v a.run a.points.now a.row.now c.power_row.new.0
+          c.requires.0 (search rules),
       search rules,
     ))
     (λ c. omega arith)
@@ -39,12 +39,12 @@ rack_points_spec =
       omega arith,
       search rules,
       search rules,
-      let c1 = c.before.before in
-          let c2 = c1.before.before.before.before.before in
-          let c3 = c2.before.before.before.before in
-          let c4 = c3.before.before.before.before.before in
-          let a = c4.args in racks_more working a.l a.w a.first a.es.now a.v a.run c3.loop-i.i c2.power_row.new.0 c3.loop-i.points
-          c1.sample.new.0 c4.requires.0.width c4.requires.0.run_low c3.loop-i.invariant.3 c2.power_row.ensures c1.sample.ensures,
+      
+          
+          
+          
+          let a = c.args in racks_more working a.l a.w a.first a.es.now a.v a.run c.loop-i.i c.power_row.new.0 c.loop-i.points
+          c.sample.new.0 c.requires.0.width c.requires.0.run_low c.loop-i.invariant.3 c.power_row.ensures c.sample.ensures,
     ))
     (λ c. search rules)
     (λ c. search rules)

@@ -36,12 +36,12 @@ rack_symbols_spec =
       search rules,
       search rules,
       (λ h. search last_more),
-      let c1 = c.before.before in
-          let c2 = c1.before.before in
-          let c3 = c2.before.before.before.before in
-          let c4 = c3.before.before.before in
-          let a = c4.before.before.before.before.args in places_more gf256 a.u a.w a.i a.ys.now c4.loop-m.m c2.opposite_place.result a.found.now
-          c4.loop-m.found c1.copy.new.0 c3.weigh_rows.new.0 (omega arith) c2.opposite_place.ensures.0 c4.loop-m.invariant.4 c3.weigh_rows.ensures c1.copy.ensures,
+      
+          
+          
+          
+          let a = c.args in places_more gf256 a.u a.w a.i a.ys.now c.loop-m.m c.opposite_place.result a.found.now
+          c.loop-m.found c.copy.new.0 c.weigh_rows.new.0 (omega arith) c.opposite_place.ensures.0 c.loop-m.invariant.4 c.weigh_rows.ensures c.copy.ensures,
     ))
     (λ c. search rules)
     (λ c. search rules)

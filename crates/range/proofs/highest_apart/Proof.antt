@@ -20,10 +20,10 @@ highest_apart_spec =
     (λ c κs. search rules)
     (λ c κs. search rules)
     (λ c.
-    let c1 = c.before in
-    let c2 = c1.before in
-    let c3 = c2.before in
-    let c4 = c3.before in
-    let c5 = c4.before in
-    let c6 = c5.before in
-    apart_of _ _ _ _ _ _ _ _ _ _ c6.at.ensures c5.at-2.ensures c3.at-3.ensures c2.at-4.ensures c4.higher-low.ensures c1.higher-high.ensures c.higher.ensures))
+    
+    
+    
+    
+    
+    
+    apart_of _ _ _ _ _ _ _ _ _ _ c.at.ensures c.at-2.ensures c.at-3.ensures c.at-4.ensures c.higher-low.ensures c.higher-high.ensures c.higher.ensures))

@@ -21,8 +21,8 @@ highest_of_four_spec =
     (λ c. omega arith)
     (λ c. omega arith)
     (λ c.
-    let c1 = c.before in
-    let c2 = c1.before in
-    let c3 = c2.before in
-    let t = c.higher-top.ensures in (omega arith, four_more _ _ _ c3.loop-k.k c3.loop-k.top _ _ c3.loop-k.invariant.1 c2.loop-k-test.true c1.highest_apart.ensures t.0 t.1 t.2))
-    (λ c. four_end _ _ _ c.before.loop-k.k c.before.loop-k.top c.before.loop-k.invariant.1 (omega arith)))
+    
+    
+    
+    let t = c.higher-top.ensures in (omega arith, four_more _ _ _ c.loop-k.k c.loop-k.top _ _ c.loop-k.invariant.1 c.loop-k-test.true c.highest_apart.ensures t.0 t.1 t.2))
+    (λ c. four_end _ _ _ c.loop-k.k c.loop-k.top c.loop-k.invariant.1 (omega arith)))

@@ -17,9 +17,9 @@ invariant-loop-r xs rows width first count r₀ r = (r ≤ rows) × ((i : ℕ) �
 abbrev decreases-loop-r : tie.decreases-loop-r
 decreases-loop-r xs rows width first count r₀ r = rows - r
 
-inside : (c : tie.In-loop-r invariant-loop-r decreases-loop-r) → let a = c.before.before.before.args in c.before.loop-r.r * a.width + a.first + a.count ≤ length a.xs.now
-inside c = let a = c.before.before.before.args in let p = c.before.before.before.requires in row_in a.xs.now a.rows a.width a.first a.count
-    c.before.loop-r.r p.1 p.0 c.loop-r-test.true
+inside : (c : tie.In-loop-r invariant-loop-r decreases-loop-r) → let a = c.args in c.loop-r.r * a.width + a.first + a.count ≤ length a.xs.now
+inside c = let a = c.args in let p = c.requires in row_in a.xs.now a.rows a.width a.first a.count
+    c.loop-r.r p.1 p.0 c.loop-r-test.true
 
 pub rows_are_symbols_spec : {M : Type 1} → statement M
 rows_are_symbols_spec =
@@ -31,5 +31,5 @@ rows_are_symbols_spec =
     (λ c. search rows_false)
     (λ c. omega arith)
     (λ c. omega arith)
-    (λ c. (omega arith, below_more _ _ c.before.before.before.loop-r.invariant.1 (told_true c.before.are_symbols.ensures c.if-not-are_symbols.false-raw)))
-    (λ c. rows_true _ _ _ _ _ _ c.before.loop-r.r (omega arith) c.before.loop-r.invariant.1))
+    (λ c. (omega arith, below_more _ _ c.loop-r.invariant.1 (told_true c.are_symbols.ensures c.if-not-are_symbols.false-raw)))
+    (λ c. rows_true _ _ _ _ _ _ c.loop-r.r (omega arith) c.loop-r.invariant.1))

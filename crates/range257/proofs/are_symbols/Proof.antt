@@ -19,4 +19,4 @@ are_symbols_spec =
     (λ c κs. omega arith)
     (λ c κs. search rules)
     (λ c. search rules)
-    (λ c. let t = c.higher.ensures in symbols_highest gf257 _ _ _ _ _ _ _ _ pos (quarters _) c.before.before.highest_of_four-top.ensures c.before.highest-rest.ensures t.0 t.1 t.2))
+    (λ c. let t = c.higher.ensures in symbols_highest gf257 _ _ _ _ _ _ _ _ pos (quarters _) c.highest_of_four-top.ensures c.highest-rest.ensures t.0 t.1 t.2))

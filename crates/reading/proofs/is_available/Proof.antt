@@ -7,6 +7,6 @@ pub is_available_spec : {M : Type 1} → statement M
 is_available_spec =
     tie.close (tie.spec
     (λ c. search from_store)
-    (λ c. let h = done_high _ _ _ _ _ _ c.before.requires in record { fits = omega arith })
+    (λ c. let h = done_high _ _ _ _ _ _ c.requires in record { fits = omega arith })
     (λ c κs. search asked)
     (λ c. search from_spare))

@@ -9,8 +9,8 @@ pub in_range_spec : {M : Type 1} → statement M
 in_range_spec =
     tie.close (tie.spec
     (λ c κs. search rules)
-    (λ c. range_lost _ _ _ _ _ _ _ c.before.tray_count-n.ensures (omega arith))
-    (λ c. range_tray _ _ _ _ _ _ _ c.before.before.tray_count-n.ensures (omega arith))
+    (λ c. range_lost _ _ _ _ _ _ _ c.tray_count-n.ensures (omega arith))
+    (λ c. range_tray _ _ _ _ _ _ _ c.tray_count-n.ensures (omega arith))
     (λ c κs. search rules)
     (λ c. search rules)
     (λ c. search range_done)

@@ -11,28 +11,28 @@ use Rattle.reading257.proofs.read_part.Tie as tie
 
 abbrev Given : tie.Else-ground-ne0 → Type 0
 Given c =
-    let a = c.before.before.before.before.before.before.args in
+    let a = c.args in
     Accepted gf257.order a.l (length a.codeword.now) (length a.spare.now) a.lost.0 a.done a.tray.0 a.first a.end
 
 given : (c : tie.Else-ground-ne0) → Given c
 given c =
-    let a = c.before.before.before.before.before.before.args in
-    facts gf257.order a.l a.codeword.now a.spare.now a.lost.0 a.done a.tray.0 a.first a.end _ _ _ c.before.before.before.number-x.ensures
-    c.before.before.number-y.ensures c.before.refusal-ground.ensures c.if-ground-ne0.false
+    let a = c.args in
+    facts gf257.order a.l a.codeword.now a.spare.now a.lost.0 a.done a.tray.0 a.first a.end _ _ _ c.number-x.ensures
+    c.number-y.ensures c.refusal-ground.ensures c.if-ground-ne0.false
 
-spare_end : (c : tie.Else-ground-ne0) → c.before.before.before.before.before.before.args.end ≤ length c.before.before.before.before.before.before.args.spare.now
+spare_end : (c : tie.Else-ground-ne0) → c.args.end ≤ length c.args.spare.now
 spare_end c = let g = given c in omega (arith, g.spare_long, g.readable.end_in)
 
 -- the end of the run in the codeword
 codeword_end : (c : tie.After-layer_count) →
-    c.before.before.before.before.number-y.result * c.layer_count.result + c.before.before.before.before.before.before.before.before.args.end ≤
-    length c.before.before.before.before.before.before.before.before.args.codeword.now
+    c.number-y.result * c.layer_count.result + c.args.end ≤
+    length c.args.codeword.now
 codeword_end c =
-    run_end (given c.before.before) c.before.before.before.before.number-y.ensures c.layer_count.ensures
+    run_end (given c.before.before) c.number-y.ensures c.layer_count.ensures
 
 high : (c : tie.After-layer_count) →
-    c.before.before.before.before.number-y.result * c.layer_count.result + c.before.before.before.before.before.before.before.before.args.end ≤ tray_limit * layer_limit
-high c = run_high (given c.before.before) c.before.before.before.before.number-y.ensures c.layer_count.ensures
+    c.number-y.result * c.layer_count.result + c.args.end ≤ tray_limit * layer_limit
+high c = run_high (given c.before.before) c.number-y.ensures c.layer_count.ensures
 
 pub read_part_spec : {M : Type 1} → statement M
 read_part_spec =

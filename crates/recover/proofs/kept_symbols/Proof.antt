@@ -27,5 +27,5 @@ kept_symbols_spec =
     (λ c. search kept_false)
     (λ c. omega arith)
     (λ c. omega arith)
-    (λ c. (omega arith, below_more _ _ c.before.before.before.loop-x.invariant.1 (tray_so gf256 _ _ _ _ _ c.before.kept_tray.ensures c.if-not-kept_tray.false-raw)))
-    (λ c. kept_true _ _ _ _ c.before.loop-x.x _ _ c.before.before.before.tray_count-n.ensures c.before.before.layer_count-total.ensures (omega arith) c.before.loop-x.invariant.1))
+    (λ c. (omega arith, below_more _ _ c.loop-x.invariant.1 (tray_so gf256 _ _ _ _ _ c.kept_tray.ensures c.if-not-kept_tray.false-raw)))
+    (λ c. kept_true _ _ _ _ c.loop-x.x _ _ c.tray_count-n.ensures c.layer_count-total.ensures (omega arith) c.loop-x.invariant.1))

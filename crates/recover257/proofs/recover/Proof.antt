@@ -13,30 +13,30 @@ use Rattle.recover.proofs.Answers.{answer_refused, answer_none, answer_done, tol
 use Rattle.recover257.proofs.recover.Statement.{statement}
 use Rattle.recover257.proofs.recover.Tie as tie
 
-none : (c : tie.Else-ground-ne0) → let a = c.before.before.before.before.before.args in recover_refusal gf257 a.l a.erased.now a.c.now ≡ 0
-none c = sym c.before.refusal-ground.ensures ∙ c.if-ground-ne0.false
+none : (c : tie.Else-ground-ne0) → let a = c.args in recover_refusal gf257 a.l a.erased.now a.c.now ≡ 0
+none c = sym c.refusal-ground.ensures ∙ c.if-ground-ne0.false
 
 pub recover_spec : {M : Type 1} → statement M
 recover_spec =
     tie.close (tie.spec
     (λ c κs. search rules)
     (λ c. search rules)
-    (λ c. let a = c.before.before.before.before.before.args in answer_refused working a.l a.erased.now a.c.now _ c.before.refusal-ground.ensures c.if-ground-ne0.true)
+    (λ c. let a = c.args in answer_refused working a.l a.erased.now a.c.now _ c.refusal-ground.ensures c.if-ground-ne0.true)
     (λ c κs. (recoverable working _ _ _ (none c)).adm.cabinet)
-    (λ c κs. let p = c.before.before in let a = p.before.before.before.before.before.args in
-    (told working a.l a.erased.now a.c.now (none p) _ c.before.layer_count-total.ensures, (recoverable working _ _ _ (none p)).adm))
+    (λ c κs. let p = c.before.before in let a = c.args in
+    (told working a.l a.erased.now a.c.now (none p) _ c.layer_count-total.ensures, (recoverable working _ _ _ (none p)).adm))
     (λ c. search rules)
     (λ c.
-    let t = c.before.all_fit in let p = c.before.before.before.before in let a = p.before.before.before.before.before.args in
+    let t = c.all_fit in let p = c.before.before.before.before in let a = c.args in
     answer_none working a.l a.erased.now a.c.now (none p) (says_false t.result (not-true t.result c.if-not-all_fit.true-raw) t.ensures))
     (λ c κs.
     let c1 = c.before.before.before.before in
     let c2 = c1.before in
-    let p = c2 in let a = p.before.before.before.before.before.args in told working a.l a.erased.now a.c.now (none p) _ c1.layer_count-total.ensures)
+    let p = c2 in let a = c.args in told working a.l a.erased.now a.c.now (none p) _ c.layer_count-total.ensures)
     (λ c. search rules)
     (λ c.
     let c1 = c.before.before in
     let c2 = c1.before.before in
     let c3 = c2.before.before.before.before in
-    let s = c2 in let t = s.before.all_fit in let p = c3 in let a = p.before.before.before.before.before.args in answer_done working a.l a.erased.now
-    a.c.now (none p) _ (says_true t.result (not-false t.result s.if-not-all_fit.false-raw) t.ensures) c1.restore.ensures))
+    let t = c.all_fit in let p = c3 in let a = c.args in answer_done working a.l a.erased.now
+    a.c.now (none p) _ (says_true t.result (not-false t.result c.if-not-all_fit.false-raw) t.ensures) c.restore.ensures))

@@ -16,37 +16,37 @@ use Rattle.recover.proofs.Grounds.{ground_1, ground_2, ground_3, ground_3_symbol
 use Rattle.recover257.proofs.refusal.Statement.{statement}
 use Rattle.recover257.proofs.refusal.Tie as tie
 
-adm : (c : tie.Else-not-admitted) → admissible gf257.order c.before.before.before.before.args.l ≡ true
-adm c = sym c.before.admitted.ensures ∙ not-false _ c.if-not-admitted.false-raw
+adm : (c : tie.Else-not-admitted) → admissible gf257.order c.args.l ≡ true
+adm c = sym c.admitted.ensures ∙ not-false _ c.if-not-admitted.false-raw
 
-facts : (c : tie.Else-not-admitted) → Cabinet c.before.before.before.before.args.l
+facts : (c : tie.Else-not-admitted) → Cabinet c.args.l
 facts c = (admissible_facts gf257.order _ (adm c)).cabinet
 
-size : (c : tie.After-tray_count-n) → let l = c.before.before.before.before.before.before.args.l in c.tray_count-n.result * c.before.layer_count-total.result ≡ trays l * layers l
-size c = ap₂ ◌*◌ c.tray_count-n.ensures c.before.layer_count-total.ensures
+size : (c : tie.After-tray_count-n) → let l = c.args.l in c.tray_count-n.result * c.layer_count-total.result ≡ trays l * layers l
+size c = ap₂ ◌*◌ c.tray_count-n.ensures c.layer_count-total.ensures
 
-long : (c : tie.Else-c-n) → let a = c.before.before.before.before.before.before.before.args in length a.c.now ≡ trays a.l * layers a.l
+long : (c : tie.Else-c-n) → let a = c.args in length a.c.now ≡ trays a.l * layers a.l
 long c = c.if-c-n.false ∙ size c.before
 
-inside : (c : tie.After-all_below) → let a = c.before.before.before.before.before.before.before.before.args in c.all_below.result ≡ all_below a.es.now (trays a.l)
-inside c = c.all_below.ensures ∙ ap (all_below c.before.before.before.before.before.before.before.before.args.es.now) c.before.before.tray_count-n.ensures
+inside : (c : tie.After-all_below) → let a = c.args in c.all_below.result ≡ all_below a.es.now (trays a.l)
+inside c = c.all_below.ensures ∙ ap (all_below c.args.es.now) c.tray_count-n.ensures
 
-below : (c : tie.Else-not-all_below) → let a = c.before.before.before.before.before.before.before.before.before.args in all_below a.es.now (trays a.l) ≡ true
+below : (c : tie.Else-not-all_below) → let a = c.args in all_below a.es.now (trays a.l) ≡ true
 below c = sym (inside c.before) ∙ not-false _ c.if-not-all_below.false-raw
 
-symbols : (c : tie.Else-not-kept_symbols) → let a = c.before.before.before.before.before.before.before.before.before.before.before.args in kept_symbols gf257 a.l
+symbols : (c : tie.Else-not-kept_symbols) → let a = c.args in kept_symbols gf257 a.l
     a.es.now a.c.now ≡ true
-symbols c = sym c.before.kept_symbols.ensures ∙ not-false _ c.if-not-kept_symbols.false-raw
+symbols c = sym c.kept_symbols.ensures ∙ not-false _ c.if-not-kept_symbols.false-raw
 
-up : (c : tie.Else-not-strictly_rising) → strictly_rising c.before.before.before.before.before.before.before.before.before.before.before.before.before.args.es.now ≡ true
-up c = sym c.before.strictly_rising.ensures ∙ not-false _ c.if-not-strictly_rising.false-raw
+up : (c : tie.Else-not-strictly_rising) → strictly_rising c.args.es.now ≡ true
+up c = sym c.strictly_rising.ensures ∙ not-false _ c.if-not-strictly_rising.false-raw
 
 pub refusal_spec : {M : Type 1} → statement M
 refusal_spec =
     tie.close (tie.spec
     (λ c. search rules)
     (λ c κs. omega arith)
-    (λ c. ground_1 _ _ _ _ (sym c.before.admitted.ensures ∙ not-true _ c.if-not-admitted.true-raw))
+    (λ c. ground_1 _ _ _ _ (sym c.admitted.ensures ∙ not-true _ c.if-not-admitted.true-raw))
     (λ c κs. facts c)
     (λ c. search rules)
     (λ c κs. facts c.before)
@@ -61,7 +61,7 @@ refusal_spec =
     let c2 = c1.before in
     let c3 = c2.before.before in
     let c4 = c3.before.before.before in
-    ground_3_symbols _ _ _ _ (adm c4) (long c3) (below c2) (sym c1.kept_symbols.ensures ∙ not-true _ c.if-not-kept_symbols.true-raw))
+    ground_3_symbols _ _ _ _ (adm c4) (long c3) (below c2) (sym c.kept_symbols.ensures ∙ not-true _ c.if-not-kept_symbols.true-raw))
     (λ c κs. search rules)
     (λ c.
     let c1 = c.before in
@@ -69,7 +69,7 @@ refusal_spec =
     let c3 = c2.before.before in
     let c4 = c3.before.before in
     let c5 = c4.before.before.before in
-    ground_4 _ _ _ _ (adm c5) (long c4) (below c3) (symbols c2) (sym c1.strictly_rising.ensures ∙ not-true _ c.if-not-strictly_rising.true-raw))
+    ground_4 _ _ _ _ (adm c5) (long c4) (below c3) (symbols c2) (sym c.strictly_rising.ensures ∙ not-true _ c.if-not-strictly_rising.true-raw))
     (λ c κs. facts c.before.before.before.before.before.before.before.before.before)
     (λ c. search rules)
     (λ c. ground_5 _ _ _ _ (adm c.before.before.before.before.before.before.before.before.before.before.before)

@@ -8,27 +8,27 @@ pub correct_spec : {M : Type 1} → statement M
 correct_spec =
     tie.close
     (tie.spec
-    (λ c κs. (counts_told working _ _ _ c.before.before.requires.0 c.before.before.requires.1).0)
-    (λ c κs. counts_told working _ _ _ c.before.before.before.requires.0 c.before.before.before.requires.1)
-    (λ c. let a = c.before.before.before.before.before.args in answer_few working a.l a.es.now a.c.now
-    c.before.before.before.before.before.requires.0 c.before.before.before.before.before.requires.1 _
-    c.before.left_over-left.ensures c.if-left-lt2.true)
-    (λ c κs. let a = c.before.before.before.before.before.before.args in replace_asks working a.l a.es.now a.c.now
-    c.before.before.before.before.before.before.requires.0 c.before.before.before.before.before.before.requires.1 _
-    c.before.before.left_over-left.ensures c.before.if-left-lt2.false)
+    (λ c κs. (counts_told working _ _ _ c.requires.0 c.requires.1).0)
+    (λ c κs. counts_told working _ _ _ c.requires.0 c.requires.1)
+    (λ c. let a = c.args in answer_few working a.l a.es.now a.c.now
+    c.requires.0 c.requires.1 _
+    c.left_over-left.ensures c.if-left-lt2.true)
+    (λ c κs. let a = c.args in replace_asks working a.l a.es.now a.c.now
+    c.requires.0 c.requires.1 _
+    c.left_over-left.ensures c.if-left-lt2.false)
     (λ c. search rules)
-    (λ c. let a = c.before.before.before.before.before.before.before.before.before.before.args in answer_none working a.l
-    a.es.now a.c.now c.before.before.before.before.before.before.before.before.before.before.requires.0
-    c.before.before.before.before.before.before.before.before.before.before.requires.1 _ _ _ _
-    c.before.before.before.before.before.before.before.tray_count-n.ensures
-    c.before.before.before.before.before.before.left_over-left.ensures
-    c.before.before.before.before.before.if-left-lt2.false c.before.before.before.replace-x.ensures
+    (λ c. let a = c.args in answer_none working a.l
+    a.es.now a.c.now c.requires.0
+    c.requires.1 _ _ _ _
+    c.tray_count-n.ensures
+    c.left_over-left.ensures
+    c.if-left-lt2.false c.replace-x.ensures
     c.if-n-x.true)
     (λ c. search rules)
-    (λ c. let a = c.before.before.before.before.before.before.before.before.before.before.args in answer_named working a.l
-    a.es.now a.c.now c.before.before.before.before.before.before.before.before.before.before.requires.0
-    c.before.before.before.before.before.before.before.before.before.before.requires.1 _ _ _ _
-    c.before.before.before.before.before.before.before.tray_count-n.ensures
-    c.before.before.before.before.before.before.left_over-left.ensures
-    c.before.before.before.before.before.if-left-lt2.false c.before.before.before.replace-x.ensures
+    (λ c. let a = c.args in answer_named working a.l
+    a.es.now a.c.now c.requires.0
+    c.requires.1 _ _ _ _
+    c.tray_count-n.ensures
+    c.left_over-left.ensures
+    c.if-left-lt2.false c.replace-x.ensures
     c.if-n-x.false))

@@ -29,10 +29,10 @@ find_wrong_spec =
     (λ c. search rules)
     (λ c. (
       omega arith,
-      c.before.before.before.fits_without.ensures.begun,
+      c.fits_without.ensures.begun,
       none_more gf257 _ _ _
-          c.before.before.before.before.before.before.loop-x.x _ _ c.before.before.before.before.before.before.loop-x.invariant.2
-          c.before.before.before.fits_without.ensures c.if-fits_without.false,
+          c.loop-x.x _ _ c.loop-x.invariant.2
+          c.fits_without.ensures c.if-fits_without.false,
     ))
     (λ c. search rules)
     (λ c. search found_none))

@@ -9,9 +9,9 @@ pub fits_without_spec : {M : Type 1} → statement M
 fits_without_spec =
     tie.close
     (tie.spec (λ c κs. search rules) (λ c. search tried_listed) (λ c κs. search rules)
-    (λ c κs. let a = c.before.before.before.before.before.before.before.before.before.before.args in
-    let p = c.before.before.before.before.before.before.before.before.before.before.requires in try_told gf257 a.l
+    (λ c κs. let a = c.args in
+    let p = c.requires in try_told gf257 a.l
     a.es.now a.c.now a.x a.total a.list.now _ p.0 p.1 p.2 _
-    c.before.before.before.before.before.before.is_absent.ensures
-    c.before.before.before.before.before.if-not-is_absent.false-raw c.before.before.before.put_last.ensures)
+    c.is_absent.ensures
+    c.if-not-is_absent.false-raw c.put_last.ensures)
     (λ c. search rules) (λ c. search tried_so))

@@ -10,22 +10,22 @@ recover_correcting_spec =
     tie.close
     (tie.spec
     (λ c κs. search rules)
-    (λ c κs. let a = c.before.before.before.before.before.before.before.before.args in correct_told working a.l
-    a.erased.now a.c.now _ _ c.before.before.before.before.recover-number.ensures c.before.if-number-eq8.true)
+    (λ c κs. let a = c.args in correct_told working a.l
+    a.erased.now a.c.now _ _ c.recover-number.ensures c.if-number-eq8.true)
     (λ c. search rules)
-    (λ c. let a = c.before.before.before.before.before.before.before.before.before.before.before.args in
+    (λ c. let a = c.args in
     correction_answer working a.l a.erased.now a.c.now _ _
-    c.before.before.before.before.before.before.before.recover-number.ensures c.before.before.correct.new.1.0
-    c.before.before.correct.result c.before.before.before.before.if-number-eq8.true c.before.before.correct.ensures)
+    c.recover-number.ensures c.correct.new.1.0
+    c.correct.result c.if-number-eq8.true c.correct.ensures)
     (λ c. search rules)
-    (λ c. let a = c.before.before.before.before.before.before.before.before.args in answer_refused working a.l
-    a.erased.now a.c.now _ _ c.before.before.before.before.recover-number.ensures c.before.if-number-eq8.false c.if-number-ne0.true)
-    (λ c κs. let a = c.before.before.before.before.before.before.before.before.args in (done_told working a.l a.erased.now
-    a.c.now _ _ c.before.before.before.before.recover-number.ensures c.before.if-number-eq8.false c.if-number-ne0.false).0)
-    (λ c κs. let a = c.before.before.before.before.before.before.before.before.before.args in done_told working a.l
-    a.erased.now a.c.now _ _ c.before.before.before.before.before.recover-number.ensures c.before.before.if-number-eq8.false
-    c.before.if-number-ne0.false)
+    (λ c. let a = c.args in answer_refused working a.l
+    a.erased.now a.c.now _ _ c.recover-number.ensures c.if-number-eq8.false c.if-number-ne0.true)
+    (λ c κs. let a = c.args in (done_told working a.l a.erased.now
+    a.c.now _ _ c.recover-number.ensures c.if-number-eq8.false c.if-number-ne0.false).0)
+    (λ c κs. let a = c.args in done_told working a.l
+    a.erased.now a.c.now _ _ c.recover-number.ensures c.if-number-eq8.false
+    c.if-number-ne0.false)
     (λ c. search rules)
-    (λ c. let a = c.before.before.before.before.before.before.before.before.before.before.args in answer_sound working a.l
-    a.erased.now a.c.now _ _ c.before.before.before.before.before.before.recover-number.ensures _ _
-    c.before.before.if-number-ne0.false c.before.tray_count.ensures c.left_over.ensures))
+    (λ c. let a = c.args in answer_sound working a.l
+    a.erased.now a.c.now _ _ c.recover-number.ensures _ _
+    c.if-number-ne0.false c.tray_count.ensures c.left_over.ensures))

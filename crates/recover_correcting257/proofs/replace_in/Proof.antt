@@ -12,13 +12,13 @@ replace_in_spec =
     (tie.spec
     (λ c. search rules)
     (λ c. search rules)
-    (λ c. let a = c.before.before.before.before.before.args in sym (room_cut gf257.order a.l a.total a.es.now
-    a.c.now a.room.now c.before.before.before.before.before.requires.0 c.before.before.before.before.before.requires.1))
-    (λ c κs. let a = c.before.before.before.before.before.args in (
-      c.before.before.before.before.before.requires.0,
+    (λ c. let a = c.args in sym (room_cut gf257.order a.l a.total a.es.now
+    a.c.now a.room.now c.requires.0 c.requires.1))
+    (λ c κs. let a = c.args in (
+      c.requires.0,
       room_cut
-          gf257.order a.l a.total a.es.now a.c.now a.room.now c.before.before.before.before.before.requires.0
-          c.before.before.before.before.before.requires.1,
+          gf257.order a.l a.total a.es.now a.c.now a.room.now c.requires.0
+          c.requires.1,
     ))
     (λ c. search rules)
     (λ c. search rules)

@@ -14,15 +14,15 @@ replace_wrong_spec =
     (λ c κs. search rules)
     (λ c. search rules)
     (λ c. search rules)
-    (λ c. let a = c.before.before.before.before.before.before.before.before.before.before.before.before.before.before.args in replaced_none gf257 a.l a.es.now a.c.now _ _ _
-    c.before.before.before.before.before.before.before.before.before.before.tray_count-n.ensures
-    c.before.before.before.find_wrong-x.ensures c.if-n-x.true)
-    (λ c κs. let a = c.before.before.before.before.before.before.before.before.before.before.before.before.before.before.before.before.args in replace_told gf257 a.l a.es.now a.c.now _ _ _
-    c.before.before.before.before.before.before.before.before.before.before.before.before.tray_count-n.ensures
-    c.before.before.before.before.before.find_wrong-x.ensures c.before.before.if-n-x.false a.total
-    c.before.before.before.before.before.before.before.before.before.before.before.before.before.before.before.before.requires.0)
+    (λ c. let a = c.args in replaced_none gf257 a.l a.es.now a.c.now _ _ _
+    c.tray_count-n.ensures
+    c.find_wrong-x.ensures c.if-n-x.true)
+    (λ c κs. let a = c.args in replace_told gf257 a.l a.es.now a.c.now _ _ _
+    c.tray_count-n.ensures
+    c.find_wrong-x.ensures c.if-n-x.false a.total
+    c.requires.0)
     (λ c. search rules)
     (λ c. search rules)
-    (λ c. let a = c.before.before.before.before.before.before.before.before.before.before.before.before.before.before.before.before.before.before.before.args in replaced_one gf257 a.l a.es.now a.c.now _ _ _
-    c.before.before.before.before.before.before.before.before.before.before.before.before.before.before.before.tray_count-n.ensures c.before.before.before.before.before.before.before.before.find_wrong-x.ensures
-    c.before.before.before.before.before.if-n-x.false _ c.before.before.restore.ensures))
+    (λ c. let a = c.args in replaced_one gf257 a.l a.es.now a.c.now _ _ _
+    c.tray_count-n.ensures c.find_wrong-x.ensures
+    c.if-n-x.false _ c.restore.ensures))

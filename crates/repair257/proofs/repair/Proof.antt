@@ -15,8 +15,8 @@ repair_spec =
     (λ c κs. search rules)
     (λ c. search rules)
     (λ c.
-    let c1 = c.before.before in
-    let c2 = c1.before.before.before in
-    let c3 = c2.before.before.before.before.before in
-    let a = c3.args in subst (λ y. RepairAnswer gf257 a.l (y ∷ []) a.helpers.now a.shares.now a.host.now a.first a.budget a.spare.now
-    c1.repair_named.new.1.1.0 c1.repair_named.result) c2.number.ensures c1.repair_named.ensures))
+    
+    
+    
+    let a = c.args in subst (λ y. RepairAnswer gf257 a.l (y ∷ []) a.helpers.now a.shares.now a.host.now a.first a.budget a.spare.now
+    c.repair_named.new.1.1.0 c.repair_named.result) c.number.ensures c.repair_named.ensures))

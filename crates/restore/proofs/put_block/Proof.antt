@@ -20,7 +20,7 @@ put_block_spec =
     (λ c. (omega arith, refl, put_none _ _ _ _ _ _))
     (λ c. search rules)
     (λ c. omega arith)
-    (λ c. record { fits = omega (arith, c.shared_slice_known-in-loop-k-1.given c.before.before.before.loop-k.k) })
+    (λ c. record { fits = omega (arith, c.shared_slice_known-in-loop-k-1.given c.loop-k.k) })
     (λ c. search put_fits)
     (λ c. search put_fits_2)
     (λ c. search put_fits_3)

@@ -13,8 +13,8 @@ all_fit_spec =
     (λ c κs. search rules)
     (λ c. search rules)
     (λ c.
-    let c1 = c.before in
-    let c2 = c1.before.before.before in
-    let a = c2.args in fit_all working a.l a.total a.es.now a.c.now c2.requires.0 c2.requires.1 (c.if-es-check_count.true ∙ c1.check_count.ensures))
+    
+    
+    let a = c.args in fit_all working a.l a.total a.es.now a.c.now c.requires.0 c.requires.1 (c.if-es-check_count.true ∙ c.check_count.ensures))
     (λ c κs. search rules)
     (λ c. search rules))

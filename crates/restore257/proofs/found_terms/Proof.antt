@@ -29,12 +29,12 @@ found_terms_spec =
     (λ c. omega arith)
     (λ c κs. (search rules, search term_tray, omega arith))
     (λ c κs. let a =
-    c.before.before.before.before.before.before.before.before.before.before.before.before.before.before.before.before.before.before.before.args
+    c.args
     in room_next a.w a.r a.sums.now a.cur.now a.row.now
-    c.before.before.before.before.before.before.before.before.before.before.before.before.before.loop-k.sums
-    c.before.before.before.before.before.before.before.before.before.before.copy.new.0
-    c.before.before.before.before.before.tray_points.new.0
-    c.before.before.before.before.before.before.before.before.before.before.before.before.before.before.before.before.before.before.before.requires.2 c.before.before.before.before.before.before.before.before.before.before.before.before.before.loop-k.invariant.1 (search rules)
+    c.loop-k.sums
+    c.copy.new.0
+    c.tray_points.new.0
+    c.requires.2 c.loop-k.invariant.1 (search rules)
     (search rules))
     (λ c. omega arith)
     (λ c. omega arith)
@@ -43,14 +43,14 @@ found_terms_spec =
       search rules,
       search rules,
       search rules,
-      let c1 = c.before.before.before.before in
-          let c2 = c1.before.before.before.before.before.before in
-          let c3 = c2.before.before.before.before.before in
-          let c4 = c3.before.before.before in
-          let c5 = c4.before.before.before.before.before.before in
-          let a = c5.args in terms_more working a.l a.w a.first a.r a.es.now a.found.now c4.loop-k.k c4.loop-k.cur c3.copy.new.0
-          c2.tray_points.new.0 a.sums.now c4.loop-k.sums c1.add_terms.new.0 c4.loop-k.invariant.4 c3.copy.ensures c2.tray_points.ensures
-          c1.add_terms.ensures,
+      
+          
+          
+          
+          
+          let a = c.args in terms_more working a.l a.w a.first a.r a.es.now a.found.now c.loop-k.k c.loop-k.cur c.copy.new.0
+          c.tray_points.new.0 a.sums.now c.loop-k.sums c.add_terms.new.0 c.loop-k.invariant.4 c.copy.ensures c.tray_points.ensures
+          c.add_terms.ensures,
     ))
     (λ c. search rules)
     (λ c. search rules)

@@ -26,47 +26,47 @@ restore_blocks_spec =
     tie.close (tie.spec invariant-loop-q decreases-loop-q
     (λ c κs. (search rules, omega arith))
     (λ c.
-    let c1 = c.before.before.before.before.before.before.before.before.before in
-    width_pos c1.args.l c1.args.e c.block_width-w.result c1.args.total c1.requires.1.adm c1.requires.0 c.block_width-w.ensures
-    c1.requires.1.total_is)
+    
+    width_pos c.args.l c.args.e c.block_width-w.result c.args.total c.requires.1.adm c.requires.0 c.block_width-w.ensures
+    c.requires.1.total_is)
     (λ c. (omega arith, refl, refl, refl, refl, refl, refl, refl, restored_none working _ _ _ _))
     (λ c.
-    let c1 = c.before in
-    let c2 = c1.before in
-    let c3 = c2.before in
-    let c4 = c3.before.before.before.before.before.before.before.before.before in
-    start_fits c4.args.l c3.block_width-w.result (c2.loop-q.q * c3.block_width-w.result) (block_of c4.args.l c4.args.e
-    c3.block_width-w.result c4.args.total c4.requires.1.adm c4.requires.0 c3.block_width-w.ensures c4.requires.1.total_is c2.loop-q.q
-    c1.loop-q-test.true))
+    
+    
+    
+    
+    start_fits c.args.l c.block_width-w.result (c.loop-q.q * c.block_width-w.result) (block_of c.args.l c.args.e
+    c.block_width-w.result c.args.total c.requires.1.adm c.requires.0 c.block_width-w.ensures c.requires.1.total_is c.loop-q.q
+    c.loop-q-test.true))
     (λ c κs.
-    let c1 = c.before.before.before.before.before.before.before in
-    let c2 = c1.before in
-    let c3 = c2.before in
-    let c4 = c3.before.before.before.before.before.before.before.before.before in
-    let a = c4.args in let p = c4.requires in (
-      (block_of a.l a.e c3.block_width-w.result a.total c4.requires.1.adm c4.requires.0 c3.block_width-w.ensures
-          c4.requires.1.total_is c2.loop-q.q c1.loop-q-test.true),
+    
+    
+    
+    
+    let a = c.args in let p = c.requires in (
+      (block_of a.l a.e c.block_width-w.result a.total c.requires.1.adm c.requires.0 c.block_width-w.ensures
+          c.requires.1.total_is c.loop-q.q c.loop-q-test.true),
       p.0,
-      c3.block_width-w.ensures,
+      c.block_width-w.ensures,
       erasing_next a.l a.total a.es.now a.c.now
-          c2.loop-q.c p.1 c2.loop-q.invariant.1,
-      space_next a.l c3.block_width-w.result a.sums.now a.found.now a.points.now a.coefs.now
-          a.row.now c2.loop-q.sums c2.loop-q.found c2.loop-q.points c2.loop-q.coefs c2.loop-q.row
-          (space_as a.l a.e c3.block_width-w.result a.sums.now a.found.now a.points.now a.coefs.now a.row.now c3.block_width-w.ensures
-          p.2) c2.loop-q.invariant.2 c2.loop-q.invariant.3 c2.loop-q.invariant.4 c2.loop-q.invariant.5 c2.loop-q.invariant.6,
-      omega (arith, c3.block_width-w.ensures, p.3, c2.loop-q.invariant.7),
+          c.loop-q.c p.1 c.loop-q.invariant.1,
+      space_next a.l c.block_width-w.result a.sums.now a.found.now a.points.now a.coefs.now
+          a.row.now c.loop-q.sums c.loop-q.found c.loop-q.points c.loop-q.coefs c.loop-q.row
+          (space_as a.l a.e c.block_width-w.result a.sums.now a.found.now a.points.now a.coefs.now a.row.now c.block_width-w.ensures
+          p.2) c.loop-q.invariant.2 c.loop-q.invariant.3 c.loop-q.invariant.4 c.loop-q.invariant.5 c.loop-q.invariant.6,
+      omega (arith, c.block_width-w.ensures, p.3, c.loop-q.invariant.7),
     ))
     (λ c.
-    let c1 = c.before.before.before.before.before.before.before.before.before.before.before.before.before.before.before.before.before.before.before.before.before.before in
-    let c2 = c1.before in
-    let c3 = c2.before in
-    let c4 = c3.before.before.before.before.before.before.before.before.before in
-    count_fits c4.args.l c4.args.total c3.block_width-w.result c2.loop-q.q c4.args.es.now c4.args.c.now c4.requires.1
-    c1.loop-q-test.true)
+    
+    
+    
+    
+    count_fits c.args.l c.args.total c.block_width-w.result c.loop-q.q c.args.es.now c.args.c.now c.requires.1
+    c.loop-q-test.true)
     (λ c. omega arith)
     (λ c. (
-      let c1 = c.before.before.before.before.before.before.before.before.before.before.before.before.before.before.before.before.before.before.before.before.before.before in
-          omega (arith, c1.loop-q-test.true),
+      
+          omega (arith, c.loop-q-test.true),
       search rules,
       search rules,
       search rules,
@@ -74,14 +74,14 @@ restore_blocks_spec =
       search rules,
       search rules,
       search rules,
-      let c1 = c.before.before.before.before.before.before.before.before.before.before.before.before.before.before in
-          let c2 = c1.before.before.before.before.before.before.before.before in
-          let c3 = c2.before in
-          let c4 = c3.before in
-          let c5 = c4.before.before.before.before.before.before.before.before.before in
-          let a = c5.args in restored_more working a.l a.es.now a.c.now c4.block_width-w.result c3.loop-q.q c3.loop-q.c c1.restore_block.new.0
-          c5.requires.1.listed.places (block_of a.l a.e c4.block_width-w.result a.total c5.requires.1.adm c5.requires.0 c4.block_width-w.ensures
-          c5.requires.1.total_is c3.loop-q.q c2.loop-q-test.true).inside c3.loop-q.invariant.8 c1.restore_block.ensures,
+      
+          
+          
+          
+          
+          let a = c.args in restored_more working a.l a.es.now a.c.now c.block_width-w.result c.loop-q.q c.loop-q.c c.restore_block.new.0
+          c.requires.1.listed.places (block_of a.l a.e c.block_width-w.result a.total c.requires.1.adm c.requires.0 c.block_width-w.ensures
+          c.requires.1.total_is c.loop-q.q c.loop-q-test.true).inside c.loop-q.invariant.8 c.restore_block.ensures,
     ))
     (λ c. search rules)
     (λ c. search rules)
@@ -91,9 +91,9 @@ restore_blocks_spec =
     (λ c. search rules)
     (λ c. search rules)
     (λ c.
-    let c1 = c.before in
-    let c2 = c1.before in
-    let c3 = c2.before.before.before.before.before.before.before.before.before in
-    let a = c3.args in restored_end working a.l a.es.now a.c.now c2.block_width-w.result c1.loop-q.q (a.total / c2.block_width-w.result)
-    c1.loop-q.c c1.loop-q.invariant.8 c1.loop-q.invariant.0 (omega arith) (count_whole a.l a.e c2.block_width-w.result a.total c3.requires.1.adm c3.requires.0
-    c2.block_width-w.ensures c3.requires.1.total_is)))
+    
+    
+    
+    let a = c.args in restored_end working a.l a.es.now a.c.now c.block_width-w.result c.loop-q.q (a.total / c.block_width-w.result)
+    c.loop-q.c c.loop-q.invariant.8 c.loop-q.invariant.0 (omega arith) (count_whole a.l a.e c.block_width-w.result a.total c.requires.1.adm c.requires.0
+    c.block_width-w.ensures c.requires.1.total_is)))

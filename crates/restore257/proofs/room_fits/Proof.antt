@@ -16,11 +16,11 @@ room_fits_spec =
     (λ c. search rules)
     (λ c. search rules)
     (λ c κs.
-    let c2 = c.before.before.before.before.before.before in
-    let c3 = c2.before.before.before in
-    let s = space c3.args.l c2.block_digits-e.result c2.block_digits-e.ensures.1 c2.block_digits-e.ensures.2 in (
-      c2.block_digits-e.ensures.0,
-      c3.requires,
+    
+    
+    let s = space c.args.l c.block_digits-e.result c.block_digits-e.ensures.1 c.block_digits-e.ensures.2 in (
+      c.block_digits-e.ensures.0,
+      c.requires,
       s,
       s.row_long,
     ))

@@ -12,14 +12,14 @@ use Rattle.scrub257.proofs.reset.Statement.{statement}
 use Rattle.scrub257.proofs.reset.Tie as tie
 
 -- past the test
-adm : (c : tie.Else-not-admitted) → admissible gf257.order c.before.before.args.l ≡ true
-adm c = told_true c.before.admitted.ensures c.if-not-admitted.false-raw
+adm : (c : tie.Else-not-admitted) → admissible gf257.order c.args.l ≡ true
+adm c = told_true c.admitted.ensures c.if-not-admitted.false-raw
 
 pub reset_spec : {M : Type 1} → statement M
 reset_spec =
     tie.close (tie.spec
     (λ c. search rules)
     (λ c κs. omega arith)
-    (λ c. not_begun _ _ _ (told_false c.before.admitted.ensures c.if-not-admitted.true-raw))
+    (λ c. not_begun _ _ _ (told_false c.admitted.ensures c.if-not-admitted.true-raw))
     (λ c κs. (admissible_facts gf257.order _ (adm c)).cabinet)
     (λ c. is_begun_lem _ _ _ _ (adm c.before) c.layer_count.ensures))

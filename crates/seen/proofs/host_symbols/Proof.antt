@@ -20,12 +20,12 @@ decreases-loop-g lost h host first count u total s unit g₀ g = u - g
 
 -- what the test of a tray answers
 sound : (c : tie.After-block_width-unit invariant-loop-g decreases-loop-g) (i : ℕ) (r : Bool) →
-    let a = c.before.before.before.before.before.args in
-    let n = c.before.before.layer_count-total.result in
-    r ≡ tray_symbols gf256 a.lost.now (a.h * a.l.size + i) a.host.now (i * n) c.before.digit_count-s.result c.block_width-unit.result a.first a.count →
+    let a = c.args in
+    let n = c.layer_count-total.result in
+    r ≡ tray_symbols gf256 a.lost.now (a.h * a.l.size + i) a.host.now (i * n) c.digit_count-s.result c.block_width-unit.result a.first a.count →
     r ≡ sound_symbols gf256 a.l a.lost.now a.h a.host.now a.first a.count i
 sound c i r e =
-    tray_sound gf256 _ _ _ _ _ _ c.before.before.before.before.before.requires i _ _ _ r c.before.before.layer_count-total.ensures c.before.digit_count-s.ensures c.block_width-unit.ensures e
+    tray_sound gf256 _ _ _ _ _ _ c.requires i _ _ _ r c.layer_count-total.ensures c.digit_count-s.ensures c.block_width-unit.ensures e
 
 pub host_symbols_spec : {M : Type 1} → statement M
 host_symbols_spec =
@@ -34,17 +34,17 @@ host_symbols_spec =
     (λ c. search rules)
     (λ c κs. search rules)
     (λ c. search rules)
-    (λ c κs. let p = c.before.before.before.before.requires in (p.adm, omega (arith, p.host_in)))
+    (λ c κs. let p = c.requires in (p.adm, omega (arith, p.host_in)))
     (λ c. (omega arith, below_none _))
-    (λ c. tray_fits _ _ _ _ _ c.before.before.before.before.before.before.before.requires)
-    (λ c. place_fits _ _ _ _ _ c.before.before.before.before.before.before.before.requires _ c.loop-g-test.true)
+    (λ c. tray_fits _ _ _ _ _ c.requires)
+    (λ c. place_fits _ _ _ _ _ c.requires _ c.loop-g-test.true)
     (λ c. search rules)
-    (λ c. start_fits _ _ _ _ _ c.before.before.before.before.before.before.before.requires _ _ c.before.before.before.before.layer_count-total.ensures c.loop-g-test.true)
+    (λ c. start_fits _ _ _ _ _ c.requires _ _ c.layer_count-total.ensures c.loop-g-test.true)
     (λ c κs.
-    places_told _ _ _ _ _ c.before.before.before.before.before.before.before.requires _ _ _ _ c.before.before.before.before.layer_count-total.ensures
-    c.before.before.before.digit_count-s.ensures c.before.before.block_width-unit.ensures c.loop-g-test.true)
-    (λ c. trays_false _ _ _ _ _ _ _ _ _ c.before.before.loop-g-test.true (sound c.before.before.before.before _ _ c.before.tray_symbols.ensures) c.if-not-tray_symbols.true-raw)
+    places_told _ _ _ _ _ c.requires _ _ _ _ c.layer_count-total.ensures
+    c.digit_count-s.ensures c.block_width-unit.ensures c.loop-g-test.true)
+    (λ c. trays_false _ _ _ _ _ _ _ _ _ c.loop-g-test.true (sound c.before.before.before.before _ _ c.tray_symbols.ensures) c.if-not-tray_symbols.true-raw)
     (λ c. omega arith)
     (λ c. omega arith)
-    (λ c. (omega arith, below_more _ _ c.before.before.before.loop-g.invariant.1 (told_true c.before.tray_symbols.ensures c.if-not-tray_symbols.false-raw)))
-    (λ c. trays_true _ _ _ _ _ _ _ c.before.loop-g.g (omega arith) (λ i h. sym (sound c.before.before i true (sym (c.before.loop-g.invariant.1 i h))))))
+    (λ c. (omega arith, below_more _ _ c.loop-g.invariant.1 (told_true c.tray_symbols.ensures c.if-not-tray_symbols.false-raw)))
+    (λ c. trays_true _ _ _ _ _ _ _ c.loop-g.g (omega arith) (λ i h. sym (sound c.before.before i true (sym (c.loop-g.invariant.1 i h))))))

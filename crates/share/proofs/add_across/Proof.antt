@@ -15,12 +15,12 @@ abbrev decreases-loop-i : tie.decreases-loop-i
 decreases-loop-i s run count symbols at far m sums₀ i₀ sums i = run - i
 
 -- the first symbol of the turn, and one period of them
-first : (c : tie.In-loop-i invariant-loop-i decreases-loop-i) → let a = c.before.before.before.before.args in a.at + c.before.loop-i.i ≤ length a.symbols.now
-first c = let a = c.before.before.before.before.args in first_in a.s a.run a.count a.symbols.now a.at a.far a.m a.sums.now
-    c.before.before.before.before.requires c.before.loop-i.i c.loop-i-test.true
+first : (c : tie.In-loop-i invariant-loop-i decreases-loop-i) → let a = c.args in a.at + c.loop-i.i ≤ length a.symbols.now
+first c = let a = c.args in first_in a.s a.run a.count a.symbols.now a.at a.far a.m a.sums.now
+    c.requires c.loop-i.i c.loop-i-test.true
 
-period : (c : tie.In-loop-i invariant-loop-i decreases-loop-i) → let a = c.before.before.before.before.args in a.at + a.s * a.run ≤ length a.symbols.now
-period c = let a = c.before.before.before.before.args in period_in a.s a.run a.count a.symbols.now a.at a.far a.m a.sums.now c.before.before.before.before.requires
+period : (c : tie.In-loop-i invariant-loop-i decreases-loop-i) → let a = c.args in a.at + a.s * a.run ≤ length a.symbols.now
+period c = let a = c.args in period_in a.s a.run a.count a.symbols.now a.at a.far a.m a.sums.now c.requires
 
 pub add_across_spec : {M : Type 1} → statement M
 add_across_spec =
@@ -29,11 +29,11 @@ add_across_spec =
     (λ c. omega (arith, first c.before))
     (λ c. omega (arith, period c.before))
     (λ c κs.
-    let a = c.before.before.before.before.before.args in
-    spacing a.s a.run a.count a.symbols.now a.at a.far a.m a.sums.now c.before.before.before.before.before.requires c.before.before.loop-i.i _
-    c.before.loop-i-test.true c.before.before.loop-i.invariant.1)
+    let a = c.args in
+    spacing a.s a.run a.count a.symbols.now a.at a.far a.m a.sums.now c.requires c.loop-i.i _
+    c.loop-i-test.true c.loop-i.invariant.1)
     (λ c. omega arith)
     (λ c. omega arith)
     (λ c. (omega arith, search (across_more working)))
-    (λ c. c.before.loop-i.invariant.1.same)
+    (λ c. c.loop-i.invariant.1.same)
     (λ c. search (across_end working)))

@@ -21,51 +21,51 @@ abbrev decreases-loop-k : tie.decreases-loop-k
 decreases-loop-k l count h x r symbols at m shares₀ total k₀ shares k = m - k
 
 -- where the tray of the turn begins, and that it lies within
-place : (c : tie.After-cell invariant-loop-k decreases-loop-k) → let a = c.before.before.before.before.before.before.args in a.at + c.cell.result ≡ a.at + c.before.before.loop-k.k * layers a.l
+place : (c : tie.After-cell invariant-loop-k decreases-loop-k) → let a = c.args in a.at + c.cell.result ≡ a.at + c.loop-k.k * layers a.l
 place c =
-    let a = c.before.before.before.before.before.before.args in
-    ap (λ n. a.at + n) (c.cell.ensures ∙ ap (λ n. c.before.before.loop-k.k * n + 0) c.before.before.before.layer_count-total.ensures ∙ add-zero _)
+    let a = c.args in
+    ap (λ n. a.at + n) (c.cell.ensures ∙ ap (λ n. c.loop-k.k * n + 0) c.layer_count-total.ensures ∙ add-zero _)
 
-inside : (c : tie.After-cell invariant-loop-k decreases-loop-k) → let a = c.before.before.before.before.before.before.args in a.at + c.cell.result ≤ length a.symbols.now
-inside c = let a = c.before.before.before.before.before.before.args in omega (
+inside : (c : tie.After-cell invariant-loop-k decreases-loop-k) → let a = c.args in a.at + c.cell.result ≤ length a.symbols.now
+inside c = let a = c.args in omega (
   arith,
   place c,
-  c.before.before.before.before.before.before.requires.0.long,
-  row_before c.before.before.loop-k.k a.m (layers a.l) c.before.loop-k-test.true,
+  c.requires.0.long,
+  row_before c.loop-k.k a.m (layers a.l) c.loop-k-test.true,
 )
 
 pub add_rest_spec : {M : Type 1} → statement M
 add_rest_spec =
     tie.close (tie.spec invariant-loop-k decreases-loop-k
-    (λ c κs. c.before.before.requires.0.adm.cabinet)
-    (λ c. (omega arith, rested_none working _ _ _ _ _ _ _ c.before.before.before.requires.0.held))
+    (λ c κs. c.requires.0.adm.cabinet)
+    (λ c. (omega arith, rested_none working _ _ _ _ _ _ _ c.requires.0.held))
     (λ c κs.
-    let p = c.before.before.before.before.before.requires.0 in
+    let p = c.requires.0 in
     let a = p.adm.cabinet in
     let b = bounds _ a in
-    let e = c.before.before.layer_count-total.ensures in
+    let e = c.layer_count-total.ensures in
     (omega (arith, a.layers_high), omega (arith, p.at_once), omega (arith, b.layers_low)))
     (λ c. omega (arith, inside c))
     (λ c.
-    let c1 = c.before in
-    let c2 = c1.before.before.before.before.before in
-    let b = bounds _ c2.requires.0.adm.cabinet in omega (arith, c2.requires.2, c1.loop-k-test.true, c2.requires.0.adm.cabinet.trays_high))
+    
+    
+    let b = bounds _ c.requires.0.adm.cabinet in omega (arith, c.requires.2, c.loop-k-test.true, c.requires.0.adm.cabinet.trays_high))
     (λ c κs.
-    let a = c.before.before.before.before.before.before.before.args in
-    let d = c.before.before.before.loop-k.invariant.1 in (
-      feeding_one gf256 a.l a.count a.h a.symbols.now a.at a.m a.shares.now c.before.before.before.before.before.before.before.requires.0
-          c.before.before.before.loop-k.k _ _ c.before.before.loop-k-test.true (place c.before) d.same
+    let a = c.args in
+    let d = c.loop-k.invariant.1 in (
+      feeding_one gf256 a.l a.count a.h a.symbols.now a.at a.m a.shares.now c.requires.0
+          c.loop-k.k _ _ c.loop-k-test.true (place c.before) d.same
           d.range,
-      c.before.before.before.before.before.before.before.requires.1,
+      c.requires.1,
     ))
     (λ c. omega arith)
     (λ c. omega arith)
     (λ c.
-    let a = c.before.before.before.before.before.before.before.before.before.before.args in (
+    let a = c.args in (
       omega arith,
-      rested_more working a.l a.count a.h a.x a.symbols.now a.at a.shares.now c.before.before.before.before.before.before.loop-k.k _ _
-          c.before.before.before.before.before.before.loop-k.shares _ c.before.before.before.before.before.before.before.before.before.before.requires.0.room
-          (place c.before.before.before.before) refl c.before.before.before.before.before.before.loop-k.invariant.1 c.before.before.add_later.ensures,
+      rested_more working a.l a.count a.h a.x a.symbols.now a.at a.shares.now c.loop-k.k _ _
+          c.loop-k.shares _ c.requires.0.room
+          (place c.before.before.before.before) refl c.loop-k.invariant.1 c.add_later.ensures,
     ))
-    (λ c. c.before.loop-k.invariant.1.same)
+    (λ c. c.loop-k.invariant.1.same)
     (λ c. search (rested_end working)))

@@ -9,22 +9,22 @@ pub add_sums_spec : {M : Type 1} → statement M
 add_sums_spec =
     tie.close (tie.spec
     (λ c κs.
-    let a = c.before.before.before.before.args in
-    let p = c.before.before.before.before.requires in
+    let a = c.args in
+    let p = c.requires in
     runs_of a.l a.h a.r.digits a.r.length a.r.count a.r.layers p.0.adm.cabinet p.0.host_in p.1 gf256 a.symbols.now a.at a.m a.sums.now p.0)
     (λ c. search rules)
     (λ c.
-    let a = c.before.before.before.before.before.before.before.args in
-    let p = c.before.before.before.before.before.before.before.requires in
+    let a = c.args in
+    let p = c.requires in
     summed a.l a.h a.r.digits a.r.length a.r.count a.r.layers p.0.adm.cabinet p.0.host_in p.1 working p.0.adm a.symbols.now a.at a.m
-    a.sums.now _ p.0.some_trays c.before.before.add_short.ensures)
+    a.sums.now _ p.0.some_trays c.add_short.ensures)
     (λ c κs.
-    let a = c.before.before.before.before.args in
-    let p = c.before.before.before.before.requires in
+    let a = c.args in
+    let p = c.requires in
     runs_of a.l a.h a.r.digits a.r.length a.r.count a.r.layers p.0.adm.cabinet p.0.host_in p.1 gf256 a.symbols.now a.at a.m a.sums.now p.0)
     (λ c. search rules)
     (λ c.
-    let a = c.before.before.before.before.before.before.before.args in
-    let p = c.before.before.before.before.before.before.before.requires in
+    let a = c.args in
+    let p = c.requires in
     summed a.l a.h a.r.digits a.r.length a.r.count a.r.layers p.0.adm.cabinet p.0.host_in p.1 working p.0.adm a.symbols.now a.at a.m
-    a.sums.now _ p.0.some_trays c.before.before.add_long.ensures))
+    a.sums.now _ p.0.some_trays c.add_long.ensures))

@@ -27,42 +27,42 @@ decreases-loop-m l count x sums shares₀ u total m₀ shares m = count - m
 pub add_weighted_spec : {M : Type 1} → statement M
 add_weighted_spec =
     tie.close (tie.spec invariant-loop-m decreases-loop-m
-    (λ c κs. c.before.before.requires.adm)
-    (λ c. let p = c.before.before.before.requires in (omega arith, omega (arith, p.some), refl, λ h symbols e. added_none working _ _ _ _ _))
-    (λ c. size_pos _ c.before.before.before.before.before.requires.adm)
+    (λ c κs. c.requires.adm)
+    (λ c. let p = c.requires in (omega arith, omega (arith, p.some), refl, λ h symbols e. added_none working _ _ _ _ _))
+    (λ c. size_pos _ c.requires.adm)
     (λ c κs.
-    let p = c.before.before.before.before.before.requires in
+    let p = c.requires in
     let b = bounds _ p.adm in
     (p.adm, mod-lt _ b.size_low, omega (arith, p.few)))
     (λ c κs.
-    let p = c.before.before.before.before.before.before.requires in
+    let p = c.requires in
     let b = bounds _ p.adm in
-    let e = c.before.before.before.group_count-total.ensures in
-    (omega arith, omega (arith, p.few, c.before.loop-m-test.true), omega (arith, groups_pos _ p.adm)))
+    let e = c.group_count-total.ensures in
+    (omega arith, omega (arith, p.few, c.loop-m-test.true), omega (arith, groups_pos _ p.adm)))
     (λ c. search rules)
     (λ c κs.
-    let a = c.before.before.before.before.before.before.before.before.args in
-    let p = c.before.before.before.before.before.before.before.before.requires in (
-      weight_in a.l a.count c.before.before.before.before.loop-m.m _ _ a.sums.now a.shares.now
-          c.before.before.before.before.loop-m.shares p c.before.before.before.before.before.group_count-total.ensures c.before.cell-to.ensures
-          c.before.before.before.loop-m-test.true c.before.before.before.before.loop-m.invariant.2,
-      omega (arith, p.long, c.before.before.before.before.before.group_count-total.ensures),
+    let a = c.args in
+    let p = c.requires in (
+      weight_in a.l a.count c.loop-m.m _ _ a.sums.now a.shares.now
+          c.loop-m.shares p c.group_count-total.ensures c.cell-to.ensures
+          c.loop-m-test.true c.loop-m.invariant.2,
+      omega (arith, p.long, c.group_count-total.ensures),
     ))
     (λ c. omega arith)
     (λ c. omega arith)
     (λ c.
-    let a = c.before.before.before.before.before.before.before.before.before.before.before.args in (
+    let a = c.args in (
       omega arith,
       omega arith,
-      c.before.before.add_multiple.ensures.long ∙ c.before.before.before.before.before.before.before.loop-m.invariant.2,
-      λ h symbols e. added_more working a.l h a.x c.before.before.before.before.before.before.before.loop-m.m _ _ _ symbols a.shares.now a.sums.now
-          c.before.before.before.before.before.before.before.loop-m.shares _ c.before.before.before.before.before.before.before.loop-m.invariant.0
-          c.before.before.before.before.before.before.before.before.group_count-total.ensures c.before.before.before.before.cell-to.ensures
-          c.before.before.before.before.before.place_power-weight.ensures e c.before.before.add_multiple.ensures
-          (c.before.before.before.before.before.before.before.loop-m.invariant.3 h symbols e),
+      c.add_multiple.ensures.long ∙ c.loop-m.invariant.2,
+      λ h symbols e. added_more working a.l h a.x c.loop-m.m _ _ _ symbols a.shares.now a.sums.now
+          c.loop-m.shares _ c.loop-m.invariant.0
+          c.group_count-total.ensures c.cell-to.ensures
+          c.place_power-weight.ensures e c.add_multiple.ensures
+          (c.loop-m.invariant.3 h symbols e),
     ))
-    (λ c. c.before.loop-m.invariant.2)
+    (λ c. c.loop-m.invariant.2)
     (λ c h symbols e.
-    let a = c.before.before.before.before.before.args in
-    added_end working a.l h a.x c.before.loop-m.m a.count symbols a.shares.now c.before.loop-m.shares (c.before.loop-m.invariant.3 h symbols e) c.before.loop-m.invariant.1
+    let a = c.args in
+    added_end working a.l h a.x c.loop-m.m a.count symbols a.shares.now c.loop-m.shares (c.loop-m.invariant.3 h symbols e) c.loop-m.invariant.1
     (omega arith)))

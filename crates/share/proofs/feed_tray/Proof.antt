@@ -20,29 +20,29 @@ use Rattle.share.proofs.feed_tray.Tie as tie
 -- the ground that was found, in terms of what the call was lent
 abbrev ground_of : tie.After-tray_refusal-ground → ℕ
 ground_of c =
-    let a = c.before.before.before.before.before.args in
+    let a = c.args in
     fed_refusal gf256 a.l a.count a.host.0 a.tray.0 a.symbols.now a.shares.now
 
 found : (c : tie.After-tray_refusal-ground) → c.tray_refusal-ground.result ≡ ground_of c
 found c =
-    let a = c.before.before.before.before.before.args in
+    let a = c.args in
     c.tray_refusal-ground.ensures
-    ∙ ap₂ (λ i j. fed_refusal gf256 a.l a.count i j a.symbols.now a.shares.now) c.before.before.number-h.ensures c.before.number-x.ensures
+    ∙ ap₂ (λ i j. fed_refusal gf256 a.l a.count i j a.symbols.now a.shares.now) c.number-h.ensures c.number-x.ensures
 
 none : (c : tie.Else-ground-ne0) → ground_of c.before ≡ 0
 none c = sym (found c.before) ∙ c.if-ground-ne0.false
 
-fed : (c : tie.Else-ground-ne0) → let a = c.before.before.before.before.before.before.args in Feeding gf256 a.l a.count
-    c.before.before.before.number-h.result a.symbols.now 0 1 a.shares.now
+fed : (c : tie.Else-ground-ne0) → let a = c.args in Feeding gf256 a.l a.count
+    c.number-h.result a.symbols.now 0 1 a.shares.now
 fed c =
-    let a = c.before.before.before.before.before.before.args in
+    let a = c.args in
     let p = tray_shareable working _ _ _ _ _ _ (none c) in
     let q = both (symbols_from gf256 a.symbols.now 0 (length a.symbols.now)) (symbols_from gf256 a.shares.now 0 (length a.shares.now)) p.symbols_so in
     record {
       adm = p.adm;
       long = omega (arith, p.long);
       room = p.room_long;
-      host_in = rw c.before.before.before.number-h.ensures p.host_in;
+      host_in = rw c.number-h.ensures p.host_in;
       some = p.some;
       few = omega (arith, p.few);
       some_trays = omega arith;
@@ -51,19 +51,19 @@ fed c =
       held = symbols_range gf256 a.shares.now q.1;
     }
 
-inside : (c : tie.Else-ground-ne0) → c.before.before.number-x.result + 1 ≤ trays c.before.before.before.before.before.before.args.l
+inside : (c : tie.Else-ground-ne0) → c.number-x.result + 1 ≤ trays c.args.l
 inside c =
     let p = tray_shareable working _ _ _ _ _ _ (none c) in
-    omega (arith, (div-lt_iff_lt-mul (size_pos _ p.adm.cabinet)).0 p.helper_in, c.before.before.number-x.ensures)
+    omega (arith, (div-lt_iff_lt-mul (size_pos _ p.adm.cabinet)).0 p.helper_in, c.number-x.ensures)
 
 -- the shares with the tray fed are what the buffer is to hold
 done : (c : tie.Else-ground-ne0) →
-    let a = c.before.before.before.before.before.before.args in
-    fed_many gf256 a.l a.count c.before.before.before.number-h.result c.before.before.number-x.result a.symbols.now
+    let a = c.args in
+    fed_many gf256 a.l a.count c.number-h.result c.number-x.result a.symbols.now
     a.shares.now ≡ fed_buffer gf256 a.l a.count a.host.0 a.tray.0 a.symbols.now a.shares.now
 done c =
-    let a = c.before.before.before.before.before.before.args in
-    ap₂ (λ h x. fed_many gf256 a.l a.count h x a.symbols.now a.shares.now) c.before.before.before.number-h.ensures c.before.before.number-x.ensures
+    let a = c.args in
+    ap₂ (λ h x. fed_many gf256 a.l a.count h x a.symbols.now a.shares.now) c.number-h.ensures c.number-x.ensures
     ∙ add_done gf256 a.l a.count a.host.0 a.tray.0 a.symbols.now a.shares.now (none c)
 
 pub feed_tray_spec : {M : Type 1} → statement M
@@ -74,12 +74,12 @@ feed_tray_spec =
     (λ c κs. search rules)
     (λ c. search rules)
     (λ c.
-    let a = c.before.before.before.before.before.before.args in
+    let a = c.args in
     (found c.before, add_refused gf256 a.l a.count a.host.0 a.tray.0 a.symbols.now a.shares.now (λ e. c.if-ground-ne0.true (found c.before ∙ e))))
     (λ c κs. (fed c).adm.cabinet)
     (λ c κs. let p = fed c.before in (p.adm.cabinet, p.host_in, c.counts_of-n.ensures))
-    (λ c κs. (fed c.before.before.before, c.before.runs_of-r.ensures, inside c.before.before.before))
+    (λ c κs. (fed c.before.before.before, c.runs_of-r.ensures, inside c.before.before.before))
     (λ c. search rules)
     (λ c.
     let n = none c.before.before.before.before.before.before in
-    (sym n, c.before.before.feed.ensures ∙ fed_alone working _ _ _ _ _ _ ((tray_shareable working _ _ _ _ _ _ n).long ∙ one-mul _) ∙ done c.before.before.before.before.before.before)))
+    (sym n, c.feed.ensures ∙ fed_alone working _ _ _ _ _ _ ((tray_shareable working _ _ _ _ _ _ n).long ∙ one-mul _) ∙ done c.before.before.before.before.before.before)))

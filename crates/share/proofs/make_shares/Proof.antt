@@ -16,22 +16,22 @@ use Rattle.share.proofs.Refusals.{symbols_range, rack_grounds_lem, rack_ground_1
 use Rattle.share.proofs.make_shares.Statement.{statement}
 use Rattle.share.proofs.make_shares.Tie as tie
 
-adm : (c : tie.Else-not-admitted) → admissible gf256.order c.before.before.before.before.before.before.before.args.l ≡ true
-adm c = sym c.before.admitted.ensures ∙ not-false _ c.if-not-admitted.false-raw
+adm : (c : tie.Else-not-admitted) → admissible gf256.order c.args.l ≡ true
+adm c = sym c.admitted.ensures ∙ not-false _ c.if-not-admitted.false-raw
 
 -- the ground that was found, in terms of what the call was lent
 abbrev ground_of : tie.After-refusal-ground → ℕ
 ground_of c =
-    let a = c.before.before.before.before.before.before.before.before.before.args in
+    let a = c.args in
     shares_refusal gf256 a.l a.count a.host.0 a.helper.0 a.rack.now (length a.out.now)
 
 found : (c : tie.After-refusal-ground) → c.refusal-ground.result ≡ ground_of c
 found c =
-    let a = c.before.before.before.before.before.before.before.before.before.args in
-    let h = c.before.before.before.before.before.before.number-h in
-    let i = c.before.before.before.before.before.number-i in
+    let a = c.args in
+    let h = c.number-h in
+    let i = c.number-i in
     c.refusal-ground.ensures
-    ∙ ap (grounds gf256.order a.l a.count a.l.size h.result i.result (length a.rack.now) (length a.out.now)) c.before.before.before.before.are_symbols-symbols.ensures
+    ∙ ap (grounds gf256.order a.l a.count a.l.size h.result i.result (length a.rack.now) (length a.out.now)) c.are_symbols-symbols.ensures
     ∙ ap₂ (λ i j. grounds gf256.order a.l a.count a.l.size i j (length a.rack.now) (length a.out.now) (symbols_from gf256 a.rack.now 0 (length a.rack.now)))
     h.ensures i.ensures
     ∙ rack_grounds_lem working a.l a.count a.host.0 a.helper.0 a.rack.now (length a.out.now)
@@ -48,18 +48,18 @@ make_shares_spec =
     (λ c. search rules)
     (λ c κs. search rules)
     (λ c.
-    let a = c.before.before.before.before.before.before.before.args in
-    let g = rack_ground_1 working a.l a.count a.host.0 a.helper.0 a.rack.now (length a.out.now) (sym c.before.admitted.ensures ∙ not-true _ c.if-not-admitted.true-raw) in
+    let a = c.args in
+    let g = rack_ground_1 working a.l a.count a.host.0 a.helper.0 a.rack.now (length a.out.now) (sym c.admitted.ensures ∙ not-true _ c.if-not-admitted.true-raw) in
     (g, buffer_refused gf256 a.l a.count a.host.0 a.helper.0 a.rack.now a.out.now (λ e. omega (arith, g, e))))
     (λ c κs. (admissible_facts gf256.order _ (adm c)).cabinet)
     (λ c κs. (adm c.before, c.counts_of-n.ensures))
     (λ c.
-    let a = c.before.before.before.before.before.before.before.before.before.before.args in
+    let a = c.args in
     (found c.before, buffer_refused gf256 a.l a.count a.host.0 a.helper.0 a.rack.now a.out.now (λ e. c.if-ground-ne0.true (found c.before ∙ e))))
     (λ c κs.
     let p = rack_shareable working _ _ _ _ _ _ (none c.before) in
-    let h = c.before.before.before.before.before.before.before.before.number-h.ensures in
-    let i = c.before.before.before.before.before.before.before.number-i.ensures in (
+    let h = c.number-h.ensures in
+    let i = c.number-i.ensures in (
       record {
         adm = p.adm;
         long = p.long;
@@ -70,14 +70,14 @@ make_shares_spec =
         few = p.few;
         given = symbols_range gf256 _ p.symbols_so;
       },
-      c.before.before.before.counts_of-n.ensures,
+      c.counts_of-n.ensures,
     ))
     (λ c. search rules)
     (λ c.
-    let a = c.before.before.before.before.before.before.before.before.before.before.before.before.before.before.args in
+    let a = c.args in
     let n = none c.before.before.before.before in (
       sym n,
-      c.before.before.gather.ensures ∙ ap (λ h. shares_of gf256 a.l a.count h a.rack.now)
-          c.before.before.before.before.before.before.before.before.before.before.before.number-h.ensures ∙ buffer_done gf256 a.l a.count a.host.0 a.helper.0
+      c.gather.ensures ∙ ap (λ h. shares_of gf256 a.l a.count h a.rack.now)
+          c.number-h.ensures ∙ buffer_done gf256 a.l a.count a.host.0 a.helper.0
           a.rack.now a.out.now n,
     )))

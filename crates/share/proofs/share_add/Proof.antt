@@ -7,4 +7,4 @@ share_add_spec =
     tie.close (tie.spec
     (λ c κs. search rules)
     (λ c. search rules)
-    (λ c. c.before.before.feed_tray.ensures))
+    (λ c. c.feed_tray.ensures))

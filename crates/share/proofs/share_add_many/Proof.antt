@@ -8,12 +8,12 @@ pub share_add_many_spec : {M : Type 1} → statement M
 share_add_many_spec =
     tie.close (tie.spec
     (λ c.
-    let a = c.before.before.before.args in
+    let a = c.args in
     add_many_refused gf256 a.l a.count a.host.0 a.tray.0 a.symbols.now a.shares.now c.if-e-ne0.true)
     (λ c κs. search rules)
     (λ c. search rules)
     (λ c.
-    let fed = c.before.before in
-    let test = fed.before.before in
-    let a = test.before.before.before.args in
-    add_many_done gf256 a.l a.count a.host.0 a.tray.0 a.symbols.now a.shares.now _ _ test.if-e-ne0.false fed.feed_tray.ensures.0 fed.feed_tray.ensures.1))
+    
+    
+    let a = c.args in
+    add_many_done gf256 a.l a.count a.host.0 a.tray.0 a.symbols.now a.shares.now _ _ c.if-e-ne0.false c.feed_tray.ensures.0 c.feed_tray.ensures.1))

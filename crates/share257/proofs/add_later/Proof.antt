@@ -12,7 +12,7 @@ add_later_spec =
     tie.close (tie.spec
     (λ c. search rules)
     (λ c κs.
-    let p = c.before.before.before.requires.0 in (
+    let p = c.requires.0 in (
       record {
         adm = p.adm;
         long = p.long;
@@ -25,15 +25,15 @@ add_later_spec =
         held = zeros_held working _ 4096 (bounds _
             p.adm.cabinet).groups_high;
       },
-      c.before.before.before.requires.1,
+      c.requires.1,
     ))
     (λ c. search rules)
     (λ c κs.
-    let p = c.before.before.before.before.before.before.before.requires.0 in
-    record { adm = p.adm.cabinet; long = rw c.before.before.before.add_sums.ensures.same (bounds _ p.adm.cabinet).groups_high; room = p.room; some = p.some; few = p.few })
+    let p = c.requires.0 in
+    record { adm = p.adm.cabinet; long = rw c.add_sums.ensures.same (bounds _ p.adm.cabinet).groups_high; room = p.room; some = p.some; few = p.few })
     (λ c. search rules)
     (λ c.
-    let a = c.before.before.before.before.before.before.before.before.before.before.args in
-    c.before.before.add_weighted.ensures a.h _ (sums_only working a.l a.h 4096 a.symbols.now a.at _ (bounds _
-    c.before.before.before.before.before.before.before.before.before.before.requires.0.adm.cabinet).groups_high
-    c.before.before.before.before.before.before.add_sums.ensures)))
+    let a = c.args in
+    c.add_weighted.ensures a.h _ (sums_only working a.l a.h 4096 a.symbols.now a.at _ (bounds _
+    c.requires.0.adm.cabinet).groups_high
+    c.add_sums.ensures)))

@@ -22,13 +22,13 @@ record Lies (s run q at : ℕ) (symbols sums : List ℕ) : Type 0 where
   in_tray : at + q * s * run + run ≤ length symbols
   number : q * s ≤ length symbols
 
-lies : (c : tie.After-add_row-arg-1 invariant-loop-q decreases-loop-q) → let a = c.before.before.before.before.before.args in Lies a.s a.run c.before.before.loop-q.q
+lies : (c : tie.After-add_row-arg-1 invariant-loop-q decreases-loop-q) → let a = c.args in Lies a.s a.run c.loop-q.q
     a.at a.symbols.now a.sums.now
 lies c =
-    let a = c.before.before.before.before.before.args in
-    let p = c.before.before.before.before.before.requires.0 in
-    let q = c.before.before.loop-q.q in
-    let t = c.before.loop-q-test.true in
+    let a = c.args in
+    let p = c.requires.0 in
+    let q = c.loop-q.q in
+    let t = c.loop-q-test.true in
     record {
       in_sums = sums_run a.s a.run a.count a.symbols.now a.at a.far a.m a.sums.now p q t;
       in_tray = run_in a.s a.run a.count a.symbols.now a.at a.far a.m a.sums.now p q t;
@@ -44,15 +44,15 @@ add_runs_spec =
     (λ c. let r = lies c in omega arith)
     (λ c. let r = lies c in omega arith)
     (λ c κs.
-    let a = c.before.before.before.before.before.args in
-    let p = c.before.before.before.before.before.requires in
-    let d = c.before.before.loop-q.invariant.1 in (
-      gridding a.s a.run a.count a.symbols.now a.at a.far a.m a.sums.now p.0 c.before.before.loop-q.q _ c.before.loop-q-test.true d.same
+    let a = c.args in
+    let p = c.requires in
+    let d = c.loop-q.invariant.1 in (
+      gridding a.s a.run a.count a.symbols.now a.at a.far a.m a.sums.now p.0 c.loop-q.q _ c.loop-q-test.true d.same
           d.rest,
       p.1,
     ))
     (λ c. omega arith)
     (λ c. omega arith)
     (λ c. (omega arith, search (runs_more working)))
-    (λ c. c.before.loop-q.invariant.1.same)
+    (λ c. c.loop-q.invariant.1.same)
     (λ c. search (runs_end working)))

@@ -11,4 +11,4 @@ counts_of_spec =
     (λ c κs. search rules)
     (λ c κs. search rules)
     (λ c. search rules)
-    (λ c. let s = c.before.digit_count-s.ensures in let t = c.layer_count-total.ensures in record { digits_are = s; layers_are = t; groups_are = ap₂ ◌/◌ t s }))
+    (λ c. let s = c.digit_count-s.ensures in let t = c.layer_count-total.ensures in record { digits_are = s; layers_are = t; groups_are = ap₂ ◌/◌ t s }))

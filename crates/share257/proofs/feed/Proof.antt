@@ -11,21 +11,21 @@ pub feed_spec : {M : Type 1} → statement M
 feed_spec =
     tie.close (tie.spec
     (λ c κs.
-    let a = c.before.before.before.args in
-    let p = c.before.before.before.requires in
+    let a = c.args in
+    let p = c.requires in
     (summing_of gf257 a.l a.count a.h a.symbols.now a.at a.m a.shares.now p.0, p.1))
     (λ c. search rules)
     (λ c.
-    let a = c.before.before.before.before.before.before.before.args in
-    let p = c.before.before.before.before.before.before.before.requires in
-    fed_one working a.l a.count a.h a.x a.symbols.now a.at a.shares.now a.m p.0.room _ c.before.before.before.add_sums.ensures p.0.some c.if-count-lt2.true)
+    let a = c.args in
+    let p = c.requires in
+    fed_one working a.l a.count a.h a.x a.symbols.now a.at a.shares.now a.m p.0.room _ c.add_sums.ensures p.0.some c.if-count-lt2.true)
     (λ c κs.
-    let a = c.before.before.before.before.before.before.before.before.args in
-    let p = c.before.before.before.before.before.before.before.before.requires in
-    (feeding_next gf257 a.l a.count a.h a.symbols.now a.at a.m a.shares.now p.0 _ c.before.before.before.before.add_sums.ensures, p.1, p.2))
+    let a = c.args in
+    let p = c.requires in
+    (feeding_next gf257 a.l a.count a.h a.symbols.now a.at a.m a.shares.now p.0 _ c.add_sums.ensures, p.1, p.2))
     (λ c. search rules)
     (λ c.
-    let a = c.before.before.before.before.before.before.before.before.before.before.before.args in
-    let p = c.before.before.before.before.before.before.before.before.before.before.before.requires in
+    let a = c.args in
+    let p = c.requires in
     fed_more working a.l a.count a.h a.x a.symbols.now a.at a.shares.now a.m p.0.room _
-    c.before.before.before.before.before.before.before.add_sums.ensures _ c.before.before.add_rest.ensures))
+    c.add_sums.ensures _ c.add_rest.ensures))

@@ -8,4 +8,4 @@ share_spec =
     tie.close (tie.spec
     (λ c κs. search rules)
     (λ c. search rules)
-    (λ c. c.before.before.make_shares.ensures))
+    (λ c. c.make_shares.ensures))

@@ -9,12 +9,12 @@ pub share_many_spec : {M : Type 1} → statement M
 share_many_spec =
     tie.close (tie.spec
     (λ c.
-    let a = c.before.before.before.args in
+    let a = c.args in
     many_refused gf257 a.l a.count a.host.0 a.helper.0 a.rack.now a.out.now c.if-e-ne0.true)
     (λ c κs. search rules)
     (λ c. search rules)
     (λ c.
-    let made = c.before.before in
-    let test = made.before.before in
-    let a = test.before.before.before.args in
-    many_done gf257 a.l a.count a.host.0 a.helper.0 a.rack.now a.out.now _ _ test.if-e-ne0.false made.make_shares.ensures.0 made.make_shares.ensures.1))
+    
+    
+    let a = c.args in
+    many_done gf257 a.l a.count a.host.0 a.helper.0 a.rack.now a.out.now _ _ c.if-e-ne0.false c.make_shares.ensures.0 c.make_shares.ensures.1))

@@ -27,9 +27,9 @@ listed_points_spec =
     (λ c. search listed_fits)
     (λ c κs. (
       search listed_in,
-      let a = c.before.before.before.before.before.before.before.before.before.before.before.before.args in sampled_in a.l
-          a.w a.first a.es.now a.v a.run a.points.now a.row.now c.before.before.before.before.tray_points.new.0
-          c.before.before.before.before.before.before.before.before.before.before.before.before.requires (search rules),
+      let a = c.args in sampled_in a.l
+          a.w a.first a.es.now a.v a.run a.points.now a.row.now c.tray_points.new.0
+          c.requires (search rules),
       search rules,
     ))
     (λ c. omega arith)
@@ -38,12 +38,12 @@ listed_points_spec =
       omega arith,
       search rules,
       search rules,
-      let c1 = c.before.before in
-          let c2 = c1.before.before.before.before.before in
-          let c3 = c2.before.before.before.before in
-          let c4 = c3.before.before.before.before in
-          let a = c4.args in listed_more working a.l a.w a.first a.es.now a.v a.run c3.loop-k.k c2.tray_points.new.0 c3.loop-k.points
-          c1.sample.new.0 c4.requires.width c4.requires.run_low c3.loop-k.invariant.3 c2.tray_points.ensures c1.sample.ensures,
+      
+          
+          
+          
+          let a = c.args in listed_more working a.l a.w a.first a.es.now a.v a.run c.loop-k.k c.tray_points.new.0 c.loop-k.points
+          c.sample.new.0 c.requires.width c.requires.run_low c.loop-k.invariant.3 c.tray_points.ensures c.sample.ensures,
     ))
     (λ c. search rules)
     (λ c. search rules)

@@ -18,14 +18,14 @@ pub count_from_spec : {M : Type 1} → statement M
 count_from_spec =
     tie.close (tie.spec invariant-loop-i decreases-loop-i
     (λ c. (omega arith, upto_none _ _))
-    (λ c. let u = c.before.loop-i.invariant.1.same in omega arith)
-    (λ c. let u = c.before.loop-i.invariant.1.same in omega arith)
-    (λ c. let u = c.before.loop-i.invariant.1.same in omega arith)
-    (λ c. let u = c.before.loop-i.invariant.1.same in omega arith)
-    (λ c. let u = c.before.loop-i.invariant.1.same in omega arith)
-    (λ c. let u = c.before.loop-i.invariant.1.same in omega arith)
-    (λ c. let u = c.before.loop-i.invariant.1.same in (omega arith, upto_more (λ (k : ℕ). c.before.before.args.first + k) c.before.loop-i.invariant.1 (omega arith) refl))
-    (λ c. c.before.loop-i.invariant.1.same)
+    (λ c. let u = c.loop-i.invariant.1.same in omega arith)
+    (λ c. let u = c.loop-i.invariant.1.same in omega arith)
+    (λ c. let u = c.loop-i.invariant.1.same in omega arith)
+    (λ c. let u = c.loop-i.invariant.1.same in omega arith)
+    (λ c. let u = c.loop-i.invariant.1.same in omega arith)
+    (λ c. let u = c.loop-i.invariant.1.same in omega arith)
+    (λ c. let u = c.loop-i.invariant.1.same in (omega arith, upto_more (λ (k : ℕ). c.args.first + k) c.loop-i.invariant.1 (omega arith) refl))
+    (λ c. c.loop-i.invariant.1.same)
     (λ c.
-    let u = c.before.loop-i.invariant.1.same in
-    is_table c.before.loop-i.list (λ (k : ℕ). c.before.before.args.first + k) (length c.before.before.args.list.now) u (λ k h. c.before.loop-i.invariant.1.low k (omega arith))))
+    let u = c.loop-i.invariant.1.same in
+    is_table c.loop-i.list (λ (k : ℕ). c.args.first + k) (length c.args.list.now) u (λ k h. c.loop-i.invariant.1.low k (omega arith))))

@@ -14,23 +14,23 @@ use Rattle.store.proofs.Answers.{ground_1, ground_2, ground_3, ground_0}
 use Rattle.store257.proofs.refusal.Statement.{statement}
 use Rattle.store257.proofs.refusal.Tie as tie
 
-adm : (c : tie.Else-not-admitted) → admissible gf257.order c.before.before.before.args.l ≡ true
-adm c = sym c.before.admitted.ensures ∙ not-false _ c.if-not-admitted.false-raw
+adm : (c : tie.Else-not-admitted) → admissible gf257.order c.args.l ≡ true
+adm c = sym c.admitted.ensures ∙ not-false _ c.if-not-admitted.false-raw
 
-facts : (c : tie.Else-not-admitted) → Cabinet c.before.before.before.args.l
+facts : (c : tie.Else-not-admitted) → Cabinet c.args.l
 facts c = (admissible_facts gf257.order _ (adm c)).cabinet
 
-width : (c : tie.After-layer_count-total) → let l = c.before.before.before.before.args.l in l.dimension * c.layer_count-total.result ≡ l.dimension * layers l
-width c = ap (λ (n : ℕ). c.before.before.before.before.args.l.dimension * n) c.layer_count-total.ensures
+width : (c : tie.After-layer_count-total) → let l = c.args.l in l.dimension * c.layer_count-total.result ≡ l.dimension * layers l
+width c = ap (λ (n : ℕ). c.args.l.dimension * n) c.layer_count-total.ensures
 
-size : (c : tie.After-tray_count) → let l = c.before.before.before.before.before.before.args.l in c.tray_count.result * c.before.before.layer_count-total.result ≡ trays l * layers l
-size c = ap₂ ◌*◌ c.tray_count.ensures c.before.before.layer_count-total.ensures
+size : (c : tie.After-tray_count) → let l = c.args.l in c.tray_count.result * c.layer_count-total.result ≡ trays l * layers l
+size c = ap₂ ◌*◌ c.tray_count.ensures c.layer_count-total.ensures
 
 -- both lengths are right
-given_long : (c : tie.Else-room-tray_count) → let a = c.before.before.before.before.before.before.before.args in length a.given.now ≡ a.l.dimension * layers a.l
-given_long c = c.before.before.if-given-k.false ∙ width c.before.before.before
+given_long : (c : tie.Else-room-tray_count) → let a = c.args in length a.given.now ≡ a.l.dimension * layers a.l
+given_long c = c.if-given-k.false ∙ width c.before.before.before
 
-room_long : (c : tie.Else-room-tray_count) → let a = c.before.before.before.before.before.before.before.args in a.room ≡ trays a.l * layers a.l
+room_long : (c : tie.Else-room-tray_count) → let a = c.args in a.room ≡ trays a.l * layers a.l
 room_long c = c.if-room-tray_count.false ∙ size c.before
 
 pub refusal_spec : {M : Type 1} → statement M
@@ -38,7 +38,7 @@ refusal_spec =
     tie.close (tie.spec
     (λ c. search rules)
     (λ c κs. omega arith)
-    (λ c. ground_1 _ _ _ _ (sym c.before.admitted.ensures ∙ not-true _ c.if-not-admitted.true-raw))
+    (λ c. ground_1 _ _ _ _ (sym c.admitted.ensures ∙ not-true _ c.if-not-admitted.true-raw))
     (λ c κs. facts c)
     (λ c. search rules)
     (λ c. search rules)
@@ -49,7 +49,7 @@ refusal_spec =
     (λ c. let a = facts c.before.before.before in record { fits = mul_below tray_limit layer_limit (omega arith) (omega arith) tt })
     (λ c. ground_2 _ _ _ _ (adm c.before.before.before.before) (λ e f. c.if-room-tray_count.true (f ∙ sym (size c.before))))
     (λ c κs. omega arith)
-    (λ c. let p = c.before.before in ground_3 _ _ _ _ (adm p.before.before.before.before) (given_long p) (room_long p) (sym c.before.are_symbols.ensures
+    (λ c. let p = c.before.before in ground_3 _ _ _ _ (adm p.before.before.before.before) (given_long p) (room_long p) (sym c.are_symbols.ensures
     ∙ not-true _ c.if-not-are_symbols.true-raw))
-    (λ c. let p = c.before.before in ground_0 _ _ _ _ (adm p.before.before.before.before) (given_long p) (room_long p) (sym c.before.are_symbols.ensures
+    (λ c. let p = c.before.before in ground_0 _ _ _ _ (adm p.before.before.before.before) (given_long p) (room_long p) (sym c.are_symbols.ensures
     ∙ not-false _ c.if-not-are_symbols.false-raw)))

@@ -20,10 +20,10 @@ decreases-loop-k sides₀ l h w first helpers shares e m cur₀ row₀ k₀ side
 unknown_count_requires : tie.Need-unknown_count-requires invariant-loop-k decreases-loop-k
 unknown_count_requires c κs = search rules
 
-cast_fill : tie.Need-overflow-cast-fill invariant-loop-k decreases-loop-k
+cast_fill : tie.Need-overflow_cast-unknown_count invariant-loop-k decreases-loop-k
 cast_fill c = search rules
 
-mul_fill : tie.Need-overflow-mul-fill invariant-loop-k decreases-loop-k
+mul_fill : tie.Need-overflow_mul-unknown_count invariant-loop-k decreases-loop-k
 mul_fill c = search sides_high
 
 fill_requires : tie.Need-fill-requires invariant-loop-k decreases-loop-k
@@ -36,12 +36,12 @@ add_share_requires : tie.Need-add_share-requires invariant-loop-k decreases-loop
 add_share_requires c κs = (
   search sharing_of,
   search helper_of,
-  rw (c.before.before.before.before.loop-k.invariant.1
-      ∙ c.before.before.before.before.before.before.before.fill.ensures.long)
-      c.before.before.before.before.before.before.before.before.before.before.before.before.before.before.before.requires.1,
+  rw (c.loop-k.invariant.1
+      ∙ c.fill.ensures.long)
+      c.requires.1,
 )
 
-add_k : tie.Need-overflow-add-k invariant-loop-k decreases-loop-k
+add_k : tie.Need-overflow_add-k invariant-loop-k decreases-loop-k
 add_k c = search count_fits
 
 loop_less : tie.Need-loop-k-smaller invariant-loop-k decreases-loop-k

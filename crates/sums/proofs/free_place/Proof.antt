@@ -18,26 +18,26 @@ decreases-loop-k s h helpers i x₀ k₀ x k = length helpers - k
 again : tie.Need-loop-k-preserved invariant-loop-k decreases-loop-k
 unfolding helper_place
 again c =
-    let a = c.before.before.before.before.before.before.args in (
+    let a = c.args in (
       omega arith,
-      free_next (helper_place a.s a.h (helper_at a.helpers.now)) c.before.before.before.before.loop-k.k a.i _ _ _ c.skipped-x.ensures
-          c.before.rack_place-q.ensures c.before.before.before.before.loop-k.invariant.1,
+      free_next (helper_place a.s a.h (helper_at a.helpers.now)) c.loop-k.k a.i _ _ _ c.skipped-x.ensures
+          c.rack_place-q.ensures c.loop-k.invariant.1,
     )
 
 returns : tie.Need-returns invariant-loop-k decreases-loop-k
 returns c =
-    let a = c.before.before.before.args in
-    let e : c.before.loop-k.k ≡ length a.helpers.now = omega arith in
-    c.before.loop-k.invariant.1 ∙ ap (λ n. free (helper_place a.s a.h (helper_at a.helpers.now)) n a.i) e
+    let a = c.args in
+    let e : c.loop-k.k ≡ length a.helpers.now = omega arith in
+    c.loop-k.invariant.1 ∙ ap (λ n. free (helper_place a.s a.h (helper_at a.helpers.now)) n a.i) e
 
 pub free_place_spec : {M : Type 1} → statement M
 free_place_spec =
     tie.close (tie.spec invariant-loop-k decreases-loop-k
     (λ c. (omega arith, free_first _ _))
-    (λ c. let p = c.before.before.before.requires in record { fits = omega arith })
+    (λ c. let p = c.requires in record { fits = omega arith })
     (λ c. omega arith)
-    (λ c κs. let p = c.before.before.before.before.requires in (p.base_high, p.inside _ (omega arith), p.other _ (omega arith)))
-    (λ c κs. let p = c.before.before.before.before.before.requires in omega (arith, free_high _ _ _ _ c.before.before.before.loop-k.invariant.1))
+    (λ c κs. let p = c.requires in (p.base_high, p.inside _ (omega arith), p.other _ (omega arith)))
+    (λ c κs. let p = c.requires in omega (arith, free_high _ _ _ _ c.loop-k.invariant.1))
     (λ c. omega arith)
     (λ c. omega arith)
     again

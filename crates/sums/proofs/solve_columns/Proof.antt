@@ -8,13 +8,13 @@ use Rattle.sums.proofs.solve_columns.Tie as tie
 unknown_count_requires : tie.Need-unknown_count-n-requires
 unknown_count_requires c κs = search rules
 
-cast_n : tie.Need-overflow-cast-n
+cast_n : tie.Need-overflow_cast-n
 cast_n c = search rules
 
 digit_count_requires : tie.Need-digit_count-s-requires
 digit_count_requires c κs = search rules
 
-cast_s : tie.Need-overflow-cast-s
+cast_s : tie.Need-overflow_cast-s
 cast_s c = search rules
 
 unknown_points_requires : tie.Need-unknown_points-requires
@@ -37,14 +37,13 @@ same_length_4 c = search rules
 
 returns : tie.Need-returns
 returns c =
-    let s =
-    c.before.before.before.before.before.before.before.before.before.before.before.before.before.before.before.before.before.before.before.before.before.before.before.before.before.before in
-    let a = s.args in
-    found_of working a.l a.h a.w a.first a.helpers.now a.v a.run s.requires.2 _ _ a.sides.now _ _ s.requires.0.adm
-    c.before.before.before.before.before.before.before.before.before.before.before.before.before.before.before.before.before.before.before.unknown_count-n.ensures
-    c.before.before.before.before.before.before.before.before.before.before.before.before.before.before.before.before.before.before.digit_count-s.ensures
-    c.before.before.before.before.before.before.before.before.before.before.before.before.before.before.before.unknown_points.ensures
-    c.before.before.before.before.before.before.solve_first.ensures
+    
+    let a = c.args in
+    found_of working a.l a.h a.w a.first a.helpers.now a.v a.run c.requires.2 _ _ a.sides.now _ _ c.requires.0.adm
+    c.unknown_count-n.ensures
+    c.digit_count-s.ensures
+    c.unknown_points.ensures
+    c.solve_first.ensures
 
 pub solve_columns_spec : {M : Type 1} → statement M
 solve_columns_spec =

@@ -9,25 +9,23 @@ block_sides_requires c κs = (search rules, search rules)
 
 solve_sides_requires : tie.Need-solve_sides-requires
 solve_sides_requires c κs =
-    let s =
-    c.before.before.before.before.before.before.before.before.before.before.before.before.before.before.before.before.before.before.before.before.before.before.before.before in
-    let a = s.args in (
-      s.requires.0.received.chosen,
-      s.requires.0.block,
+    
+    let a = c.args in (
+      c.requires.0.received.chosen,
+      c.requires.0.block,
       space_of a.l a.h a.w a.first a.helpers.now a.shares.now a.e a.sums.now a.sides.now
-          a.found.now a.points.now a.coefs.now a.row.now a.cur.now s.requires.0 _ _
-          c.before.before.before.before.before.before.before.before.before.before.before.block_sides.auto.0
-          c.before.before.before.before.before.before.before.before.before.before.before.block_sides.auto.1.1.1.1.1.1.1.1.1.1.0,
+          a.found.now a.points.now a.coefs.now a.row.now a.cur.now c.requires.0 _ _
+          c.block_sides.auto.0
+          c.block_sides.auto.1.1.1.1.1.1.1.1.1.1.0,
     )
 
 weigh_sums_requires : tie.Need-weigh_sums-requires
 weigh_sums_requires c κs =
-    let s =
-    c.before.before.before.before.before.before.before.before.before.before.before.before.before.before.before.before.before.before.before.before.before.before.before.before.before.before.before.before.before.before.before.before.before.before.before in
-    let a = s.args in
+    
+    let a = c.args in
     weighing_of a.l a.h a.w a.first a.helpers.now a.shares.now a.e a.sums.now a.sides.now a.found.now a.points.now
-    a.coefs.now a.row.now a.cur.now s.requires.0 a.m _ s.requires.1
-    c.before.before.before.before.before.before.before.before.before.before.solve_sides.auto.0
+    a.coefs.now a.row.now a.cur.now c.requires.0 a.m _ c.requires.1
+    c.solve_sides.auto.0
 
 same_length : tie.Need-shape_of-sums
 same_length c = search rules
@@ -52,13 +50,12 @@ same_length_7 c = search rules
 
 returns : tie.Need-returns
 returns c =
-    let s =
-    c.before.before.before.before.before.before.before.before.before.before.before.before.before.before.before.before.before.before.before.before.before.before.before.before.before.before.before.before.before.before.before.before.before.before.before.before.before.before in
-    let a = s.args in
-    weights_more working a.l a.h a.w a.first a.helpers.now a.shares.now a.e a.m _ _ a.sums.now _ s.requires.0.received.chosen
-    c.before.before.before.before.before.before.before.before.before.before.before.before.before.before.before.before.before.before.before.before.before.before.before.before.before.block_sides.ensures
-    c.before.before.before.before.before.before.before.before.before.before.before.before.before.solve_sides.ensures
-    c.before.before.weigh_sums.ensures s.requires.2
+    
+    let a = c.args in
+    weights_more working a.l a.h a.w a.first a.helpers.now a.shares.now a.e a.m _ _ a.sums.now _ c.requires.0.received.chosen
+    c.block_sides.ensures
+    c.solve_sides.ensures
+    c.weigh_sums.ensures c.requires.2
 
 pub weight_sums_spec : {M : Type 1} → statement M
 weight_sums_spec =

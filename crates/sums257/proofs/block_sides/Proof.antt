@@ -37,9 +37,9 @@ add_share_requires : tie.Need-add_share-requires invariant-loop-k decreases-loop
 add_share_requires c κs = (
   search sharing_of,
   search helper_of,
-  rw (c.before.before.before.before.loop-k.invariant.1
-      ∙ c.before.before.before.before.before.before.before.fill.ensures.long)
-      c.before.before.before.before.before.before.before.before.before.before.before.before.before.before.before.requires.1,
+  rw (c.loop-k.invariant.1
+      ∙ c.fill.ensures.long)
+      c.requires.1,
 )
 
 add_k : tie.Need-overflow-add-k invariant-loop-k decreases-loop-k

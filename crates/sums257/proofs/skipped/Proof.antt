@@ -9,6 +9,6 @@ use Rattle.sums257.proofs.skipped.Tie as tie
 pub skipped_spec : {M : Type 1} → statement M
 skipped_spec =
     tie.close (tie.spec
-    (λ c. sym (skip_low c.before.args.q c.before.args.x c.if-x-q.true))
+    (λ c. sym (skip_low c.args.q c.args.x c.if-x-q.true))
     (λ c. search rules)
-    (λ c. sym (skip_high c.before.args.q c.before.args.x (omega arith) ∙ omega arith)))
+    (λ c. sym (skip_high c.args.q c.args.x (omega arith) ∙ omega arith)))

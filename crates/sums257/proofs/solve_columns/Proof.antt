@@ -38,14 +38,13 @@ same_length_4 c = search rules
 
 returns : tie.Need-returns
 returns c =
-    let s =
-    c.before.before.before.before.before.before.before.before.before.before.before.before.before.before.before.before.before.before.before.before.before.before.before.before.before.before in
-    let a = s.args in
-    found_of working a.l a.h a.w a.first a.helpers.now a.v a.run s.requires.2 _ _ a.sides.now _ _ s.requires.0.adm
-    c.before.before.before.before.before.before.before.before.before.before.before.before.before.before.before.before.before.before.before.unknown_count-n.ensures
-    c.before.before.before.before.before.before.before.before.before.before.before.before.before.before.before.before.before.before.digit_count-s.ensures
-    c.before.before.before.before.before.before.before.before.before.before.before.before.before.before.before.unknown_points.ensures
-    c.before.before.before.before.before.before.solve_first.ensures
+    
+    let a = c.args in
+    found_of working a.l a.h a.w a.first a.helpers.now a.v a.run c.requires.2 _ _ a.sides.now _ _ c.requires.0.adm
+    c.unknown_count-n.ensures
+    c.digit_count-s.ensures
+    c.unknown_points.ensures
+    c.solve_first.ensures
 
 pub solve_columns_spec : {M : Type 1} → statement M
 solve_columns_spec =

@@ -57,11 +57,11 @@ loop_again : tie.Need-loop-a-preserved invariant-loop-a decreases-loop-a
 loop_again c = (
   omega arith,
   search rules,
-  let a = c.before.before.before.before.before.before.before.before.before.before.before.before.args in let k =
-      c.before.before.before.before.before.before.before.before.loop-a in weighed_more working a.l a.h a.w a.m a.found.now a.sums.now
-      k.a _ _ _ _ k.sums-1 _ c.before.before.before.before.before.before.before.before.before.digit_count-s.ensures
-      c.before.before.before.before.before.before.digit_point.ensures c.before.before.before.before.before.inverse.ensures
-      c.before.before.before.before.difference-v.ensures k.inv.2 c.before.before.times_row.ensures,
+  let a = c.args in let k =
+      c.loop-a in weighed_more working a.l a.h a.w a.m a.found.now a.sums.now
+      k.a _ _ _ _ k.sums-1 _ c.digit_count-s.ensures
+      c.digit_point.ensures c.inverse.ensures
+      c.difference-v.ensures k.inv.2 c.times_row.ensures,
 )
 
 same_length : tie.Need-shape_of-sums invariant-loop-a decreases-loop-a

@@ -12,18 +12,18 @@ kept_terms_spec =
     tie.close (tie.spec
     (λ c κs. search rules)
     (λ c.
-    let c1 = c.before in
-    let c2 = c1.before.before.before.before.before.before in
-    kept_listed working c2.args.l c2.args.w c2.args.first c2.args.r c2.args.c.now c2.args.es.now c2.args.x c2.args.sums.now
-    c2.requires.3 (sym c1.is_absent.ensures ∙ not-true _ c.if-not-is_absent.true-raw))
+    
+    
+    kept_listed working c.args.l c.args.w c.args.first c.args.r c.args.c.now c.args.es.now c.args.x c.args.sums.now
+    c.requires.3 (sym c.is_absent.ensures ∙ not-true _ c.if-not-is_absent.true-raw))
     (λ c κs. search rules)
     (λ c. search rules)
     (λ c. search rules)
     (λ c. search rules)
     (λ c.
-    let c1 = c.before.before.before.before.before.before in
-    let c2 = c1.before.before.before.before in
-    let c3 = c2.before in
-    let c4 = c3.before.before.before.before.before.before in
-    kept_of working c4.args.l c4.args.w c4.args.first c4.args.r c4.args.c.now c4.args.es.now c4.args.x c4.args.sums.now
-    c1.tray_terms.new.0 (sym c3.is_absent.ensures ∙ not-false _ c2.if-not-is_absent.false-raw) c1.tray_terms.ensures))
+    
+    
+    
+    
+    kept_of working c.args.l c.args.w c.args.first c.args.r c.args.c.now c.args.es.now c.args.x c.args.sums.now
+    c.tray_terms.new.sums (sym c.is_absent.ensures ∙ not-false _ c.if-not-is_absent.false-raw) c.tray_terms.ensures))

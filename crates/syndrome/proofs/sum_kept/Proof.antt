@@ -25,11 +25,11 @@ sum_kept_spec =
     (λ c κs. search sums_in)
     (λ c. (omega arith, refl, refl, refl, search (sums_none working)))
     (λ c κs.
-    let c1 = c.before.before.before.before in
-    let c2 = c1.before.before.before.before.before.before.before.before.before.before.before in (
+    
+    (
       search rules,
-      room_next c2.args.w c2.args.r c2.args.sums.now c2.args.cur.now c2.args.row.now c1.loop-x.sums
-          c1.loop-x.cur c1.loop-x.row c2.requires.1 (search rules) c1.loop-x.invariant.2 c1.loop-x.invariant.3,
+      room_next c.args.w c.args.r c.args.sums.now c.args.cur.now c.args.row.now c.loop-x.sums
+          c.loop-x.cur c.loop-x.row c.requires.1 (search rules) c.loop-x.invariant.2 c.loop-x.invariant.3,
       search rules,
       search rules,
       omega arith,

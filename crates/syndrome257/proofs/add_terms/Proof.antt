@@ -14,10 +14,10 @@ add_terms_spec =
     (λ c. search (terms_none working))
     (λ c κs. (search first_in, search rules))
     (λ c κs.
-    let c1 = c.before.before.before.before in
-    let c2 = c1.before.before.before.before.before.before.before in (
-      room_next c2.args.w c2.args.r c2.args.sums.now c2.args.cur.now c2.args.row.now c1.add.new.0 c2.args.cur.now
-          c2.args.row.now c2.requires c1.add.ensures.long refl refl,
+    
+    (
+      room_next c.args.w c.args.r c.args.sums.now c.args.cur.now c.args.row.now c.add.new.0 c.args.cur.now
+          c.args.row.now c.requires c.add.ensures.long refl refl,
       omega arith,
     ))
     (λ c. search rules)

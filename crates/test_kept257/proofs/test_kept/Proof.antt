@@ -16,21 +16,21 @@ test_kept_spec =
     (λ c. search (few working))
     (λ c κs. (search (erasing working), search (admitted working)))
     (λ c.
-    let c1 = c.before.before.before.before in
-    let a = c1.before.before.before.before.args in
-    sound working a.l a.erased.now a.c.now _ c1.before.refusal-ground.ensures c1.if-ground-ne0.false _ c.before.all_fit.ensures _
-    c.before.before.check_count.ensures c.if-all_fit.true)
+    
+    let a = c.args in
+    sound working a.l a.erased.now a.c.now _ c.refusal-ground.ensures c.if-ground-ne0.false _ c.all_fit.ensures _
+    c.check_count.ensures c.if-all_fit.true)
     (λ c κs.
-    let c1 = c.before.before.before.before in
-    let a = c1.before.before.before.before.args in (
+    
+    let a = c.args in (
       search (erasing working),
-      not_all working a.l a.erased.now a.c.now _ c1.before.refusal-ground.ensures c1.if-ground-ne0.false _
-          c.before.all_fit.ensures c.if-all_fit.false,
+      not_all working a.l a.erased.now a.c.now _ c.refusal-ground.ensures c.if-ground-ne0.false _
+          c.all_fit.ensures c.if-all_fit.false,
     ))
     (λ c. search rules)
     (λ c κs. search rules)
     (λ c.
-    let c1 = c.before.before.before.before.before.before in
-    let a = c1.before.before.before.before.args in
-    bad working a.l a.erased.now a.c.now _ c1.before.refusal-ground.ensures c1.if-ground-ne0.false _ _ _
-    c.before.before.before.before.check_count.ensures c.of.ensures c.before.bad_layer.ensures))
+    
+    let a = c.args in
+    bad working a.l a.erased.now a.c.now _ c.refusal-ground.ensures c.if-ground-ne0.false _ _ _
+    c.check_count.ensures c.of.ensures c.bad_layer.ensures))

@@ -11,4 +11,4 @@ pub is_zero_spec : {M : Type 1} → statement M
 is_zero_spec = tie.close (tie.spec
     (λ c κs. search rules)
     (λ c κs. search rules)
-    (λ c. ap (λ (y : ℕ). eqb y 0) (c.index.ensures.0 ∙ ap (reduced gf256) c.before.at.ensures)))
+    (λ c. ap (λ (y : ℕ). eqb y 0) (c.index.ensures.0 ∙ ap (reduced gf256) c.at.ensures)))

@@ -14,7 +14,7 @@ scan_spec =
     (λ c. search rules)
     (λ c. search rules)
     (λ c κs.
-    let c1 = c.before.before.before.before in
-    let c2 = c1.before.before in
-    let s = c2 in let d = c1.block_digits-e in (d.ensures.0, s.requires, refl, room s.args.l d.result d.ensures.1 d.ensures.2))
+    
+    
+    let d = c.block_digits-e in (d.ensures.0, c.requires, refl, room c.args.l d.result d.ensures.1 d.ensures.2))
     (λ c. search rules))

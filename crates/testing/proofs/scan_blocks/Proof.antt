@@ -35,15 +35,15 @@ scan_blocks_spec =
     (λ c. search rules)
     (λ c. search rules)
     (λ c.
-    let c1 = c.before.before.before.before.before.before.before.before in
-    let c2 = c1.before.before.before.before in
-    let c3 = c2.before in
-    let c4 = c3.before in
-    let c5 = c4.before.before.before.before.before.before.before in
-    rw c.of.ensures (first_bad working c5.args.l c5.args.c.now c4.block_width-w.result c3.loop-q.q c1.first_broken-p.result.column
-    c1.first_broken-p.result.check c3.loop-q.invariant.4 c1.first_broken-p.ensures (omega arith) (block_at c5.args.l c5.args.e
-    c4.block_width-w.result c5.args.total c5.args.c.now c5.requires.0 c5.requires.1 c4.block_width-w.ensures c3.loop-q.q
-    c2.loop-q-test.true).inside))
+    
+    
+    
+    
+    
+    rw c.of.ensures (first_bad working c.args.l c.args.c.now c.block_width-w.result c.loop-q.q c.first_broken-p.result.column
+    c.first_broken-p.result.check c.loop-q.invariant.4 c.first_broken-p.ensures (omega arith) (block_at c.args.l c.args.e
+    c.block_width-w.result c.args.total c.args.c.now c.requires.0 c.requires.1 c.block_width-w.ensures c.loop-q.q
+    c.loop-q-test.true).inside))
     (λ c. search next_fits)
     (λ c. omega arith)
     (λ c. (omega arith, search rules, search rules, search rules, search (sound_more working)))
@@ -51,9 +51,9 @@ scan_blocks_spec =
     (λ c. search rules)
     (λ c. search rules)
     (λ c.
-    let c1 = c.before in
-    let c2 = c1.before in
-    let c3 = c2.before.before.before.before.before.before.before in
-    sound_end working c3.args.l c3.args.c.now c2.block_width-w.result c1.loop-q.q (c3.args.total / c2.block_width-w.result) c1.loop-q.invariant.4
-    c1.loop-q.invariant.0 (omega arith) (count_all c3.args.l c3.args.e c2.block_width-w.result c3.args.total c3.args.c.now
-    c3.requires.0 c3.requires.1 c2.block_width-w.ensures)))
+    
+    
+    
+    sound_end working c.args.l c.args.c.now c.block_width-w.result c.loop-q.q (c.args.total / c.block_width-w.result) c.loop-q.invariant.4
+    c.loop-q.invariant.0 (omega arith) (count_all c.args.l c.args.e c.block_width-w.result c.args.total c.args.c.now
+    c.requires.0 c.requires.1 c.block_width-w.ensures)))

@@ -16,35 +16,35 @@ use Rattle.testing.proofs.test.Statement.{statement}
 use Rattle.testing.proofs.test.Tie as tie
 
 -- past the first test
-adm : (c : tie.Else-not-admitted) → admissible gf256.order c.before.before.before.args.l ≡ true
-adm c = sym c.before.admitted.ensures ∙ not-false _ c.if-not-admitted.false-raw
+adm : (c : tie.Else-not-admitted) → admissible gf256.order c.args.l ≡ true
+adm c = sym c.admitted.ensures ∙ not-false _ c.if-not-admitted.false-raw
 
-facts : (c : tie.Else-not-admitted) → Cabinet c.before.before.before.args.l
+facts : (c : tie.Else-not-admitted) → Cabinet c.args.l
 facts c = (admissible_facts gf256.order _ (adm c)).cabinet
 
 -- past the second
-long : (c : tie.Else-c-tray_count) → let a = c.before.before.before.before.before.before.args in length a.c.now ≡ trays a.l * layers a.l
-long c = c.if-c-tray_count.false ∙ ap₂ ◌*◌ c.before.tray_count.ensures c.before.before.layer_count-total.ensures
+long : (c : tie.Else-c-tray_count) → let a = c.args in length a.c.now ≡ trays a.l * layers a.l
+long c = c.if-c-tray_count.false ∙ ap₂ ◌*◌ c.tray_count.ensures c.layer_count-total.ensures
 
 pub test_spec : {M : Type 1} → statement M
 test_spec =
     tie.close (tie.spec
     (λ c. search rules)
     (λ c κs. omega arith)
-    (λ c. (refused_1 _ _ _ (sym c.before.admitted.ensures ∙ not-true _ c.if-not-admitted.true-raw), lit< tt))
+    (λ c. (refused_1 _ _ _ (sym c.admitted.ensures ∙ not-true _ c.if-not-admitted.true-raw), lit< tt))
     (λ c κs. facts c)
     (λ c κs. facts c.before)
     (λ c. search rules)
     (λ c. search rules)
     (λ c. let a = facts c.before.before in record { fits = mul_below tray_limit layer_limit (omega arith) (omega arith) tt })
-    (λ c. (refused_2 _ _ _ (adm c.before.before.before) (λ e. c.if-c-tray_count.true (e ∙ sym (ap₂ ◌*◌ c.before.tray_count.ensures c.before.before.layer_count-total.ensures))), lit< tt))
+    (λ c. (refused_2 _ _ _ (adm c.before.before.before) (λ e. c.if-c-tray_count.true (e ∙ sym (ap₂ ◌*◌ c.tray_count.ensures c.layer_count-total.ensures))), lit< tt))
     (λ c κs. omega arith)
-    (λ c. (refused_3 _ _ _ (adm c.before.before.before.before.before) (long c.before.before) (whole_false _ _ _ c.before.are_symbols.ensures c.if-not-are_symbols.true-raw), lit< tt))
-    (λ c κs. record { adm = facts c.before.before.before.before.before; total_is = c.before.before.before.before.layer_count-total.ensures; long = long c.before.before })
+    (λ c. (refused_3 _ _ _ (adm c.before.before.before.before.before) (long c.before.before) (whole_false _ _ _ c.are_symbols.ensures c.if-not-are_symbols.true-raw), lit< tt))
+    (λ c κs. record { adm = facts c.before.before.before.before.before; total_is = c.layer_count-total.ensures; long = long c.before.before })
     (λ c.
     let c1 = c.before in
     let c2 = c1.before in
     let c3 = c2.before in
     let c4 = c3.before.before.before in
-    let t = whole_true gf256 _ _ c2.are_symbols.ensures c1.if-not-are_symbols.false-raw in tested gf256 _ _ c.scan.result (not_refused _ _ _ (adm c4) (long c3) t) (long c3)
+    let t = whole_true gf256 _ _ c.are_symbols.ensures c.if-not-are_symbols.false-raw in tested gf256 _ _ c.scan.result (not_refused _ _ _ (adm c4) (long c3) t) (long c3)
     (whole_range gf256 _ t) c.scan.ensures))

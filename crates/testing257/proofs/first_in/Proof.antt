@@ -25,10 +25,10 @@ abbrev decreases-layers : tie.decreases-layers
 decreases-layers sums w r j₀ t₀ j t = w - j
 
 -- the place read in a turn
-inside : (c : tie.In-loop-t invariant-loop-t decreases-loop-t invariant-layers decreases-layers) → let a = c.before.before.before.before.before.args in c.before.loop-t.t * a.w +
-    c.before.before.before.layers.j < length a.sums.now
-inside c = let a = c.before.before.before.before.before.args in sum_in a.sums.now a.w a.r c.before.loop-t.t c.before.before.before.layers.j
-    c.before.before.before.before.before.requires c.loop-t-test.true c.before.before.layers-test.true
+inside : (c : tie.In-loop-t invariant-loop-t decreases-loop-t invariant-layers decreases-layers) → let a = c.args in c.loop-t.t * a.w +
+    c.layers.j < length a.sums.now
+inside c = let a = c.args in sum_in a.sums.now a.w a.r c.loop-t.t c.layers.j
+    c.requires c.loop-t-test.true c.layers-test.true
 
 pub first_in_spec : {M : Type 1} → statement M
 first_in_spec =
@@ -40,21 +40,21 @@ first_in_spec =
     (λ c κs. inside c)
     (λ c. omega arith)
     (λ c. omega arith)
-    (λ c. (omega arith, below_more _ _ c.before.before.before.loop-t.invariant.1 (zero_so _ _ c.before.is_zero.ensures c.if-not-is_zero.false-raw)))
+    (λ c. (omega arith, below_more _ _ c.loop-t.invariant.1 (zero_so _ _ c.is_zero.ensures c.if-not-is_zero.false-raw)))
     (λ c. omega arith)
     (λ c. omega arith)
-    (λ c. (omega arith, below_more _ _ c.before.before.before.layers.invariant.1 (λ v h. c.before.loop-t.invariant.1 v (omega arith))))
+    (λ c. (omega arith, below_more _ _ c.layers.invariant.1 (λ v h. c.loop-t.invariant.1 v (omega arith))))
     (λ c. record {
       column_in = omega arith;
-      earlier = c.before.layers.invariant.1;
+      earlier = c.layers.invariant.1;
       check_in = λ h. absurd (omega arith);
       broken = λ h. absurd (omega arith);
       below = λ h. absurd (omega arith);
     })
     (λ c. record {
       column_in = omega arith;
-      earlier = c.before.before.before.before.before.layers.invariant.1;
+      earlier = c.layers.invariant.1;
       check_in = λ h. omega arith;
-      broken = λ h. zero_not _ _ c.before.is_zero.ensures c.if-not-is_zero.true-raw;
-      below = λ h. c.before.before.before.loop-t.invariant.1;
+      broken = λ h. zero_not _ _ c.is_zero.ensures c.if-not-is_zero.true-raw;
+      below = λ h. c.loop-t.invariant.1;
     }))

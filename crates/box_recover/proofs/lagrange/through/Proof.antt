@@ -24,10 +24,10 @@ through_spec =
     (λ c. search rules)
     (λ c. search rules)
     (λ c.
-    let a = c.before.before.before.before.before.before.before.args in (
+    let a = c.args in (
       omega arith,
-      sums_more (through_term a.points.now a.values.now (elem a.x)) c.before.before.before.before.loop-i.i _ _ _ _
-          c.before.before.before.before.loop-i.invariant.1 c.add_product-sum.ensures
-          (through_term_lem a.points.now a.values.now (elem a.x) c.before.before.before.before.loop-i.i _ c.before.weight.ensures),
+      sums_more (through_term a.points.now a.values.now (elem a.x)) c.loop-i.i _ _ _ _
+          c.loop-i.invariant.1 c.add_product-sum.ensures
+          (through_term_lem a.points.now a.values.now (elem a.x) c.loop-i.i _ c.weight.ensures),
     ))
-    (λ c. let a = c.before.before.before.before.args in through_end a.points.now a.values.now (elem a.x) c.before.loop-i.i _ (omega arith) c.before.loop-i.invariant.1))
+    (λ c. let a = c.args in through_end a.points.now a.values.now (elem a.x) c.loop-i.i _ (omega arith) c.loop-i.invariant.1))

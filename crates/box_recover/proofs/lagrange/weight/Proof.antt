@@ -24,6 +24,6 @@ weight_spec =
     (λ c κs. search rules)
     (λ c. search rules)
     (λ c. search rules)
-    (λ c. let a = c.before.before.before.before.before.before.args in
-    (omega arith, weight_more a.points.now a.i (elem a.x) c.before.before.before.loop-j.j _ _ c.before.before.before.loop-j.invariant.1 c.factor-product.ensures))
-    (λ c. let a = c.before.before.before.before.args in weight_end a.points.now a.i (elem a.x) c.before.loop-j.j _ (omega arith) c.before.loop-j.invariant.1))
+    (λ c. let a = c.args in
+    (omega arith, weight_more a.points.now a.i (elem a.x) c.loop-j.j _ _ c.loop-j.invariant.1 c.factor-product.ensures))
+    (λ c. let a = c.args in weight_end a.points.now a.i (elem a.x) c.loop-j.j _ (omega arith) c.loop-j.invariant.1))

@@ -9,9 +9,9 @@ leave_shares_spec =
     tie.close (tie.spec
     (λ c. search front_fits)
     (λ c κs.
-    let c1 = c.before.before.before in
-    let a = c1.args in
-    let p = c1.requires in
+    
+    let a = c.args in
+    let p = c.requires in
     front_in a.k a.n a.each a.shares.now a.out.now p.0 p.2 p.3)
     (λ c. search front_fits)
     (λ c. search rules)
@@ -19,16 +19,16 @@ leave_shares_spec =
     (λ c. record { fits = omega arith })
     (λ c. search from_fits)
     (λ c κs.
-    let c1 = c.before.before.before in
-    let c2 = c1.before.before.before.before in
-    let a = c2.args in
-    let p = c2.requires in
-    rest_in a.k a.n a.each a.shares.now a.out.now p.0 p.2 p.3 c1.copy.new.0 c1.copy.ensures.long)
+    
+    
+    let a = c.args in
+    let p = c.requires in
+    rest_in a.k a.n a.each a.shares.now a.out.now p.0 p.2 p.3 c.copy.new.0 c.copy.ensures.long)
     (λ c. search rules)
     (λ c.
-    let c1 = c.before.before in
-    let c2 = c1.before.before.before.before in
-    let c3 = c2.before.before.before.before in
-    let a = c3.args in
-    let p = c3.requires in
-    shares_left a.k a.n a.each a.shares.now a.out.now p.0 p.2 p.3 _ _ c2.copy.ensures c1.copy-2.ensures))
+    
+    
+    
+    let a = c.args in
+    let p = c.requires in
+    shares_left a.k a.n a.each a.shares.now a.out.now p.0 p.2 p.3 _ _ c.copy.ensures c.copy-2.ensures))

@@ -23,29 +23,29 @@ leave_helpers_spec =
     (λ c. (omega arith, refl, λ q l. absurd (omega arith)))
     (λ c κs. omega arith)
     (λ c.
-    let c1 = c.before.before in
-    let c2 = c1.before.before.before in
-    let a = c2.args in
-    let p = c2.requires in
-    helper_fits a.k c1.loop-i.i _ a.out.now a.helpers.now p.0 p.1 (omega arith) c.past.ensures)
+    
+    
+    let a = c.args in
+    let p = c.requires in
+    helper_fits a.k c.loop-i.i _ a.out.now a.helpers.now p.0 p.1 (omega arith) c.past.ensures)
     (λ c.
-    let c1 = c.before in
-    let c2 = c1.before.before in
-    let c3 = c2.before.before.before in
-    let a = c3.args in
-    helper_there a.k c2.loop-i.i _ a.out.now a.helpers.now c3.requires.0 (omega arith) c1.past.ensures)
+    
+    
+    
+    let a = c.args in
+    helper_there a.k c.loop-i.i _ a.out.now a.helpers.now c.requires.0 (omega arith) c.past.ensures)
     (λ c. search rules)
     (λ c. omega arith)
     (λ c. search rules)
     (λ c. omega arith)
     (λ c.
-    let c1 = c.before in
-    let c2 = c1.before.before in
-    let c3 = c2.before.before.before in
-    let a = c3.args in (
+    
+    
+    
+    let a = c.args in (
       omega arith,
       simp length-set (omega arith),
-      left_more a.k c2.loop-i.i _ c2.loop-i.out a.helpers.now c2.loop-i.invariant.2 (omega arith) c1.past.ensures,
+      left_more a.k c.loop-i.i _ c.loop-i.out a.helpers.now c.loop-i.invariant.2 (omega arith) c.past.ensures,
     ))
-    (λ c. c.before.loop-i.invariant.1)
-    (λ c. let c1 = c.before in record { long = c1.loop-i.invariant.1; at = λ i q. c1.loop-i.invariant.2 i (omega arith) }))
+    (λ c. c.loop-i.invariant.1)
+    (λ c. record { long = c.loop-i.invariant.1; at = λ i q. c.loop-i.invariant.2 i (omega arith) }))

@@ -11,18 +11,18 @@ gather_rack_spec =
     (λ c κs. search rules)
     (λ c κs. search rules)
     (λ c.
-    let a = c.before.before.before.before.before.before.args in
+    let a = c.args in
     answer_kept edition1 a.l a.volume a.rack.0 a.lost.now a.images.now a.out.now _
-    c.before.before.number-i.ensures _
-    c.before.refusal-ground.ensures c.if-ground-ne0.true)
+    c.number-i.ensures _
+    c.refusal-ground.ensures c.if-ground-ne0.true)
     (λ c κs.
-    let a = c.before.before.before.before.before.before.before.args in
-    rack_room edition1 a.l a.volume c.before.before.before.number-i.result a.lost.now a.images.now a.out.now _
-    c.before.before.refusal-ground.ensures c.before.if-ground-ne0.false)
+    let a = c.args in
+    rack_room edition1 a.l a.volume c.number-i.result a.lost.now a.images.now a.out.now _
+    c.refusal-ground.ensures c.if-ground-ne0.false)
     (λ c. search rules)
     (λ c.
-    let a = c.before.before.before.before.before.before.before.before.before.before.args in
+    let a = c.args in
     answer_done edition1 a.l a.volume a.rack.0 a.lost.now a.images.now a.out.now _
-    c.before.before.before.before.before.before.number-i.ensures _
-    c.before.before.before.before.before.refusal-ground.ensures c.before.before.before.before.if-ground-ne0.false _
-    c.before.before.take_rack.ensures))
+    c.number-i.ensures _
+    c.refusal-ground.ensures c.if-ground-ne0.false _
+    c.take_rack.ensures))

@@ -24,10 +24,10 @@ of_rack_spec =
     (λ c. search rules)
     (λ c. search rules)
     (λ c. search rules)
-    (λ c. let a = c.before.before.before.before.args in
-    rack_false a.u a.rack a.lost.now c.before.before.before.loop-k.k (omega arith) c.if-lost-k.true)
+    (λ c. let a = c.args in
+    rack_false a.u a.rack a.lost.now c.loop-k.k (omega arith) c.if-lost-k.true)
     (λ c. search rules)
     (λ c. search rules)
-    (λ c. (omega arith, below_more _ _ c.before.before.before.loop-k.invariant.1 (eq-eqb _ _ c.if-lost-k.false)))
-    (λ c. let a = c.before.before.args in
-    rack_true a.u a.rack a.lost.now c.before.loop-k.k (omega arith) c.before.loop-k.invariant.1))
+    (λ c. (omega arith, below_more _ _ c.loop-k.invariant.1 (eq-eqb _ _ c.if-lost-k.false)))
+    (λ c. let a = c.args in
+    rack_true a.u a.rack a.lost.now c.loop-k.k (omega arith) c.loop-k.invariant.1))

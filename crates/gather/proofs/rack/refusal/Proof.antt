@@ -16,32 +16,32 @@ use borrow.Author.Rules.{rules}
 use Rattle.gather.proofs.rack.refusal.Statement.{statement}
 use Rattle.gather.proofs.rack.refusal.Tie as tie
 
-adm : (c : tie.Else-not-admitted) → admissible edition1.order c.before.before.before.before.args.l ≡ true
-adm c = told_true c.before.admitted.ensures c.if-not-admitted.false-raw
+adm : (c : tie.Else-not-admitted) → admissible edition1.order c.args.l ≡ true
+adm c = told_true c.admitted.ensures c.if-not-admitted.false-raw
 
-facts : (c : tie.Else-not-admitted) → Cabinet c.before.before.before.before.args.l
+facts : (c : tie.Else-not-admitted) → Cabinet c.args.l
 facts c = (admissible_facts edition1.order _ (adm c)).cabinet
 
 long : (c : tie.Else-images-u) → length
-    c.before.before.before.before.before.before.args.images.now ≡ c.before.before.before.before.before.before.args.l.size * image_length
-    edition1 c.before.before.before.before.before.before.args.l
-long c = c.if-images-u.false ∙ ap (λ n. c.before.before.before.before.before.before.args.l.size * n) c.before.image_length.ensures
+    c.args.images.now ≡ c.args.l.size * image_length
+    edition1 c.args.l
+long c = c.if-images-u.false ∙ ap (λ n. c.args.l.size * n) c.image_length.ensures
 
-room : (c : tie.Else-room-u) → c.before.before.before.before.before.before.before.before.args.room ≡ c.before.before.before.before.before.before.before.before.args.l.size * layers
-    c.before.before.before.before.before.before.before.before.args.l
-room c = c.if-room-u.false ∙ ap (λ n. c.before.before.before.before.before.before.before.before.args.l.size * n)
-    c.before.layer_count.ensures
+room : (c : tie.Else-room-u) → c.args.room ≡ c.args.l.size * layers
+    c.args.l
+room c = c.if-room-u.false ∙ ap (λ n. c.args.l.size * n)
+    c.layer_count.ensures
 
-own : (c : tie.Else-not-of_rack) → of_rack c.before.before.before.before.before.before.before.before.before.before.before.args.l.size
-    c.before.before.before.before.before.before.before.before.before.before.before.args.rack
-    c.before.before.before.before.before.before.before.before.before.before.before.args.lost.now ≡ true
-own c = told_true c.before.of_rack.ensures c.if-not-of_rack.false-raw
+own : (c : tie.Else-not-of_rack) → of_rack c.args.l.size
+    c.args.rack
+    c.args.lost.now ≡ true
+own c = told_true c.of_rack.ensures c.if-not-of_rack.false-raw
 
 up : (c : tie.Else-not-strictly_rising) → strictly_rising
-    c.before.before.before.before.before.before.before.before.before.before.before.before.before.args.lost.now ≡ true
-up c = told_true c.before.strictly_rising.ensures c.if-not-strictly_rising.false-raw
+    c.args.lost.now ≡ true
+up c = told_true c.strictly_rising.ensures c.if-not-strictly_rising.false-raw
 
-told : (c : tie.Else-b-rack) → let a = c.before.before.before.before.before.before.before.before.before.args in
+told : (c : tie.Else-b-rack) → let a = c.args in
     RackRead edition1 a.l a.rack a.images.now
 told c = record {
   adm = facts c.before.before.before.before.before;
@@ -55,37 +55,37 @@ refusal_spec =
     tie.close
     (tie.spec
     (λ c κs. search rules)
-    (λ c. rack_1 edition1 _ _ _ _ _ _ (told_false c.before.admitted.ensures c.if-not-admitted.true-raw))
+    (λ c. rack_1 edition1 _ _ _ _ _ _ (told_false c.admitted.ensures c.if-not-admitted.true-raw))
     (λ c. search rules)
     (λ c κs. facts c)
     (λ c. let b = bounds _ (facts c.before) in let a = facts c.before in
     record { fits = mul_below 60 8216 (omega (arith, b.size_high)) (omega (arith, c.image_length.ensures)) tt })
     (λ c. rack_2_images edition1 _ _ _ _ _ _ (adm c.before.before)
-    (λ e. c.if-images-u.true (e ∙ sym (ap (λ n. c.before.before.before.before.before.before.args.l.size * n)
-    c.before.image_length.ensures))))
+    (λ e. c.if-images-u.true (e ∙ sym (ap (λ n. c.args.l.size * n)
+    c.image_length.ensures))))
     (λ c. search rules)
     (λ c κs. facts c.before.before)
     (λ c. search rules)
     (λ c. let b = bounds _ (facts c.before.before.before) in let a = facts c.before.before.before in
     record { fits = mul_below 60 4096 (omega (arith, b.size_high)) (omega (arith, c.layer_count.ensures)) tt })
     (λ c. rack_2_room edition1 _ _ _ _ _ _ (adm c.before.before.before.before) (long c.before.before)
-    (λ e. c.if-room-u.true (e ∙ sym (ap (λ n. c.before.before.before.before.before.before.before.before.args.l.size * n)
-    c.before.layer_count.ensures))))
+    (λ e. c.if-room-u.true (e ∙ sym (ap (λ n. c.args.l.size * n)
+    c.layer_count.ensures))))
     (λ c. rack_3_rack edition1 _ _ _ _ _ _ (adm c.before.before.before.before.before) (long c.before.before.before)
     (room c.before) c.if-b-rack.true)
     (λ c κs. (facts c.before.before.before.before.before).size_low)
     (λ c. rack_3_lost edition1 _ _ _ _ _ _ (adm c.before.before.before.before.before.before.before)
-    (long c.before.before.before.before.before) (room c.before.before.before) c.before.before.if-b-rack.false
-    (told_false c.before.of_rack.ensures c.if-not-of_rack.true-raw))
+    (long c.before.before.before.before.before) (room c.before.before.before) c.if-b-rack.false
+    (told_false c.of_rack.ensures c.if-not-of_rack.true-raw))
     (λ c κs. search rules)
     (λ c. rack_4 edition1 _ _ _ _ _ _ (adm c.before.before.before.before.before.before.before.before.before)
     (long c.before.before.before.before.before.before.before) (room c.before.before.before.before.before)
-    c.before.before.before.before.if-b-rack.false (own c.before.before)
-    (told_false c.before.strictly_rising.ensures c.if-not-strictly_rising.true-raw))
+    c.if-b-rack.false (own c.before.before)
+    (told_false c.strictly_rising.ensures c.if-not-strictly_rising.true-raw))
     (λ c κs. told c.before.before.before.before)
     (λ c. search rules)
     (λ c.
     rack_looked edition1 _ _ _ _ _ _ (adm c.before.before.before.before.before.before.before.before.before.before)
     (long c.before.before.before.before.before.before.before.before)
-    (room c.before.before.before.before.before.before) c.before.before.before.before.before.if-b-rack.false
+    (room c.before.before.before.before.before.before) c.if-b-rack.false
     (own c.before.before.before) (up c.before) _ c.lowest_ground.ensures))

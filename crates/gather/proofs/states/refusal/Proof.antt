@@ -12,31 +12,31 @@ use borrow.Author.Rules.{rules}
 use Rattle.gather.proofs.states.refusal.Statement.{statement}
 use Rattle.gather.proofs.states.refusal.Tie as tie
 
-adm : (c : tie.Else-not-admitted) → admissible edition1.order c.before.before.args.l ≡ true
-adm c = told_true c.before.admitted.ensures c.if-not-admitted.false-raw
+adm : (c : tie.Else-not-admitted) → admissible edition1.order c.args.l ≡ true
+adm c = told_true c.admitted.ensures c.if-not-admitted.false-raw
 
-facts : (c : tie.Else-not-admitted) → Cabinet c.before.before.args.l
+facts : (c : tie.Else-not-admitted) → Cabinet c.args.l
 facts c = (admissible_facts edition1.order _ (adm c)).cabinet
 
-long : (c : tie.Else-images-n) → let a = c.before.before.before.before.before.args in a.images ≡ trays a.l * image_length edition1 a.l
-long c = c.if-images-n.false ∙ ap₂ ◌*◌ c.before.before.tray_count-n.ensures c.before.image_length.ensures
+long : (c : tie.Else-images-n) → let a = c.args in a.images ≡ trays a.l * image_length edition1 a.l
+long c = c.if-images-n.false ∙ ap₂ ◌*◌ c.tray_count-n.ensures c.image_length.ensures
 
 pub refusal_spec : {M : Type 1} → statement M
 refusal_spec =
     tie.close
     (tie.spec
     (λ c κs. search rules)
-    (λ c. states_1 edition1 _ _ _ (told_false c.before.admitted.ensures c.if-not-admitted.true-raw))
+    (λ c. states_1 edition1 _ _ _ (told_false c.admitted.ensures c.if-not-admitted.true-raw))
     (λ c κs. facts c)
     (λ c. search rules)
     (λ c κs. facts c.before)
     (λ c.
     let a = facts c.before.before in
-    record { fits = mul_below 60 8216 (omega (arith, c.before.tray_count-n.ensures)) (omega (arith, c.image_length.ensures)) tt })
+    record { fits = mul_below 60 8216 (omega (arith, c.tray_count-n.ensures)) (omega (arith, c.image_length.ensures)) tt })
     (λ c.
     states_2_images edition1 _ _ _ (adm c.before.before.before)
-    (λ e. c.if-images-n.true (e ∙ sym (ap₂ ◌*◌ c.before.before.tray_count-n.ensures c.before.image_length.ensures))))
+    (λ e. c.if-images-n.true (e ∙ sym (ap₂ ◌*◌ c.tray_count-n.ensures c.image_length.ensures))))
     (λ c. states_2_room edition1 _ _ _ (adm c.before.before.before.before) (long c.before)
-    (λ e. c.if-room-n.true (e ∙ sym c.before.before.before.tray_count-n.ensures)))
+    (λ e. c.if-room-n.true (e ∙ sym c.tray_count-n.ensures)))
     (λ c. states_0 edition1 _ _ _ (adm c.before.before.before.before) (long c.before)
-    (c.if-room-n.false ∙ c.before.before.before.tray_count-n.ensures)))
+    (c.if-room-n.false ∙ c.tray_count-n.ensures)))

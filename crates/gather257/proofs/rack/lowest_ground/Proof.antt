@@ -20,11 +20,11 @@ lowest_ground_spec =
     (tie.spec
     invariant-loop-g
     decreases-loop-g
-    (λ c. let a = c.before.before.args in let h = first_low edition2 a.l a.rack a.images.now c.before.before.requires in
+    (λ c. let a = c.args in let h = first_low edition2 a.l a.rack a.images.now c.requires in
     omega arith)
     (λ c. (omega arith, lowest_none _ _ _ _ _ _))
-    (λ c. let a = c.before.before.before.before.args in
-    let h = first_low edition2 a.l a.rack a.images.now c.before.before.before.before.requires in omega arith)
+    (λ c. let a = c.args in
+    let h = first_low edition2 a.l a.rack a.images.now c.requires in omega arith)
     (λ c κs. search place_read)
     (λ c κs. search rules)
     (λ c. search rules)

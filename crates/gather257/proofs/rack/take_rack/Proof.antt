@@ -20,17 +20,17 @@ take_rack_spec =
     (tie.spec
     invariant-loop-g
     decreases-loop-g
-    (λ c. let a = c.before.before.before.args in
-    let h = first_low edition2 a.l a.rack a.images.now c.before.before.before.requires.read in omega arith)
-    (λ c κs. c.before.before.before.requires.read.adm)
+    (λ c. let a = c.args in
+    let h = first_low edition2 a.l a.rack a.images.now c.requires.read in omega arith)
+    (λ c κs. c.requires.read.adm)
     (λ c. search rules)
     (λ c. (omega arith, rack_none _ _ _ _ _ _))
-    (λ c. let a = c.before.before.before.before.before.before.args in
-    let h = first_low edition2 a.l a.rack a.images.now c.before.before.before.before.before.before.requires.read in
+    (λ c. let a = c.args in
+    let h = first_low edition2 a.l a.rack a.images.now c.requires.read in
     omega arith)
     (λ c κs. search rack_place)
     (λ c. search rules)
     (λ c. search rules)
     (λ c. (omega arith, search rack_more))
-    (λ c. c.before.loop-g.invariant.1.long)
+    (λ c. c.loop-g.invariant.1.long)
     (λ c. search rack_end))

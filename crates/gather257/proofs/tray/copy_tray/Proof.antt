@@ -11,16 +11,16 @@ copy_tray_spec =
     tie.close
     (tie.spec
     (λ c κs. search rules)
-    (λ c. let a = c.before.before.before.args in
-    let h = place_in edition2 a.l a.images.now a.place _ c.image_length-size.ensures c.before.before.before.requires.read in
+    (λ c. let a = c.args in
+    let h = place_in edition2 a.l a.images.now a.place _ c.image_length-size.ensures c.requires.read in
     omega arith)
-    (λ c. let a = c.before.before.before.args in
-    let h = place_in edition2 a.l a.images.now a.place _ c.image_length-size.ensures c.before.before.before.requires.read in
+    (λ c. let a = c.args in
+    let h = place_in edition2 a.l a.images.now a.place _ c.image_length-size.ensures c.requires.read in
     omega arith)
     (λ c. search rules)
     (λ c. search rules)
-    (λ c. let a = c.before.before.before.args in
-    let h = place_in edition2 a.l a.images.now a.place _ c.image_length-size.ensures c.before.before.before.requires.read in
+    (λ c. let a = c.args in
+    let h = place_in edition2 a.l a.images.now a.place _ c.image_length-size.ensures c.requires.read in
     omega arith)
     (λ c. search rules)
     (λ c κs. search rules)

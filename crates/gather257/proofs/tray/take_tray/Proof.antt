@@ -14,14 +14,14 @@ take_tray_spec =
     (λ c κs. search rules)
     (λ c. search rules)
     (λ c.
-    let a = c.before.before.before.before.before.before.before.before.args in
+    let a = c.args in
     absent_taken edition2 a.l a.volume a.images.now a.x a.out.now _ _ a.total _
-    c.before.before.before.before.before.tray_ground.ensures
-    c.before.before.before.before.if-tray_ground-ne0.true c.before.before.fill.ensures)
+    c.tray_ground.ensures
+    c.if-tray_ground-ne0.true c.fill.ensures)
     (λ c κs. search rules)
     (λ c. search rules)
     (λ c.
-    let a = c.before.before.before.before.before.before.before.before.args in
+    let a = c.args in
     present_taken edition2 a.l a.volume a.images.now a.x a.out.now _ _ a.total _
-    c.before.before.before.before.before.tray_ground.ensures
-    c.before.before.before.before.if-tray_ground-ne0.false c.before.before.copy_tray.ensures))
+    c.tray_ground.ensures
+    c.if-tray_ground-ne0.false c.copy_tray.ensures))

@@ -11,13 +11,13 @@ tray_ground_spec =
     tie.close
     (tie.spec
     (λ c κs. search rules)
-    (λ c. let a = c.before.before.args in
-    let h = place_in edition2 a.l a.images.now a.place _ c.image_length-size.ensures c.before.before.requires in omega arith)
-    (λ c. let a = c.before.before.args in
-    let h = place_in edition2 a.l a.images.now a.place _ c.image_length-size.ensures c.before.before.requires in omega arith)
+    (λ c. let a = c.args in
+    let h = place_in edition2 a.l a.images.now a.place _ c.image_length-size.ensures c.requires in omega arith)
+    (λ c. let a = c.args in
+    let h = place_in edition2 a.l a.images.now a.place _ c.image_length-size.ensures c.requires in omega arith)
     (λ c. search rules)
     (λ c. search rules)
-    (λ c. let a = c.before.before.args in
-    let h = place_in edition2 a.l a.images.now a.place _ c.image_length-size.ensures c.before.before.requires in omega arith)
+    (λ c. let a = c.args in
+    let h = place_in edition2 a.l a.images.now a.place _ c.image_length-size.ensures c.requires in omega arith)
     (λ c κs. search rules)
     (λ c. search tray_grounded))

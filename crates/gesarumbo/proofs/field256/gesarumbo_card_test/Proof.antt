@@ -9,4 +9,4 @@ gesarumbo_card_test_spec =
     (λ c κs. search rules)
     (λ c κs. search rules)
     (λ c. search rules)
-    (λ c. let t = c.before.of.ensures in rw (sym t) c.card_test.ensures))
+    (λ c. let t = c.of.ensures in rw (sym t) c.card_test.ensures))

@@ -10,4 +10,4 @@ gesarumbo_margin_spec =
     (λ c. search rules)
     (λ c κs. search rules)
     (λ c κs. search rules)
-    (λ c. c.margin_numbers.ensures ∙ ap margin_numbers c.before.margin.ensures))
+    (λ c. c.margin_numbers.ensures ∙ ap margin_numbers c.margin.ensures))

@@ -6,4 +6,4 @@ use Rattle.gesarumbo.proofs.field256.gesarumbo_measure.Tie as tie
 
 pub gesarumbo_measure_spec : {M : Type 1} → statement M
 gesarumbo_measure_spec =
-    tie.close (tie.spec (λ c. search rules) (λ c κs. search rules) (λ c κs. search rules) (λ c. c.measure_numbers.ensures ∙ ap measure_numbers c.before.measure.ensures))
+    tie.close (tie.spec (λ c. search rules) (λ c κs. search rules) (λ c κs. search rules) (λ c. c.measure_numbers.ensures ∙ ap measure_numbers c.measure.ensures))

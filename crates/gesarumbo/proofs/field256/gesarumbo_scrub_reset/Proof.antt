@@ -6,4 +6,4 @@ use Rattle.gesarumbo.proofs.field256.gesarumbo_scrub_reset.Tie as tie
 
 pub gesarumbo_scrub_reset_spec : {M : Type 1} → statement M
 gesarumbo_scrub_reset_spec =
-    tie.close (tie.spec (λ c κs. search rules) (λ c κs. search rules) (λ c. c.scrub_numbers.ensures ∙ ap scrub_numbers c.before.reset.ensures))
+    tie.close (tie.spec (λ c κs. search rules) (λ c κs. search rules) (λ c. c.scrub_numbers.ensures ∙ ap scrub_numbers c.reset.ensures))

@@ -12,6 +12,6 @@ gesarumbo_share_batch_spec =
     (λ c. search rules)
     (λ c. search rules)
     (λ c.
-    let h = c.before.before.before.before.before.of.ensures in
-    let i = c.before.before.before.before.of-2.ensures in
-    rw (sym h, sym i) c.before.before.share_batch.ensures))
+    let h = c.of.ensures in
+    let i = c.of-2.ensures in
+    rw (sym h, sym i) c.share_batch.ensures))

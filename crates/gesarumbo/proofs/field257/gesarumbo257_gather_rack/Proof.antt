@@ -11,4 +11,4 @@ gesarumbo257_gather_rack_spec =
     (λ c κs. search rules)
     (λ c. search rules)
     (λ c. search rules)
-    (λ c. let t = c.before.before.before.before.of.ensures in rw (sym t) c.before.before.gather_rack.ensures))
+    (λ c. let t = c.of.ensures in rw (sym t) c.gather_rack.ensures))

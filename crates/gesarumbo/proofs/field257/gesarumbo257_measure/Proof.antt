@@ -7,4 +7,4 @@ use Rattle.gesarumbo.proofs.field257.gesarumbo257_measure.Tie as tie
 
 pub gesarumbo257_measure_spec : {M : Type 1} → statement M
 gesarumbo257_measure_spec =
-    tie.close (tie.spec (λ c. search rules) (λ c κs. search rules) (λ c κs. search rules) (λ c. c.measure_numbers.ensures ∙ ap measure_numbers c.before.measure.ensures))
+    tie.close (tie.spec (λ c. search rules) (λ c κs. search rules) (λ c κs. search rules) (λ c. c.measure_numbers.ensures ∙ ap measure_numbers c.measure.ensures))

@@ -7,4 +7,4 @@ use Rattle.gesarumbo.proofs.field257.gesarumbo257_scrub_reset.Tie as tie
 
 pub gesarumbo257_scrub_reset_spec : {M : Type 1} → statement M
 gesarumbo257_scrub_reset_spec =
-    tie.close (tie.spec (λ c κs. search rules) (λ c κs. search rules) (λ c. c.scrub_numbers.ensures ∙ ap scrub_numbers c.before.reset.ensures))
+    tie.close (tie.spec (λ c κs. search rules) (λ c κs. search rules) (λ c. c.scrub_numbers.ensures ∙ ap scrub_numbers c.reset.ensures))

@@ -13,6 +13,6 @@ gesarumbo257_share_add_many_spec =
     (λ c. search rules)
     (λ c. search rules)
     (λ c.
-    let h = c.before.before.before.before.before.of.ensures in
-    let i = c.before.before.before.before.of-2.ensures in
-    rw (sym h, sym i) c.before.before.share_add_many.ensures))
+    let h = c.of.ensures in
+    let i = c.of-2.ensures in
+    rw (sym h, sym i) c.share_add_many.ensures))

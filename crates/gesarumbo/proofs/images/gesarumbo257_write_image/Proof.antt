@@ -11,4 +11,4 @@ gesarumbo257_write_image_spec =
     (λ c κs. search rules)
     (λ c. search rules)
     (λ c. search rules)
-    (λ c. let t = c.before.before.before.before.of.ensures in rw (sym t) c.before.before.write.ensures))
+    (λ c. let t = c.of.ensures in rw (sym t) c.write.ensures))

@@ -7,8 +7,8 @@ pub gesarumbo_read_image_spec : {M : Type 1} → statement M
 gesarumbo_read_image_spec =
     tie.close (tie.spec
     (λ c κs. search rules)
-    (λ c. let s = c.before.before.before.before.before.args in read_refused s.l s.volume s.image.now _ c.before.read-part.ensures.1.0 c.if-refusal-ne0.true)
+    (λ c. let s = c.args in read_refused s.l s.volume s.image.now _ c.read-part.ensures.1.0 c.if-refusal-ne0.true)
     (λ c.
-    let c1 = c.before in
-    let c2 = c1.before.before.before.before in
-    let s = c2.args in read_done s.l s.volume s.image.now _ _ _ c1.read-part.ensures.1.0 c.if-refusal-ne0.false c1.read-part.ensures.1.1 c1.read-part.ensures.0))
+    
+    
+    let s = c.args in read_done s.l s.volume s.image.now _ _ _ c.read-part.ensures.1.0 c.if-refusal-ne0.false c.read-part.ensures.1.1 c.read-part.ensures.0))

@@ -10,5 +10,5 @@ corrected_numbers_spec =
     (λ c. search rules)
     (λ c. search rules)
     (λ c. search rules)
-    (λ c. ap corrected (sym c.before.answer-1.given.1))
-    (λ c. ap corrected (sym c.before.answer-in-Refused-1.given.1)))
+    (λ c. ap corrected (sym c.answer-1.given.1))
+    (λ c. ap corrected (sym c.answer-in-Refused-1.given.1)))

@@ -7,7 +7,7 @@ use Rattle.gesarumbo.proofs.numbers.margin_numbers.Statement.{statement}
 use Rattle.gesarumbo.proofs.numbers.margin_numbers.Tie as tie
 
 -- a margin is what the machine reads back from its bits
-kept : (c : tie.In-Known) → to_z w32 (of_z w32 c.before.answer-1.given.0.0) ≡ c.before.answer-1.given.0.0
+kept : (c : tie.In-Known) → to_z w32 (of_z w32 c.answer-1.given.0.0) ≡ c.answer-1.given.0.0
 kept c = search rules
 
 pub margin_numbers_spec : {M : Type 1} → statement M
@@ -16,5 +16,5 @@ margin_numbers_spec =
     (λ c. search rules)
     (λ c. search rules)
     (λ c. search rules)
-    (λ c. rw (kept c) (ap margin_numbers (sym c.before.answer-1.given.1)))
-    (λ c. ap margin_numbers (sym c.before.answer-in-Refused-1.given.1)))
+    (λ c. rw (kept c) (ap margin_numbers (sym c.answer-1.given.1)))
+    (λ c. ap margin_numbers (sym c.answer-in-Refused-1.given.1)))

@@ -10,5 +10,5 @@ repair_numbers_spec =
     (λ c. search rules)
     (λ c. search rules)
     (λ c. search rules)
-    (λ c. ap report (sym c.before.answer-1.given.1))
-    (λ c. ap report (sym c.before.answer-in-Refused-1.given.1)))
+    (λ c. ap report (sym c.answer-1.given.1))
+    (λ c. ap report (sym c.answer-in-Refused-1.given.1)))

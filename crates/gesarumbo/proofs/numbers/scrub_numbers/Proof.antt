@@ -22,4 +22,4 @@ scrub_numbers_spec =
     (λ c. shown _ (sym c.enum_told-in-Unfinished-1.given.1))
     (λ c. shown _ (sym c.enum_told-in-Sound-1.given.1))
     (λ c. shown _ (sym c.enum_told-in-Bad-1.given.1))
-    (λ c. shown _ (sym c.before.report-1.given.1)))
+    (λ c. shown _ (sym c.report-1.given.1)))

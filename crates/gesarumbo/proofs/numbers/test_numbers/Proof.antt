@@ -14,5 +14,5 @@ test_numbers_spec =
     (λ c. search rules)
     (λ c. search rules)
     (λ c. ap test_numbers (sym c.enum_told-1.given.1))
-    (λ c. rw c.number.ensures (ap test_numbers (sym c.before.before.answer-1.given.1)))
-    (λ c. ap test_numbers (sym c.before.answer-in-Refused-1.given.1)))
+    (λ c. rw c.number.ensures (ap test_numbers (sym c.answer-1.given.1)))
+    (λ c. ap test_numbers (sym c.answer-in-Refused-1.given.1)))

@@ -9,4 +9,4 @@ gesarumbo_box_repair_spec =
     (λ c κs. search rules)
     (λ c κs. search rules)
     (λ c. search rules)
-    (λ c. rw (sym c.before.before.before.before.of.ensures) c.before.before.box_repair.ensures))
+    (λ c. rw (sym c.of.ensures) c.box_repair.ensures))

@@ -12,6 +12,6 @@ gesarumbo_box_share_spec =
     (λ c. search rules)
     (λ c. search rules)
     (λ c.
-    let h = c.before.before.before.before.before.of.ensures in
-    let i = c.before.before.before.before.of-2.ensures in
-    rw (sym h, sym i) c.before.before.box_share.ensures))
+    let h = c.of.ensures in
+    let i = c.of-2.ensures in
+    rw (sym h, sym i) c.box_share.ensures))

@@ -9,7 +9,7 @@ in_range_spec =
     tie.close (tie.spec
     (λ c κs. search rules)
     (λ c κs. search rules)
-    (λ c. range_tray _ _ _ _ _ _ c.before.before.tray_count.ensures c.before.number.ensures (omega arith))
+    (λ c. range_tray _ _ _ _ _ _ c.tray_count.ensures c.number.ensures (omega arith))
     (λ c κs. search rules)
     (λ c. search range_state)
     (λ c κs. search rules)

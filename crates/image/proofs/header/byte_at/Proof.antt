@@ -8,5 +8,5 @@ pub byte_at_spec : {M : Type 1} → statement M
 byte_at_spec =
     tie.close (tie.spec
     (λ c. search rules)
-    (λ c. omega (arith, c.shared_slice_known-1.given c.before.args.at))
-    (λ c. (refl, omega (arith, c.shared_slice_known-1.given c.before.args.at))))
+    (λ c. omega (arith, c.shared_slice_known-1.given c.args.at))
+    (λ c. (refl, omega (arith, c.shared_slice_known-1.given c.args.at))))

@@ -14,9 +14,9 @@ own_layout_spec =
     (λ c κs. search rules)
     (λ c i.
     record {
-      racks = c.before.before.before.before.byte_at.ensures.0 i;
-      size = c.before.before.before.byte_at-2.ensures.0 i;
-      dimension = c.before.before.byte_at-3.ensures.0 i;
-      helpers = c.before.byte_at-4.ensures.0 i;
+      racks = c.byte_at.ensures.0 i;
+      size = c.byte_at-2.ensures.0 i;
+      dimension = c.byte_at-3.ensures.0 i;
+      helpers = c.byte_at-4.ensures.0 i;
       errors = c.byte_at-5.ensures.0 i;
     }))

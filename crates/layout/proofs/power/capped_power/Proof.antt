@@ -9,6 +9,6 @@ pub capped_power_spec : {M : Type 1} → statement M
 capped_power_spec =
     tie.close (tie.spec
     (λ c κs. search rules)
-    (λ c. c.power_of_two.ensures ∙ ap (λ b. min (b ^ c.before.before.args.e) (layer_limit + 1)) (sym c.before.if-base-eq2.true))
+    (λ c. c.power_of_two.ensures ∙ ap (λ b. min (b ^ c.args.e) (layer_limit + 1)) (sym c.if-base-eq2.true))
     (λ c κs. search rules)
     (λ c. search rules))

@@ -10,6 +10,6 @@ pub power_of_two_spec : {M : Type 1} → statement M
 power_of_two_spec =
     tie.close (tie.spec
     (λ c. search rules)
-    (λ c. let h : 13 ≤ c.before.args.e = omega arith in let p : 2 ^ 13 ≤ 2 ^ c.before.args.e = pow-le-pow_right (lit< tt) h in omega arith)
+    (λ c. let h : 13 ≤ c.args.e = omega arith in let p : 2 ^ 13 ≤ 2 ^ c.args.e = pow-le-pow_right (lit< tt) h in omega arith)
     (λ c. search rules)
-    (λ c. let h : c.before.args.e ≤ 12 = omega arith in let p : 2 ^ c.before.args.e ≤ 2 ^ 12 = pow-le-pow_right (lit< tt) h in omega arith))
+    (λ c. let h : c.args.e ≤ 12 = omega arith in let p : 2 ^ c.args.e ≤ 2 ^ 12 = pow-le-pow_right (lit< tt) h in omega arith))

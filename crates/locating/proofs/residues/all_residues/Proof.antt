@@ -23,78 +23,76 @@ all_residues_spec =
     tie.close (tie.spec
     invariant-loop-p
     decreases-loop-p
-    (λ c κs. let c1 = c.before.before.before.before.before.before.before.before.before in c1.requires.0.chosen.adm)
-    (λ c κs. let c1 = c.before.before.before.before.before.before.before.before.before.before in c1.requires.0.chosen.adm)
+    (λ c κs. c.requires.0.chosen.adm)
+    (λ c κs. c.requires.0.chosen.adm)
     (λ c.
-    let c1 = c.before.before.before.before.before.before.before.before.before.before.before in
-    rows_fit c1.args.l _ c1.requires.0.chosen.adm c.unknown_count-rows.ensures)
+    
+    rows_fit c.args.l _ c.requires.0.chosen.adm c.unknown_count-rows.ensures)
     (λ c.
-    let c1 = c.before.before.before.before.before.before.before.before.before.before.before in
-    let a = c1.args in
+    
+    let a = c.args in
     (omega arith, refl, refl, refl, refl, refl, refl, refl, kept_none working a.l a.h a.helpers.now a.shares.now _ _))
     (λ c. omega arith)
     (λ c κs.
-    let c1 = c.before.before in
-    let c2 = c1.before in
-    let c3 = c2.before.before.before.before.before.before.before.before.before.before in
-    let a = c3.args in
-    let p = c3.requires in (
+    
+    
+    
+    let a = c.args in
+    let p = c.requires in (
       p.0.chosen.adm,
       omega arith,
-      within_layers a.l _ _ c2.group_count-total.ensures (omega arith),
-      rows_few a.l _ p.0.chosen.adm c1.unknown_count-rows.ensures,
+      within_layers a.l _ _ c.group_count-total.ensures (omega arith),
+      rows_few a.l _ p.0.chosen.adm c.unknown_count-rows.ensures,
     ))
     (λ c. search rules)
     (λ c. search rules)
     (λ c κs.
-    let c1 = c.before.before.before.before.before.before.before in
-    let c2 = c1.before.before in
-    let c3 = c2.before in
-    let c4 = c3.before in
-    let c5 = c4.before.before.before.before.before.before.before.before.before.before in
-    let a = c5.args in
-    let p = c5.requires in (
+    
+    
+    
+    
+    
+    let a = c.args in
+    let p = c.requires in (
       working_of a.l a.h a.helpers.now a.shares.now a.zeroth.now a.first.now a.sides.now a.points.now a.cur.now a.prod.now
-          a.row.now p.0 p.1 _ _ _ _ _ _ _ _ _ c3.unknown_count-rows.ensures c4.group_count-total.ensures (omega arith) c1.block_at-w.ensures.0 c1.block_at-w.ensures.1 c2.loop-p.invariant.3 c2.loop-p.invariant.4 c2.loop-p.invariant.5 c2.loop-p.invariant.6 c2.loop-p.invariant.7,
-      c2.loop-p.invariant.8,
-      block_in a.l _ _ _ _ a.zeroth.now c2.loop-p.zeroth p.0.chosen.adm c4.group_count-total.ensures (omega arith) c1.block_at-w.ensures.1 p.1.zeroth_long c2.loop-p.invariant.1,
-      block_in a.l _ _ _ _ a.first.now c2.loop-p.first p.0.chosen.adm c4.group_count-total.ensures (omega arith) c1.block_at-w.ensures.1 p.1.first_long c2.loop-p.invariant.2,
+          a.row.now p.0 p.1 _ _ _ _ _ _ _ _ _ c.unknown_count-rows.ensures c.group_count-total.ensures (omega arith) c.block_at-w.ensures.0 c.block_at-w.ensures.1 c.loop-p.invariant.3 c.loop-p.invariant.4 c.loop-p.invariant.5 c.loop-p.invariant.6 c.loop-p.invariant.7,
+      c.loop-p.invariant.8,
+      block_in a.l _ _ _ _ a.zeroth.now c.loop-p.zeroth p.0.chosen.adm c.group_count-total.ensures (omega arith) c.block_at-w.ensures.1 p.1.zeroth_long c.loop-p.invariant.1,
+      block_in a.l _ _ _ _ a.first.now c.loop-p.first p.0.chosen.adm c.group_count-total.ensures (omega arith) c.block_at-w.ensures.1 p.1.first_long c.loop-p.invariant.2,
     ))
     (λ c.
-    let c1 =
-    c.before.before.before.before.before.before.before.before.before.before.before.before.before.before.before.before.before.before.before.before.before.before in
-    let c2 = c1.before.before.before.before in
-    let c3 = c2.before.before.before.before.before.before.before.before.before.before in
-    next_fits c3.args.l _ _ _ _ c3.requires.0.chosen.adm c2.group_count-total.ensures (omega arith) c1.block_at-w.ensures.1)
+    
+    
+    
+    next_fits c.args.l _ _ _ _ c.requires.0.chosen.adm c.group_count-total.ensures (omega arith) c.block_at-w.ensures.1)
     (λ c.
-    let c1 =
-    c.before.before.before.before.before.before.before.before.before.before.before.before.before.before.before.before.before.before.before.before.before.before in
-    let c2 = c1.before in
-    omega (arith, c1.block_at-w.ensures.2, c2.loop-p-test.taken))
+    
+    
+    omega (arith, c.block_at-w.ensures.2, c.loop-p-test.taken))
     (λ c.
-    let c1 = c.before.before.before.before.before.before.before.before.before.before.before.before.before.before in
-    let c2 = c1.before.before.before.before.before.before.before.before in
-    let c3 = c2.before.before in (
-      omega (arith, c2.block_at-w.ensures.1.within),
-      c1.keep_block.auto.0 ∙ c3.loop-p.invariant.1,
-      c1.keep_block.auto.1.0 ∙ c3.loop-p.invariant.2,
-      c1.keep_block.auto.1.1.1.1.1.1.1.1.0 ∙ c3.loop-p.invariant.3,
-      c1.keep_block.auto.1.1.1.1.1.1.1.1.1.0 ∙ c3.loop-p.invariant.4,
-      c1.keep_block.auto.1.1.1.1.1.1.1.1.1.1.0 ∙ c3.loop-p.invariant.5,
-      c1.keep_block.auto.1.1.1.1.1.1.1.1.1.1.1.0 ∙ c3.loop-p.invariant.6,
-      c1.keep_block.auto.1.1.1.1.1.1.1.1.1.1.1.1.0 ∙ c3.loop-p.invariant.7,
-      c1.keep_block.ensures,
+    
+    
+    (
+      omega (arith, c.block_at-w.ensures.1.within),
+      c.keep_block.auto.0 ∙ c.loop-p.invariant.1,
+      c.keep_block.auto.1.0 ∙ c.loop-p.invariant.2,
+      c.keep_block.auto.1.1.1.1.1.1.1.1.0 ∙ c.loop-p.invariant.3,
+      c.keep_block.auto.1.1.1.1.1.1.1.1.1.0 ∙ c.loop-p.invariant.4,
+      c.keep_block.auto.1.1.1.1.1.1.1.1.1.1.0 ∙ c.loop-p.invariant.5,
+      c.keep_block.auto.1.1.1.1.1.1.1.1.1.1.1.0 ∙ c.loop-p.invariant.6,
+      c.keep_block.auto.1.1.1.1.1.1.1.1.1.1.1.1.0 ∙ c.loop-p.invariant.7,
+      c.keep_block.ensures,
     ))
-    (λ c. c.before.loop-p.invariant.1)
-    (λ c. c.before.loop-p.invariant.2)
-    (λ c. c.before.loop-p.invariant.3)
-    (λ c. c.before.loop-p.invariant.4)
-    (λ c. c.before.loop-p.invariant.5)
-    (λ c. c.before.loop-p.invariant.6)
-    (λ c. c.before.loop-p.invariant.7)
+    (λ c. c.loop-p.invariant.1)
+    (λ c. c.loop-p.invariant.2)
+    (λ c. c.loop-p.invariant.3)
+    (λ c. c.loop-p.invariant.4)
+    (λ c. c.loop-p.invariant.5)
+    (λ c. c.loop-p.invariant.6)
+    (λ c. c.loop-p.invariant.7)
     (λ c.
-    let c1 = c.before in
-    let c2 = c1.before.before in
-    let c3 = c2.before.before.before.before.before.before.before.before.before.before in
-    let a = c3.args in
-    kept_end working a.l a.h a.helpers.now a.shares.now _ _ _ _ c1.loop-p.invariant.8 c1.loop-p.invariant.0 (omega arith) c2.group_count-total.ensures))
+    
+    
+    
+    let a = c.args in
+    kept_end working a.l a.h a.helpers.now a.shares.now _ _ _ _ c.loop-p.invariant.8 c.loop-p.invariant.0 (omega arith) c.group_count-total.ensures))

@@ -25,79 +25,79 @@ block_residues_spec =
     invariant-loop-k
     decreases-loop-k
     (λ c κs.
-    let c1 = c.before.before.before.before.before.before.before.before.before in
-    let a = c1.args in
+    
+    let a = c.args in
     work_pointed a.l a.h a.w a.first a.helpers.now a.shares.now a.sides.now a.points.now a.cur.now a.prod.now a.row.now
-    c1.requires)
+    c.requires)
     (λ c. search work_twice)
     (λ c κs.
-    let c1 = c.before.before.before.before.before.before.before.before.before.before.before.before.before.before.before in
-    let a = c1.args in
+    
+    let a = c.args in
     work_sides a.l a.h a.w a.first a.helpers.now a.shares.now a.sides.now a.points.now a.cur.now a.prod.now a.row.now
-    c1.requires a.sides.now refl)
+    c.requires a.sides.now refl)
     (λ c.
-    let c1 = c.before.before in
-    let c2 = c1.before.before.before.before.before.before in
-    let c3 = c2.before.before.before.before.before.before.before.before.before.before in
-    let a = c3.args in (
+    
+    
+    
+    let a = c.args in (
       omega arith,
       refl,
       refl,
       refl,
       refl,
       refl,
-      parts_none working a.l a.h a.w a.first a.helpers.now a.shares.now _ _ c1.fill.ensures,
-      c2.unknown_points.ensures,
+      parts_none working a.l a.h a.w a.first a.helpers.now a.shares.now _ _ c.fill.ensures,
+      c.unknown_points.ensures,
     ))
     (λ c κs.
-    let c1 = c.before.before.before.before.before in
-    let c2 = c1.before in
-    let c3 = c2.before.before.before in
-    let c4 = c3.before.before.before.before.before.before in
-    let c5 = c4.before.before.before.before.before.before.before.before.before.before in
-    let a = c5.args in
-    let p = c5.requires in (
+    
+    
+    
+    
+    
+    let a = c.args in
+    let p = c.requires in (
       work_next a.l a.h a.w a.first a.helpers.now a.shares.now a.sides.now a.points.now a.cur.now a.prod.now a.row.now
-          (p) _ _ _ _ _ (c2.loop-k.invariant.1 ∙ c3.fill.ensures.long) (c2.loop-k.invariant.2 ∙ c4.unknown_points.auto.0) c2.loop-k.invariant.3 c2.loop-k.invariant.4 (c2.loop-k.invariant.5 ∙ c4.unknown_points.auto.1.1.1.1.1.1.1.1.0),
-      work_helper a.l a.h a.w a.first a.helpers.now a.shares.now a.sides.now a.points.now a.cur.now a.prod.now a.row.now (p) _ c1.loop-k-test.true,
-      c2.loop-k.invariant.7,
+          (p) _ _ _ _ _ (c.loop-k.invariant.1 ∙ c.fill.ensures.long) (c.loop-k.invariant.2 ∙ c.unknown_points.auto.0) c.loop-k.invariant.3 c.loop-k.invariant.4 (c.loop-k.invariant.5 ∙ c.unknown_points.auto.1.1.1.1.1.1.1.1.0),
+      work_helper a.l a.h a.w a.first a.helpers.now a.shares.now a.sides.now a.points.now a.cur.now a.prod.now a.row.now (p) _ c.loop-k-test.true,
+      c.loop-k.invariant.7,
     ))
     (λ c.
-    let c1 = c.before.before.before.before.before.before.before.before.before.before.before.before.before.before.before.before in
-    let c2 = c1.before.before.before.before.before.before.before.before.before.before.before.before.before.before.before.before.before.before.before.before in
-    let a = c2.args in
+    
+    
+    let a = c.args in
     work_count a.l a.h a.w a.first a.helpers.now a.shares.now a.sides.now a.points.now a.cur.now a.prod.now a.row.now
-    c2.requires _ c1.loop-k-test.true)
+    c.requires _ c.loop-k-test.true)
     (λ c. omega arith)
     (λ c.
-    let c1 = c.before.before.before.before.before.before.before.before.before.before in
-    let c2 = c1.before.before.before.before.before.before in
-    let c3 = c2.before in
-    let c4 = c3.before.before.before.before.before.before.before.before.before.before.before.before.before.before.before.before.before.before.before in
-    let a = c4.args in (
-      omega (arith, c2.loop-k-test.true),
-      c1.add_part.auto.0 ∙ c3.loop-k.invariant.1,
-      c1.add_part.auto.1.1.1.1.1.1.1.1.0 ∙ c3.loop-k.invariant.2,
-      c1.add_part.auto.1.1.1.1.1.1.1.1.1.0 ∙ c3.loop-k.invariant.3,
-      c1.add_part.auto.1.1.1.1.1.1.1.1.1.1.0 ∙ c3.loop-k.invariant.4,
-      c1.add_part.auto.1.1.1.1.1.1.1.1.1.1.1.0 ∙ c3.loop-k.invariant.5,
-      parts_more working a.l a.h a.w a.first a.helpers.now a.shares.now _ _ _ c3.loop-k.invariant.6 c1.add_part.ensures.0,
-      c1.add_part.ensures.1,
+    
+    
+    
+    
+    let a = c.args in (
+      omega (arith, c.loop-k-test.true),
+      c.add_part.auto.0 ∙ c.loop-k.invariant.1,
+      c.add_part.auto.1.1.1.1.1.1.1.1.0 ∙ c.loop-k.invariant.2,
+      c.add_part.auto.1.1.1.1.1.1.1.1.1.0 ∙ c.loop-k.invariant.3,
+      c.add_part.auto.1.1.1.1.1.1.1.1.1.1.0 ∙ c.loop-k.invariant.4,
+      c.add_part.auto.1.1.1.1.1.1.1.1.1.1.1.0 ∙ c.loop-k.invariant.5,
+      parts_more working a.l a.h a.w a.first a.helpers.now a.shares.now _ _ _ c.loop-k.invariant.6 c.add_part.ensures.0,
+      c.add_part.ensures.1,
     ))
-    (λ c. let c1 = c.before in let c2 = c1.before.before.before in c1.loop-k.invariant.1 ∙ c2.fill.ensures.long)
+    (λ c. c.loop-k.invariant.1 ∙ c.fill.ensures.long)
     (λ c.
-    let c1 = c.before in
-    let c2 = c1.before.before.before.before.before.before.before.before.before in
-    c1.loop-k.invariant.2 ∙ c2.unknown_points.auto.0)
-    (λ c. c.before.loop-k.invariant.3)
-    (λ c. c.before.loop-k.invariant.4)
+    
+    
+    c.loop-k.invariant.2 ∙ c.unknown_points.auto.0)
+    (λ c. c.loop-k.invariant.3)
+    (λ c. c.loop-k.invariant.4)
     (λ c.
-    let c1 = c.before in
-    let c2 = c1.before.before.before.before.before.before.before.before.before in
-    c1.loop-k.invariant.5 ∙ c2.unknown_points.auto.1.1.1.1.1.1.1.1.0)
+    
+    
+    c.loop-k.invariant.5 ∙ c.unknown_points.auto.1.1.1.1.1.1.1.1.0)
     (λ c.
-    let c1 = c.before in
-    let c2 = c1.before.before.before.before.before.before.before.before.before.before.before.before.before.before.before.before.before.before.before in
-    let a = c2.args in
-    parts_end working a.l a.h a.w a.first a.helpers.now a.shares.now _ (length a.helpers.now) _ c1.loop-k.invariant.6 (omega arith) (omega arith)
-    c2.requires.chosen.many))
+    
+    
+    let a = c.args in
+    parts_end working a.l a.h a.w a.first a.helpers.now a.shares.now _ (length a.helpers.now) _ c.loop-k.invariant.6 (omega arith) (omega arith)
+    c.requires.chosen.many))

@@ -22,10 +22,10 @@ inverse_spec =
     (λ c. search rules)
     (λ c. search rules)
     (λ c. search rules)
-    (λ c. found c.before.before.before.before.before.args.self.0 c.before.before.loop-i.i c.before.before.before.all_powers-powers.result
-    c.before.before.before.all_powers-powers.ensures (omega arith) c.if-powers-i.true)
+    (λ c. found c.args.self.0 c.loop-i.i c.all_powers-powers.result
+    c.all_powers-powers.ensures (omega arith) c.if-powers-i.true)
     (λ c. search rules)
     (λ c. search rules)
-    (λ c. (omega arith, below_more _ _ c.before.before.loop-i.invariant.1 c.if-powers-i.false))
-    (λ c. nowhere c.before.before.before.before.args.self.0 c.before.loop-i.i c.before.before.all_powers-powers.result c.before.before.all_powers-powers.ensures
-    (omega arith) c.before.loop-i.invariant.1))
+    (λ c. (omega arith, below_more _ _ c.loop-i.invariant.1 c.if-powers-i.false))
+    (λ c. nowhere c.args.self.0 c.loop-i.i c.all_powers-powers.result c.all_powers-powers.ensures
+    (omega arith) c.loop-i.invariant.1))

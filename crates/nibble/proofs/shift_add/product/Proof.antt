@@ -9,7 +9,7 @@ product_spec =
     tie.close (tie.spec
     (λ c κs. search rules)
     (λ c κs. muly_lt _ (omega arith) c.twice-b1.ensures)
-    (λ c κs. muly_lt _ (muly_lt _ (omega arith) c.before.twice-b1.ensures) c.twice-b2.ensures)
+    (λ c κs. muly_lt _ (muly_lt _ (omega arith) c.twice-b1.ensures) c.twice-b2.ensures)
     (λ c κs. search rules)
     (λ c κs. search rules)
     (λ c κs. search rules)

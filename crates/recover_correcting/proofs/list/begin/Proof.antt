@@ -27,6 +27,6 @@ begin_spec =
     (λ c. search rules)
     (λ c. search rules)
     (λ c. search rules)
-    (λ c. (omega arith, upto_more _ c.before.before.loop-i.invariant.1 (omega arith) refl))
-    (λ c. c.before.loop-i.invariant.1.same)
+    (λ c. (omega arith, upto_more _ c.loop-i.invariant.1 (omega arith) refl))
+    (λ c. c.loop-i.invariant.1.same)
     (λ c. search begun_of))

@@ -16,20 +16,20 @@ use Rattle.scrub.proofs.grounds.refusal.Statement.{statement}
 use Rattle.scrub.proofs.grounds.refusal.Tie as tie
 
 -- past the first test
-adm : (c : tie.Else-not-admitted) → admissible gf256.order c.before.before.before.args.l ≡ true
-adm c = told_true c.before.admitted.ensures c.if-not-admitted.false-raw
+adm : (c : tie.Else-not-admitted) → admissible gf256.order c.args.l ≡ true
+adm c = told_true c.admitted.ensures c.if-not-admitted.false-raw
 
-facts : (c : tie.Else-not-admitted) → Cabinet c.before.before.before.args.l
+facts : (c : tie.Else-not-admitted) → Cabinet c.args.l
 facts c = (admissible_facts gf256.order _ (adm c)).cabinet
 
 -- past the second test
-long : (c : tie.Else-c-tray_count) → let a = c.before.before.before.before.before.before.args in length a.c.now ≡ trays a.l * layers a.l
-long c = c.if-c-tray_count.false ∙ ap₂ ◌*◌ c.before.tray_count.ensures c.before.before.layer_count-total.ensures
+long : (c : tie.Else-c-tray_count) → let a = c.args in length a.c.now ≡ trays a.l * layers a.l
+long c = c.if-c-tray_count.false ∙ ap₂ ◌*◌ c.tray_count.ensures c.layer_count-total.ensures
 
 -- what the third test says of the record
-told : (t : Bool) → (c : tie.After-takes) → c.takes.result ≡ t → let a = c.before.before.before.before.before.before.before.args in plausible (layers a.l) a.walk ≡ t
+told : (t : Bool) → (c : tie.After-takes) → c.takes.result ≡ t → let a = c.args in plausible (layers a.l) a.walk ≡ t
 told t c e =
-    ap (λ (n : ℕ). plausible n c.before.before.before.before.before.before.before.args.walk) (sym c.before.before.before.layer_count-total.ensures)
+    ap (λ (n : ℕ). plausible n c.args.walk) (sym c.layer_count-total.ensures)
     ∙ sym c.takes.ensures ∙ e
 
 pub refusal_spec : {M : Type 1} → statement M
@@ -37,7 +37,7 @@ refusal_spec =
     tie.close (tie.spec
     (λ c. search rules)
     (λ c κs. omega arith)
-    (λ c. refused_1 _ _ _ _ _ (told_false c.before.admitted.ensures c.if-not-admitted.true-raw))
+    (λ c. refused_1 _ _ _ _ _ (told_false c.admitted.ensures c.if-not-admitted.true-raw))
     (λ c κs. facts c)
     (λ c κs. facts c.before)
     (λ c. search rules)
@@ -45,18 +45,18 @@ refusal_spec =
     (λ c. let a = facts c.before.before in record { fits = mul_below tray_limit layer_limit (omega arith) (omega arith) tt })
     (λ c.
     refused_2 _ _ _ _ _ (adm c.before.before.before)
-    (λ e. c.if-c-tray_count.true (e ∙ sym (ap₂ ◌*◌ c.before.tray_count.ensures c.before.before.layer_count-total.ensures))))
+    (λ e. c.if-c-tray_count.true (e ∙ sym (ap₂ ◌*◌ c.tray_count.ensures c.layer_count-total.ensures))))
     (λ c κs. search rules)
     (λ c. refused_record _ _ _ _ _ (adm c.before.before.before.before.before) (long c.before.before) (told false c.before (not-true _ c.if-not-takes.true-raw)))
     (λ c κs.
     let k = c.before.before.before.before.before in
     let o = in_order _ _ (told true c.before (not-false _ c.if-not-takes.false-raw)) in
-    (record { adm = facts k; total_is = c.before.before.before.before.layer_count-total.ensures; long = long c.before.before }, omega arith))
+    (record { adm = facts k; total_is = c.layer_count-total.ensures; long = long c.before.before }, omega arith))
     (λ c.
     let k = c.before.before in
-    refused_symbol _ _ _ _ _ (adm k.before.before.before.before.before) (long k.before.before) (told true k.before (not-false _ k.if-not-takes.false-raw))
-    (told_false c.before.step_symbols.ensures c.if-not-step_symbols.true-raw))
+    refused_symbol _ _ _ _ _ (adm k.before.before.before.before.before) (long k.before.before) (told true k.before (not-false _ c.if-not-takes.false-raw))
+    (told_false c.step_symbols.ensures c.if-not-step_symbols.true-raw))
     (λ c.
     let k = c.before.before in
-    not_refused _ _ _ _ _ (adm k.before.before.before.before.before) (long k.before.before) (told true k.before (not-false _ k.if-not-takes.false-raw))
-    (told_true c.before.step_symbols.ensures c.if-not-step_symbols.false-raw)))
+    not_refused _ _ _ _ _ (adm k.before.before.before.before.before) (long k.before.before) (told true k.before (not-false _ c.if-not-takes.false-raw))
+    (told_true c.step_symbols.ensures c.if-not-step_symbols.false-raw)))

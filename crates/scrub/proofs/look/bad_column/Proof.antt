@@ -30,7 +30,7 @@ bad_column_spec =
     (λ c. omega arith)
     (λ c. omega arith)
     (λ c.
-    let a = c.before.before.before.before.before.before.args in
-    let z = zero_at gf256 a.sums.now _ _ _ c.before.before.at.ensures c.before.index.ensures.0 c.if-index-ne0.false in
-    (omega arith, below_more _ _ c.before.before.before.before.loop-t.invariant.1 z))
+    let a = c.args in
+    let z = zero_at gf256 a.sums.now _ _ _ c.at.ensures c.index.ensures.0 c.if-index-ne0.false in
+    (omega arith, below_more _ _ c.loop-t.invariant.1 z))
     (λ c. search column_good))

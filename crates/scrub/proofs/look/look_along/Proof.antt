@@ -17,12 +17,12 @@ look_along_spec =
     tie.close (tie.spec invariant-loop-j decreases-loop-j
     (λ c. search looked_none)
     (λ c κs. search rules)
-    (λ c κs. let q = c.before.before.loop-j.invariant in (omega (arith, q.here, c.before.before.before.before.requires.1), q.high))
+    (λ c κs. let q = c.loop-j.invariant in (omega (arith, q.here, c.requires.1), q.high))
     (λ c. omega arith)
     (λ c. omega arith)
     (λ c.
-    let s = c.before.before.before.before.before in
-    let o = c.before.before.before.loop-j in
-    looked_more gf256 s.args.w s.args.r s.args.sums.now s.args.walk o.seen c.look_at-seen.result o.j c.before.bad_column.result o.invariant
-    c.before.before.loop-j-test.true c.before.bad_column.ensures c.look_at-seen.ensures)
+    
+    let o = c.loop-j in
+    looked_more gf256 c.args.w c.args.r c.args.sums.now c.args.walk o.seen c.look_at-seen.result o.j c.bad_column.result o.invariant
+    c.loop-j-test.true c.bad_column.ensures c.look_at-seen.ensures)
     (λ c. search looked_end))

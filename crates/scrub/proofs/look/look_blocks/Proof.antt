@@ -23,37 +23,37 @@ pub look_blocks_spec : {M : Type 1} → statement M
 look_blocks_spec =
     tie.close (tie.spec invariant-loop-left decreases-loop-left
     (λ c κs. search rules)
-    (λ c. (c.before.before.before.before.before.before.requires.0, refl, refl, refl, refl))
-    (λ c κs. let a = c.before.before.before.before.before.before.before.before.requires.0.scannable.adm in (a, omega arith, c.before.loop-left.invariant.0.room, omega arith))
+    (λ c. (c.requires.0, refl, refl, refl, refl))
+    (λ c κs. let a = c.requires.0.scannable.adm in (a, omega arith, c.loop-left.invariant.0.room, omega arith))
     (λ c. search rules)
     (λ c κs.
-    let c1 = c.before.before.before in
-    let c2 = c1.before.before in
-    let c3 = c2.before in
-    let c4 = c3.before.before.before.before.before.before in
-    let s = c4 in let o = c2.loop-left in let b = c1.block_at-w in (
+    
+    
+    
+    
+    let o = c.loop-left in let b = c.block_at-w in (
       b.ensures.0,
       o.invariant.0.bad_in,
-      s.requires.0.scannable.long,
-      s.requires.1,
-      room_here s.args.l o.seen.next o.left c3.check_count-r.result b.result s.args.sums.now s.args.cur.now s.args.row.now o.sums-1
-          o.cur-1 o.row-1 c3.check_count-r.ensures b.ensures.1 s.requires.2 s.requires.3 s.requires.4 o.invariant.2 o.invariant.3 o.invariant.4,
+      c.requires.0.scannable.long,
+      c.requires.1,
+      room_here c.args.l o.seen.next o.left c.check_count-r.result b.result c.args.sums.now c.args.cur.now c.args.row.now o.sums-1
+          o.cur-1 o.row-1 c.check_count-r.ensures b.ensures.1 c.requires.2 c.requires.3 c.requires.4 o.invariant.2 o.invariant.3 o.invariant.4,
     ))
-    (λ c. c.before.before.before.before.before.before.before.before.before.before.block_at-w.ensures.1.within)
-    (λ c. let b = c.before.before.before.before.before.before.before.before.before.before.block_at-w.ensures in omega (arith, b.1.within, b.2))
+    (λ c. c.block_at-w.ensures.1.within)
+    (λ c. let b = c.block_at-w.ensures in omega (arith, b.1.within, b.2))
     (λ c.
-    let s = c.before.before.before.before.before.before.before.before.before.before.before.before.before.before.before.before.before.before.before in
-    let o = c.before.before.before.before.before.before.before.before.before.before.before.before.loop-left in
-    let b = c.before.before.before.before.before.before.before.before.before.before.block_at-w in
-    let k = c.before.before.before.before.before.before.look_block-seen in
-    let m = more gf256 s.args.l s.args.total s.args.c.now s.args.walk s.args.count o.seen k.result o.seen.next o.left
-    c.before.before.before.before.before.before.before.before.before.before.before.before.before.check_count-r.result b.result b.ensures.1
+    
+    let o = c.loop-left in
+    let b = c.block_at-w in
+    let k = c.look_block-seen in
+    let m = more gf256 c.args.l c.args.total c.args.c.now c.args.walk c.args.count o.seen k.result o.seen.next o.left
+    c.check_count-r.result b.result b.ensures.1
     k.ensures o.invariant.0 o.invariant.1 in
     (m.0, m.1, search rules, search rules, search rules))
     (λ c. search rules)
     (λ c. search rules)
     (λ c. search rules)
     (λ c.
-    let s = c.before.before.before.before.before.before.before.before in
-    let o = c.before.loop-left in
-    after_end (bad_layer gf256 s.args.l s.args.c.now) o.seen o.left (omega arith) o.invariant.1))
+    
+    let o = c.loop-left in
+    after_end (bad_layer gf256 c.args.l c.args.c.now) o.seen o.left (omega arith) o.invariant.1))

@@ -17,18 +17,18 @@ look_block_spec =
     (λ c. search rules)
     (λ c. search rules)
     (λ c κs.
-    let s = c.before.before.before.before.before.before.before.before.before in
-    (s.requires.0, rw c.before.before.before.check_count-r.ensures s.requires.4, s.requires.2, none_listed s.args.l s.args.none.now s.requires.3))
+    
+    (c.requires.0, rw c.check_count-r.ensures c.requires.4, c.requires.2, none_listed c.args.l c.args.none.now c.requires.3))
     (λ c κs.
-    let s = c.before.before.before.before.before.before.before.before.before.before.before.before.before.before.before.before.before in
-    let b = s.requires.0 in
-    (search sums_in, omega (arith, b.inside, b.adm.layers_high), s.requires.1))
+    
+    let b = c.requires.0 in
+    (search sums_in, omega (arith, b.inside, b.adm.layers_high), c.requires.1))
     (λ c. search rules)
     (λ c. search rules)
     (λ c. search rules)
     (λ c.
-    let k = c.before.before.before.before.before.before.before.before.sum_kept in
-    let n = c.before.before.before.before.before.before.before.before.before.before.before.before.check_count-r in
-    let s = c.before.before.before.before.before.before.before.before.before.before.before.before.before.before.before.before.before.before in
-    c.look_along.ensures (bad_layer gf257 s.args.l s.args.c.now) (column_is working s.args.l s.args.w s.args.walk.next
-    n.result s.args.c.now s.args.none.now k.new.0 s.requires.3 n.ensures k.ensures)))
+    let k = c.sum_kept in
+    let n = c.check_count-r in
+    
+    c.look_along.ensures (bad_layer gf257 c.args.l c.args.c.now) (column_is working c.args.l c.args.w c.args.walk.next
+    n.result c.args.c.now c.args.none.now k.new.0 c.requires.3 n.ensures k.ensures)))

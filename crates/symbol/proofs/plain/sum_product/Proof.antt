@@ -7,4 +7,4 @@ pub sum_product_spec : {M : Type 1} → statement M
 sum_product_spec = tie.close (tie.spec
     (λ c κs. search rules)
     (λ c κs. search rules)
-    (λ c. sum_product_is _ _ _ _ _ c.before.product.ensures c.sum.ensures))
+    (λ c. sum_product_is _ _ _ _ _ c.product.ensures c.sum.ensures))

@@ -8,7 +8,7 @@ use Rattle.symbol257.proofs.Symbol.inverse_by.Statement.{statement}
 use Rattle.symbol257.proofs.Symbol.inverse_by.Tie as tie
 
 -- the logarithm
-low : (c : tie.After-shared_slice_known-3-1) → get_or c.before.before.before.before.before.args.logs.now c.before.before.index-x.result 0 < 256
+low : (c : tie.After-shared_slice_known-3-1) → get_or c.args.logs.now c.index-x.result 0 < 256
 low c = search (log_known working)
 
 pub inverse_by_spec : {M : Type 1} → statement M

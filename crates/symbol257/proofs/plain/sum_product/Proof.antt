@@ -9,4 +9,4 @@ sum_product_spec = tie.close (tie.spec
     (λ c κs. search rules)
     (λ c κs. c.lazy_product.ensures.1)
     (λ c κs. search rules)
-    (λ c. sum_product_is _ _ _ _ _ _ c.before.before.lazy_product.ensures.0 c.before.lazy_sum.ensures c.settle.ensures))
+    (λ c. sum_product_is _ _ _ _ _ _ c.lazy_product.ensures.0 c.lazy_sum.ensures c.settle.ensures))

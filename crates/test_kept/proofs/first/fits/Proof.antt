@@ -13,13 +13,13 @@ fits_spec =
     (λ c. search rules)
     (λ c. search rules)
     (λ c κs.
-    let c2 = c.before.before.before.before.before.before.before.before in
-    let a = c2.args in
-    let b = c2.requires.0 in (
+    
+    let a = c.args in
+    let b = c.requires.0 in (
       b.block,
       b.digits_in,
       b.width_is,
-      c2.requires.1,
+      c.requires.1,
       wide_room a.l a.e a.w a.first b,
       row_room a.l a.e a.w a.first b,
     ))

@@ -22,7 +22,7 @@ bad_layer_spec =
     (λ c κs. (search rules, search rules, search rules, search rules, search rules))
     (λ c. search rules)
     (λ c. omega arith)
-    (λ c κs. (one_fewer gf257 _ _ _ c.before.loop-e.e c.before.loop-e.first c.before.loop-e.invariant (omega arith), search rules))
+    (λ c κs. (one_fewer gf257 _ _ _ c.loop-e.e c.loop-e.first c.loop-e.invariant (omega arith), search rules))
     (λ c. omega arith)
     (λ c. search rules)
     (λ c. search first_layer))
