@@ -2,7 +2,7 @@
 -- Assumes nothing.
 use mathlib.Core.Path.{◌≡◌, refl, sym, ap, ap₂, ◌∙◌}
 use mathlib.Core.List.{List}
-use Prim.Native.Nat.{ℕ, suc, pred, ◌+◌, ◌-◌, ◌*◌, ◌/◌, ◌%◌, ◌^◌, ◌<◌, ◌≤◌}
+use Prim.Native.Nat.{ℕ, zero, suc, pred, ◌+◌, ◌-◌, ◌*◌, ◌/◌, ◌%◌, ◌^◌, ◌<◌, ◌≤◌}
 use native.Mathlib.Nat.{mul-div_cancel, mul-mod_left, mul_assoc, mul-le-mul, mul_comm, add-mul, zero-mul, div-add-mod', mod-lt, div-div-eq-div-mul, pow-suc, le_refl}
 use native.Mathlib.Numerals.{add-one}
 use native.Mathlib.Decide.{dec_lt}
@@ -69,6 +69,7 @@ pub digit_above_host : (h i : ℕ) → ¬ (i ≡ h) → h ≤ i → i - 1 ≡ un
 digit_above_host h i d k = down i (omega arith) ∙ sym (unskip_high h i k)
   where
     down : (i : ℕ) → 0 < i → i - 1 ≡ pred i
+    down zero h = absurd (omega arith)
     down (suc i) h = omega arith
 
 -- the digits of a group's number are those of its layers, but for the host's

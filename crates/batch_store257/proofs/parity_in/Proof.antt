@@ -21,7 +21,7 @@ pub parity_in_spec : {M : Type 1} → statement M
 parity_in_spec =
     tie.close (tie.spec
     (λ c κs. let a = c.requires.0.adm in (omega (arith, dimension_in _ a), omega arith))
-    (λ c κs. subst (λ es. Restoring c.args.l c.args.many es c.args.out.now) (sym (listed c.before.before.before.before)) (parity_told c.args.l c.args.many c.args.out.now c.requires.0))
+    (λ c κs. subst (λ es. Restoring c.args.l c.args.many es c.args.out.now) (sym (listed c.before.before.before)) (parity_told c.args.l c.args.many c.args.out.now c.requires.0))
     (λ c. search rules)
     (λ c. search rules)
-    (λ c. subst (λ es. Restored gf257 c.args.l c.args.many es c.args.out.now c.restore.new.1.1.0) (listed c.before.before.before.before.before.before.before) c.restore.ensures))
+    (λ c. subst (λ es. Restored gf257 c.args.l c.args.many es c.args.out.now c.restore.new.1.1.0) (listed c.before.before.before.before.before.before) c.restore.ensures))

@@ -18,18 +18,18 @@ box_recover_spec =
     (λ c. search rules)
     (λ c. let a = c.args in recover_refused a.erased.now a.c.now _ c.recover_refusal-ground.ensures c.if-ground-ne0.true)
     (λ c. search rules)
-    (λ c κs. let p = recoverable _ _ (none c.before.before) in (p.1, p.0, search rules))
+    (λ c κs. let p = recoverable _ _ (none c.before) in (p.1, p.0, search rules))
     (λ c. search rules)
-    (λ c κs. let p = recoverable _ _ (none c.before.before.before.before.before.before) in (p.0, restored_long _ _ _ c.restore.ensures))
+    (λ c κs. let p = recoverable _ _ (none c.before.before.before.before) in (p.0, restored_long _ _ _ c.restore.ensures))
     (λ c. search rules)
     (λ c. let a = c.args in
-    recover_none a.erased.now a.c.now (none c.before.before.before.before.before.before.before.before) _ c.restore.ensures
+    recover_none a.erased.now a.c.now (none c.before.before.before.before.before.before) _ c.restore.ensures
     (told_false c.all_agree.ensures c.if-not-all_agree.true-raw))
     (λ c. search rules)
-    (λ c κs. let p = recoverable _ _ (none c.before.before.before.before.before.before.before.before.before.before) in
+    (λ c κs. let p = recoverable _ _ (none c.before.before.before.before.before.before.before.before) in
     (p.1, restored_long _ _ _ c.restore.ensures, p.0))
     (λ c. search rules)
     (λ c. let a = c.args in
-    recover_done a.erased.now a.c.now (none c.before.before.before.before.before.before.before.before.before.before.before.before.before) _
+    recover_done a.erased.now a.c.now (none c.before.before.before.before.before.before.before.before.before.before.before) _
     c.restore.ensures _
     (told_true c.all_agree.ensures c.if-not-all_agree.false-raw) c.fill.ensures))

@@ -47,11 +47,8 @@ repair_ground_spec =
     (λ c. repair_card gf257 _ _ _ _ _ _ _ _ (past c.before.before) _ c.are_symbols.ensures c.if-not-are_symbols.true-raw)
     (λ c κs. looking_of gf257 _ _ _ _ _ _ _ _ (past c.before.before))
     (λ c.
-    let e = c.before.before in
-    repair_symbols gf257 _ _ _ _ _ _ _ _ (past e.before.before) _ c.are_symbols.ensures c.if-not-are_symbols.false-raw _ c.group_symbols.ensures c.if-not-group_symbols.true-raw)
+    repair_symbols gf257 _ _ _ _ _ _ _ _ (past c.before.before.before.before) _ c.are_symbols.ensures c.if-not-are_symbols.false-raw _ c.group_symbols.ensures c.if-not-group_symbols.true-raw)
     (λ c κs. search cabinet_so)
     (λ c.
-    let z = c.before.before in
-    let e = z.before in
-    repair_rest gf257 _ _ _ _ _ _ _ _ (past e.before.before) _ c.are_symbols.ensures c.if-not-are_symbols.false-raw _ c.group_symbols.ensures c.if-not-group_symbols.false-raw _
+    repair_rest gf257 _ _ _ _ _ _ _ _ (past c.before.before.before.before.before) _ c.are_symbols.ensures c.if-not-are_symbols.false-raw _ c.group_symbols.ensures c.if-not-group_symbols.false-raw _
     c.helpers_ground.ensures))

@@ -46,11 +46,10 @@ admitted_spec =
     (λ c κs. search rules)
     (λ c. inadmissible _ _ (λ a. omega arith))
     (λ c.
-    let k = c.before.before.before.before.before.before.before.before.before.before.before in
     facts_admissible _ _ (record {
       cabinet = record {
         racks_low = omega arith;
-        size_low = sized k;
+        size_low = sized c.before.before.before.before.before.before.before.before.before.before.before;
         trays_high = omega arith;
         dimension_low = omega arith;
         checks_low = omega arith;
@@ -58,6 +57,6 @@ admitted_spec =
         helpers_high = omega arith;
         layers_high = omega arith;
       };
-      size_ok = (size_facts _ _ (allowed k)).1;
+      size_ok = (size_facts _ _ (allowed c.before.before.before.before.before.before.before.before.before.before.before)).1;
       errors_high = omega arith;
     })))

@@ -37,7 +37,7 @@ raise_rack_spec =
       let a =
           c.args in let s =
           c.rack_sum in weights_more working a.l a.w a.first a.r a.c.now a.es.now
-          a.i a.sums.now c.loop-m.sums c.raise_weight.new.0 s.last.0 c.loop-m.m c.loop-m.invariant.3 s.ensures
+          a.i a.sums.now c.loop-m.sums c.raise_weight.new.sums s.new.cur c.loop-m.m c.loop-m.invariant.3 s.ensures
           c.raise_weight.ensures,
       last_next working _ _ _ _ _ _ _ _
           c.rack_sum.ensures,

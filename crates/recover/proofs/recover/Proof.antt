@@ -22,20 +22,15 @@ recover_spec =
     (λ c. search rules)
     (λ c. let a = c.args in answer_refused working a.l a.erased.now a.c.now _ c.refusal-ground.ensures c.if-ground-ne0.true)
     (λ c κs. (recoverable working _ _ _ (none c)).adm.cabinet)
-    (λ c κs. let p = c.before.before in let a = c.args in
-    (told working a.l a.erased.now a.c.now (none p) _ c.layer_count-total.ensures, (recoverable working _ _ _ (none p)).adm))
+    (λ c κs. let a = c.args in
+    (told working a.l a.erased.now a.c.now (none c.before) _ c.layer_count-total.ensures, (recoverable working _ _ _ (none c.before)).adm))
     (λ c. search rules)
     (λ c.
-    let t = c.all_fit in let p = c.before.before.before.before in let a = c.args in
-    answer_none working a.l a.erased.now a.c.now (none p) (says_false t.result (not-true t.result c.if-not-all_fit.true-raw) t.ensures))
+    let t = c.all_fit in let a = c.args in
+    answer_none working a.l a.erased.now a.c.now (none c.before.before.before) (says_false t.result (not-true t.result c.if-not-all_fit.true-raw) t.ensures))
     (λ c κs.
-    let c1 = c.before.before.before.before in
-    let c2 = c1.before in
-    let p = c2 in let a = c.args in told working a.l a.erased.now a.c.now (none p) _ c.layer_count-total.ensures)
+    let a = c.args in told working a.l a.erased.now a.c.now (none c.before.before.before.before) _ c.layer_count-total.ensures)
     (λ c. search rules)
     (λ c.
-    let c1 = c.before.before in
-    let c2 = c1.before.before in
-    let c3 = c2.before.before.before.before in
-    let t = c.all_fit in let p = c3 in let a = c.args in answer_done working a.l a.erased.now
-    a.c.now (none p) _ (says_true t.result (not-false t.result c.if-not-all_fit.false-raw) t.ensures) c.restore.ensures))
+    let t = c.all_fit in let a = c.args in answer_done working a.l a.erased.now
+    a.c.now (none c.before.before.before.before.before.before.before) _ (says_true t.result (not-false t.result c.if-not-all_fit.false-raw) t.ensures) c.restore.ensures))

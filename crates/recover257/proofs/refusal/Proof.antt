@@ -57,19 +57,10 @@ refusal_spec =
     (λ c. ground_3 _ _ _ _ (adm c.before.before.before.before.before) (long c.before.before) (sym (inside c.before) ∙ not-true _ c.if-not-all_below.true-raw))
     (λ c κs. (facts c.before.before.before.before.before, long c.before.before))
     (λ c.
-    let c1 = c.before in
-    let c2 = c1.before in
-    let c3 = c2.before.before in
-    let c4 = c3.before.before.before in
-    ground_3_symbols _ _ _ _ (adm c4) (long c3) (below c2) (sym c.kept_symbols.ensures ∙ not-true _ c.if-not-kept_symbols.true-raw))
+    ground_3_symbols _ _ _ _ (adm c.before.before.before.before.before.before.before) (long c.before.before.before.before) (below c.before.before) (sym c.kept_symbols.ensures ∙ not-true _ c.if-not-kept_symbols.true-raw))
     (λ c κs. search rules)
     (λ c.
-    let c1 = c.before in
-    let c2 = c1.before in
-    let c3 = c2.before.before in
-    let c4 = c3.before.before in
-    let c5 = c4.before.before.before in
-    ground_4 _ _ _ _ (adm c5) (long c4) (below c3) (symbols c2) (sym c.strictly_rising.ensures ∙ not-true _ c.if-not-strictly_rising.true-raw))
+    ground_4 _ _ _ _ (adm c.before.before.before.before.before.before.before.before.before) (long c.before.before.before.before.before.before) (below c.before.before.before.before) (symbols c.before.before) (sym c.strictly_rising.ensures ∙ not-true _ c.if-not-strictly_rising.true-raw))
     (λ c κs. facts c.before.before.before.before.before.before.before.before.before)
     (λ c. search rules)
     (λ c. ground_5 _ _ _ _ (adm c.before.before.before.before.before.before.before.before.before.before.before)

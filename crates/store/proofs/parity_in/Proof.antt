@@ -22,12 +22,9 @@ parity_in_spec =
     (λ c κs. search rules)
     (λ c κs.
     
-    subst (λ es. Erasing c.args.l c.layer_count.result es c.args.out.now) (sym (listed c.before.before.before.before.before))
+    subst (λ es. Erasing c.args.l c.layer_count.result es c.args.out.now) (sym (listed c.before.before.before.before))
     (parity_told c.args.l _ c.args.out.now c.requires.0 c.layer_count.ensures))
     (λ c. search rules)
     (λ c. search rules)
     (λ c.
-    let c1 = c.before.before in
-    let c2 = c1.before.before.before.before.before.before in
-    
-    subst (λ es. RestoredTo gf256 c.args.l es c.args.out.now (layers c.args.l) c.restore.new.1.1.0) (listed c2) c.restore.ensures))
+    subst (λ es. RestoredTo gf256 c.args.l es c.args.out.now (layers c.args.l) c.restore.new.1.1.0) (listed c.before.before.before.before.before.before.before) c.restore.ensures))

@@ -48,7 +48,7 @@ refusal_spec =
     (λ c. let a = facts c.before.before.before in record { fits = mul_below tray_limit layer_limit (omega arith) (omega arith) tt })
     (λ c. ground_2 _ _ _ _ (adm c.before.before.before.before) (λ e f. c.if-room-tray_count.true (f ∙ sym (size c.before))))
     (λ c κs. omega arith)
-    (λ c. let p = c.before.before in ground_3 _ _ _ _ (adm p.before.before.before.before) (given_long p) (room_long p) (sym c.are_symbols.ensures
+    (λ c. ground_3 _ _ _ _ (adm c.before.before.before.before.before.before) (given_long c.before.before) (room_long c.before.before) (sym c.are_symbols.ensures
     ∙ not-true _ c.if-not-are_symbols.true-raw))
-    (λ c. let p = c.before.before in ground_0 _ _ _ _ (adm p.before.before.before.before) (given_long p) (room_long p) (sym c.are_symbols.ensures
+    (λ c. ground_0 _ _ _ _ (adm c.before.before.before.before.before.before) (given_long c.before.before) (room_long c.before.before) (sym c.are_symbols.ensures
     ∙ not-false _ c.if-not-are_symbols.false-raw)))

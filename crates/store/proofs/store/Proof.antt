@@ -25,8 +25,7 @@ store_spec =
     (λ c. search rules)
     (λ c.
     let y = c.put_data in
-    let e = c.before.before.before.before.before.before.before.before in
     let a = c.args in
-    let p = ok e in
-    answer_done working a.l a.given.now a.out.now _ (none e)
+    let p = ok c.before.before.before.before.before.before.before.before in
+    answer_done working a.l a.given.now a.out.now _ (none c.before.before.before.before.before.before.before.before)
     (stores working a.l p.adm a.given.now p.given_long p.symbols _ _ (y.ensures.long ∙ p.room_long) (begins_of _ _ _ _ refl y.ensures) c.parity.ensures)))

@@ -15,8 +15,8 @@ solve_sides_requires c κs =
       c.requires.0.block,
       space_of a.l a.h a.w a.first a.helpers.now a.shares.now a.e a.sums.now a.sides.now
           a.found.now a.points.now a.coefs.now a.row.now a.cur.now c.requires.0 _ _
-          c.block_sides.auto.0
-          c.block_sides.auto.1.1.1.1.1.1.1.1.1.1.0,
+          c.block_sides.auto.sides
+          c.block_sides.auto.row,
     )
 
 weigh_sums_requires : tie.Need-weigh_sums-requires
@@ -25,7 +25,7 @@ weigh_sums_requires c κs =
     let a = c.args in
     weighing_of a.l a.h a.w a.first a.helpers.now a.shares.now a.e a.sums.now a.sides.now a.found.now a.points.now
     a.coefs.now a.row.now a.cur.now c.requires.0 a.m _ c.requires.1
-    c.solve_sides.auto.0
+    c.solve_sides.auto.found
 
 same_length : tie.Need-shape_of-sums
 same_length c = search rules

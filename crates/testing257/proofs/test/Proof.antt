@@ -43,9 +43,5 @@ test_spec =
     (λ c. (refused_3 _ _ _ (adm c.before.before.before.before.before) (long c.before.before) (whole_false _ _ _ c.are_symbols.ensures c.if-not-are_symbols.true-raw), lit< tt))
     (λ c κs. record { adm = facts c.before.before.before.before.before; total_is = c.layer_count-total.ensures; long = long c.before.before })
     (λ c.
-    let c1 = c.before in
-    let c2 = c1.before in
-    let c3 = c2.before in
-    let c4 = c3.before.before.before in
-    let t = whole_true gf257 _ _ c.are_symbols.ensures c.if-not-are_symbols.false-raw in tested gf257 _ _ c.scan.result (not_refused _ _ _ (adm c4) (long c3) t) (long c3)
+    let t = whole_true gf257 _ _ c.are_symbols.ensures c.if-not-are_symbols.false-raw in tested gf257 _ _ c.scan.result (not_refused _ _ _ (adm c.before.before.before.before.before.before) (long c.before.before.before) t) (long c.before.before.before)
     (whole_range gf257 _ t) c.scan.ensures))
