@@ -21,7 +21,7 @@ gather_spec =
     invariant-loop-g
     decreases-loop-g
     (λ c κs. c.requires.adm.cabinet)
-    (λ c κs. let p = c.requires in (p.adm.cabinet, p.host_in, c.Counts-of.ensures))
+    (λ c κs. let p = c.requires in (p.adm.cabinet, p.host_in, c.counts_of-n.ensures))
     (λ c κs. omega arith)
     (λ c. (
       omega arith,

@@ -26,35 +26,25 @@ combine_spec =
     (λ c. search found_fits)
     (λ c. search found_fits)
     (λ c. search coefs_fits)
-    (λ c κs.
-    
-    
-    (
+    (λ c κs. (
       places_of c.args.w c.args.v c.args.run c.args.turns c.args.m c.args.i c.loop-t.t c.args.found.now
-          c.fill.new.0 c.loop-t.found c.args.sums.now c.args.coefs.now c.args.row.now c.requires.0 c.fill.ensures.long
+          c.fill.new.out c.loop-t.found c.args.sums.now c.args.coefs.now c.args.row.now c.requires.0 c.fill.ensures.long
           c.loop-t.invariant.1 c.requires.1 (omega arith),
       row_room c.args.w c.args.v c.args.run c.args.turns c.args.m
           c.args.found.now c.args.sums.now c.args.coefs.now c.args.row.now c.loop-t.row c.requires.0 c.loop-t.invariant.2,
     ))
     (λ c. omega arith)
     (λ c. omega arith)
-    (λ c.
-    
-    
-    
-    (
+    (λ c. (
       omega arith,
       search rules,
       search rules,
       let a = c.args in let k = c.loop-t in let r = c.add_row in combined_more working a.w a.v
-          a.run a.turns a.m k.t a.i a.sums.now a.coefs.now c.fill.new.0 k.found-1 r.new.0 c.requires.0.width k.invariant.3
+          a.run a.turns a.m k.t a.i a.sums.now a.coefs.now c.fill.new.out k.found r.new.found c.requires.0.width k.invariant.3
           r.ensures,
     ))
     (λ c. search rules)
     (λ c. search rules)
     (λ c.
-    
-    
-    
     combined_end working c.args.w c.args.v c.args.run c.args.m c.loop-t.t c.args.i c.args.sums.now c.args.coefs.now
-    c.args.found.now c.fill.new.0 c.loop-t.found c.fill.ensures c.loop-t.invariant.3 (omega arith) (omega arith)))
+    c.args.found.now c.fill.new.out c.loop-t.found c.fill.ensures c.loop-t.invariant.3 (omega arith) (omega arith)))

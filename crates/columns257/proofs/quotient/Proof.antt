@@ -36,7 +36,7 @@ quotient_spec =
     (λ c κs. (
       search next_after,
       (let k = c.loop-t in
-          next_in c.args.v c.args.m c.args.points.now c.args.out.now c.requires.0 k.t k.out-1 k.invariant.0 (omega arith) (search rules)),
+          next_in c.args.v c.args.m c.args.points.now c.args.out.now c.requires.0 k.t k.out k.invariant.0 (omega arith) (search rules)),
       search product_in,
       search point_in,
     ))

@@ -17,7 +17,7 @@ solve_row_spec =
     (λ c κs. (
       (
           systems_next c.args.w c.args.v c.args.run c.args.turns c.args.m c.args.found.now c.args.found.now c.args.sums.now c.args.coefs.now
-          c.quotient.new.0 c.args.row.now c.args.row.now c.requires.0 refl (search rules) refl),
+          c.quotient.new.out c.args.row.now c.args.row.now c.requires.0 refl (search rules) refl),
       search rules,
       search rules,
       search rules,

@@ -25,8 +25,8 @@ solve_rows_spec =
     (λ c κs. (
       (
           let k = c.loop-i in
-          systems_next c.args.w c.args.v c.args.run c.args.turns c.args.m c.args.found.now k.found-1 c.args.sums.now c.args.coefs.now k.coefs-1
-          c.args.row.now k.row-1 c.requires.0 k.invariant.1 k.invariant.2 k.invariant.3),
+          systems_next c.args.w c.args.v c.args.run c.args.turns c.args.m c.args.found.now k.found c.args.sums.now c.args.coefs.now k.coefs
+          c.args.row.now k.row c.requires.0 k.invariant.1 k.invariant.2 k.invariant.3),
       search rules,
       omega arith,
     ))

@@ -21,13 +21,7 @@ place_terms_spec =
     (λ c. search rules)
     (λ c. search rules)
     (λ c.
-    
-    
-    
-    
-    
-    
     let a = c.args in
     terms_of working a.l a.w a.e a.r.start a.r.run a.r.count a.r.stride c.layer_count-total.result a.host.now a.g
-    c.place_power-p.result a.cur.now c.gather.new.0 a.row.now c.fill.new.0
-    a.rests.now c.add_terms.new.0 c.layer_count-total.ensures c.place_power-p.ensures c.requires.1 c.gather.ensures c.fill.ensures c.add_terms.ensures))
+    c.place_power-p.result a.cur.now c.gather.new.out a.row.now c.fill.new.out
+    a.rests.now c.add_terms.new.sums c.layer_count-total.ensures c.place_power-p.ensures c.requires.1 c.gather.ensures c.fill.ensures c.add_terms.ensures))

@@ -30,7 +30,7 @@ add_blocks_spec =
     let a = c.args in
     let p = c.requires in
     let b = c.loop-j in (
-      block_told gf257 a.out.now b.out-1 a.src.now a.to a.len a.from a.gap a.n a.far a.m b.j a.width p.0 b.invariant.2 (inside c.before),
+      block_told gf257 a.out.now b.out a.src.now a.to a.len a.from a.gap a.n a.far a.m b.j a.width p.0 b.invariant.2 (inside c.before),
       p.1.narrow,
     ))
     (λ c. omega (arith, inside c.before.before.before.before))

@@ -8,11 +8,6 @@ use Rattle.multipliers257.proofs.solve_sides.Tie as tie
 
 solve_first_requires : tie.Need-solve_first-requires
 solve_first_requires c κs =
-    
-    
-    
-    
-    
     let a = c.args in
     let k = c.unknown_points.auto in
     let v = c.power_sides.auto in
@@ -20,26 +15,19 @@ solve_first_requires c κs =
       systems_one a.l a.h a.p a.helpers.now c.requires.0 a.found.now a.sides.now a.points.now a.coefs.now a.row.now a.cur.now c.requires.1
           _ _ _ e v.0 (v.1.1.1.1.1.0 ∙ k.1.1.1.1.1.1.1.1.0),
       points_room a.l a.h a.p a.helpers.now c.requires.0 a.found.now a.sides.now a.points.now a.coefs.now a.row.now a.cur.now c.requires.1
-          _ c.unknown_points.new.0 e k.0,
+          _ c.unknown_points.new.points e k.0,
       digits_first a.l a.h a.p a.helpers.now c.requires.0 _ _ e c.digit_count-s.ensures,
       points_few a.l a.h a.p a.helpers.now c.requires.0 _ e,
     )
 
 returns : tie.Need-returns
 returns c =
-    
-    
-    
-    
-    
-    
     let a = c.args in
     multipliers_of working a.l a.h a.p a.helpers.now c.requires.0 _ _ _ _ _ c.unknown_count-n.ensures c.digit_count-s.ensures c.unknown_points.ensures
     c.power_sides.ensures c.solve_first.ensures
 
 power_sides_requires : tie.Need-power_sides-requires
 power_sides_requires c κs =
-    
     (c.requires.0, search space_of)
 
 pub solve_sides_spec : {M : Type 1} → statement M

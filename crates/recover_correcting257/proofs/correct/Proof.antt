@@ -23,13 +23,11 @@ correct_spec =
     c.requires.1 _ _ _ _
     c.tray_count-n.ensures
     c.left_over-left.ensures
-    c.if-left-lt2.false c.replace-x.ensures
-    c.if-n-x.true)
+    c.if-left-lt2.false c.replace-x.ensures c.if-n-x.true)
     (λ c. search rules)
     (λ c. let a = c.args in answer_named working a.l
     a.es.now a.c.now c.requires.0
     c.requires.1 _ _ _ _
     c.tray_count-n.ensures
     c.left_over-left.ensures
-    c.if-left-lt2.false c.replace-x.ensures
-    c.if-n-x.false))
+    c.if-left-lt2.false c.replace-x.ensures c.if-n-x.false))

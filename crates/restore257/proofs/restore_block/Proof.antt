@@ -11,8 +11,7 @@ use Rattle.restore257.proofs.restore_block.Tie as tie
 pub restore_block_spec : {M : Type 1} → statement M
 restore_block_spec =
     tie.close (tie.spec
-    (λ c κs.
-    (
+    (λ c κs. (
       c.requires.0,
       room_few c.args.l c.args.w c.args.es.now c.args.sums.now c.args.found.now c.args.points.now
           c.args.coefs.now c.args.row.now c.args.cur.now c.requires.3.listed c.requires.4 c.requires.5,
@@ -49,10 +48,6 @@ restore_block_spec =
     (λ c. search rules)
     (λ c. search rules)
     (λ c.
-    
-    
-    
-    
     block_restored working c.args.l c.args.total c.args.w c.args.first c.args.es.now c.args.c.now c.sum_kept.new.0
     c.solve_block.new.0 c.put_block.new.0 c.requires.0 c.requires.3 c.sum_kept.ensures c.solve_block.ensures
     c.put_block.ensures))

@@ -78,7 +78,7 @@ feed_tray_spec =
     let a = c.args in
     (found c.before, add_refused gf257 a.l a.count a.host.0 a.tray.0 a.symbols.now a.shares.now (λ e. c.if-ground-ne0.true (found c.before ∙ e))))
     (λ c κs. (fed c).adm.cabinet)
-    (λ c κs. let p = fed c.before in (p.adm.cabinet, p.host_in, c.Counts-of.ensures))
+    (λ c κs. let p = fed c.before in (p.adm.cabinet, p.host_in, c.counts_of-n.ensures))
     (λ c κs. (fed c.before.before.before, c.runs_of-r.ensures, inside c.before.before.before))
     (λ c. search rules)
     (λ c.

@@ -53,7 +53,7 @@ make_shares_spec =
     let g = rack_ground_1 working a.l a.count a.host.0 a.helper.0 a.rack.now (length a.out.now) (sym c.admitted.ensures ∙ not-true _ c.if-not-admitted.true-raw) in
     (g, buffer_refused gf257 a.l a.count a.host.0 a.helper.0 a.rack.now a.out.now (λ e. omega (arith, g, e))))
     (λ c κs. (admissible_facts gf257.order _ (adm c)).cabinet)
-    (λ c κs. (adm c.before, c.Counts-of.ensures))
+    (λ c κs. (adm c.before, c.counts_of-n.ensures))
     (λ c.
     let a = c.args in
     (found c.before, buffer_refused gf257 a.l a.count a.host.0 a.helper.0 a.rack.now a.out.now (λ e. c.if-ground-ne0.true (found c.before ∙ e))))
@@ -71,7 +71,7 @@ make_shares_spec =
         few = p.few;
         given = symbols_range gf257 _ p.symbols_so;
       },
-      c.Counts-of.ensures,
+      c.counts_of-n.ensures,
     ))
     (λ c. search rules)
     (λ c.

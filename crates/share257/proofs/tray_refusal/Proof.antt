@@ -30,7 +30,7 @@ tray_refusal_spec =
     (λ c κs. search rules)
     (λ c κs. (facts c.before).cabinet)
     (λ c. size_pos _ (facts c.before.before).cabinet)
-    (λ c κs. (adm c.before.before, c.Counts-of.ensures))
+    (λ c κs. (adm c.before.before, c.counts_of-n.ensures))
     (λ c.
     let a = c.args in
     c.refusal.ensures

@@ -28,7 +28,7 @@ listed_points_spec =
     (λ c κs. (
       search listed_in,
       let a = c.args in sampled_in a.l
-          a.w a.first a.es.now a.v a.run a.points.now a.row.now c.tray_points.new.0
+          a.w a.first a.es.now a.v a.run a.points.now a.row.now c.tray_points.new.row
           c.requires (search rules),
       search rules,
     ))
@@ -38,12 +38,8 @@ listed_points_spec =
       omega arith,
       search rules,
       search rules,
-      
-          
-          
-          
-          let a = c.args in listed_more working a.l a.w a.first a.es.now a.v a.run c.loop-k.k c.tray_points.new.0 c.loop-k.points
-          c.sample.new.0 c.requires.width c.requires.run_low c.loop-k.invariant.3 c.tray_points.ensures c.sample.ensures,
+      let a = c.args in listed_more working a.l a.w a.first a.es.now a.v a.run c.loop-k.k c.tray_points.new.row c.loop-k.points
+          c.sample.new.out c.requires.width c.requires.run_low c.loop-k.invariant.3 c.tray_points.ensures c.sample.ensures,
     ))
     (λ c. search rules)
     (λ c. search rules)

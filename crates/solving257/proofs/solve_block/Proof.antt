@@ -16,15 +16,14 @@ solve_block_spec =
     columns_of a.l a.w a.first a.es.now a.e r.run r.columns r.turns a.sums.now a.found.now a.points.now a.coefs.now a.row.now
     c.requires.0 c.requires.3 c.requires.2 y.ensures c.requires.4)
     (λ c κs.
-    
     let a = c.args in
     let y = c.cycle_of-p in
     let r = y.result in
     let p = c.listed_points in (
       systems_of a.l a.w a.es.now a.e r.run r.columns r.turns a.sums.now a.found.now a.points.now a.coefs.now a.row.now
-          p.new.1.1.1.1.1.1.1.0 c.requires.0.adm c.requires.3 c.requires.2 y.ensures c.requires.4 (search rules),
+          p.new.row c.requires.0.adm c.requires.3 c.requires.2 y.ensures c.requires.4 (search rules),
       points_room a.l a.w a.es.now a.e
-          r.run r.columns r.turns a.sums.now a.found.now a.points.now p.new.0 a.coefs.now a.row.now c.requires.0.adm c.requires.3
+          r.run r.columns r.turns a.sums.now a.found.now a.points.now p.new.points a.coefs.now a.row.now c.requires.0.adm c.requires.3
           c.requires.2 y.ensures c.requires.4 (search rules),
       points_few a.l a.w a.es.now a.e r.run r.columns r.turns a.sums.now
           a.found.now a.points.now a.coefs.now a.row.now c.requires.0.adm c.requires.3 c.requires.2 y.ensures c.requires.4,
@@ -34,10 +33,6 @@ solve_block_spec =
     (λ c. search rules)
     (λ c. search rules)
     (λ c.
-    
-    
-    
-    
     let a = c.args in let y = c.cycle_of-p in let r = y.result in let p = c.listed_points in let f = c.solve in found_of working a.l a.w
-    a.first a.es.now a.e r.run r.columns r.turns a.sums.now p.new.0 f.new.0 c.requires.0 c.requires.2 y.ensures p.ensures
+    a.first a.es.now a.e r.run r.columns r.turns a.sums.now p.new.points f.new.found c.requires.0 c.requires.2 y.ensures p.ensures
     f.ensures))

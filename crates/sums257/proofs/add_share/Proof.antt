@@ -8,13 +8,13 @@ use Rattle.sums257.proofs.add_share.Tie as tie
 unknown_count_requires : tie.Need-unknown_count-r-requires
 unknown_count_requires c κs = search rules
 
-cast_r : tie.Need-overflow-cast-r
+cast_r : tie.Need-overflow_cast-r
 cast_r c = search rules
 
 share_terms_requires : tie.Need-share_terms-requires
 share_terms_requires c κs = search rules
 
-mul_rack_powers : tie.Need-overflow-mul-rack-powers
+mul_rack_powers : tie.Need-offset_bounds-helpers-k
 mul_rack_powers c = search rules
 
 shared_slice_read_rack_powers : tie.Need-bounds-helpers-k
@@ -25,7 +25,6 @@ rack_powers_requires c κs = (search block_there, search host_there, search help
 
 add_terms_requires : tie.Need-add_terms-requires
 add_terms_requires c κs =
-    
     let a = c.args in
     room_of a.l a.h a.w a.first a.helpers.now a.shares.now a.e a.m a.k a.cur.now a.row.now c.requires.0 c.requires.1 _ _ _ _
     c.requires.2 c.unknown_count-r.ensures

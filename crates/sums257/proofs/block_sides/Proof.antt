@@ -21,10 +21,10 @@ decreases-loop-k sides₀ l h w first helpers shares e m cur₀ row₀ k₀ side
 unknown_count_requires : tie.Need-unknown_count-requires invariant-loop-k decreases-loop-k
 unknown_count_requires c κs = search rules
 
-cast_fill : tie.Need-overflow-cast-fill invariant-loop-k decreases-loop-k
+cast_fill : tie.Need-overflow_cast-unknown_count invariant-loop-k decreases-loop-k
 cast_fill c = search rules
 
-mul_fill : tie.Need-overflow-mul-fill invariant-loop-k decreases-loop-k
+mul_fill : tie.Need-overflow_mul-unknown_count invariant-loop-k decreases-loop-k
 mul_fill c = search sides_high
 
 fill_requires : tie.Need-fill-requires invariant-loop-k decreases-loop-k
@@ -42,7 +42,7 @@ add_share_requires c κs = (
       c.requires.1,
 )
 
-add_k : tie.Need-overflow-add-k invariant-loop-k decreases-loop-k
+add_k : tie.Need-overflow_add-k invariant-loop-k decreases-loop-k
 add_k c = search count_fits
 
 loop_less : tie.Need-loop-k-smaller invariant-loop-k decreases-loop-k

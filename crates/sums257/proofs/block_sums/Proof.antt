@@ -25,7 +25,7 @@ loop_holds c = (omega arith, refl, refl, refl, refl, refl, refl, refl, weights_n
 weight_sums_requires : tie.Need-weight_sums-requires invariant-loop-m decreases-loop-m
 weight_sums_requires c κs = (search summing_next, omega arith, search rules)
 
-add_m : tie.Need-overflow-add-m invariant-loop-m decreases-loop-m
+add_m : tie.Need-overflow_add-m invariant-loop-m decreases-loop-m
 add_m c = search weight_fits
 
 loop_less : tie.Need-loop-m-smaller invariant-loop-m decreases-loop-m

@@ -8,16 +8,16 @@ use Rattle.sums257.proofs.digit_point.Tie as tie
 digit_count_requires : tie.Need-digit_count-s-requires
 digit_count_requires c κs = search rules
 
-mul_root_power : tie.Need-overflow-mul-root-power
+mul_root_power : tie.Need-overflow_mul-i
 mul_root_power c = search point_fits
 
-add_root_power : tie.Need-overflow-add-root-power
+add_root_power : tie.Need-overflow_add-i
 add_root_power c = search point_fits_2
 
-mul_root_power_2 : tie.Need-overflow-mul-root-power-2
+mul_root_power_2 : tie.Need-overflow_mul-i-2
 mul_root_power_2 c = search power_fits
 
-cast_root_power : tie.Need-overflow-cast-root-power
+cast_root_power : tie.Need-overflow_cast-i
 cast_root_power c = search power_wide
 
 root_power_requires : tie.Need-root_power-requires

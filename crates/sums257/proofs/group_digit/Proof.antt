@@ -7,7 +7,7 @@ use Rattle.sums257.proofs.group_digit.Tie as tie
 returns : tie.Need-returns-then-i-h
 returns c = search digit_below_host
 
-sub_result : tie.Need-overflow-sub-result
+sub_result : tie.Need-overflow_sub-result
 sub_result c = search rules
 
 returns_2 : tie.Need-returns

@@ -7,7 +7,7 @@ use Rattle.sums257.proofs.rack_place.Tie as tie
 group_digit_requires : tie.Need-group_digit-requires
 group_digit_requires c κs = search rules
 
-add_result : tie.Need-overflow-add-result
+add_result : tie.Need-overflow_add-result
 add_result c = search place_fits
 
 returns : tie.Need-returns

@@ -9,16 +9,16 @@ use Rattle.sums257.proofs.share_terms.Tie as tie
 group_count_requires : tie.Need-group_count-requires
 group_count_requires c κs = search rules
 
-cast_cell : tie.Need-overflow-cast-cell
+cast_cell : tie.Need-overflow_cast-k
 cast_cell c = search rules
 
-mul_cell : tie.Need-overflow-mul-cell
+mul_cell : tie.Need-overflow_mul-k
 mul_cell c = search share_fits
 
-add_cell : tie.Need-overflow-add-cell
+add_cell : tie.Need-overflow_add-k
 add_cell c = search share_fits_2
 
-cast_cell_2 : tie.Need-overflow-cast-cell-2
+cast_cell_2 : tie.Need-overflow_cast-first
 cast_cell_2 c = search rules
 
 cell_requires : tie.Need-cell-at-requires
@@ -33,7 +33,7 @@ same_length c = search rules
 returns : tie.Need-returns-then-m-eq0
 returns c = search (terms_plain working)
 
-mul_rack_powers : tie.Need-overflow-mul-rack-powers
+mul_rack_powers : tie.Need-offset_bounds-helpers-k
 mul_rack_powers c = search rules
 
 shared_slice_read_rack_powers : tie.Need-bounds-helpers-k

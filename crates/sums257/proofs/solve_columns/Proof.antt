@@ -9,13 +9,13 @@ use Rattle.sums257.proofs.solve_columns.Tie as tie
 unknown_count_requires : tie.Need-unknown_count-n-requires
 unknown_count_requires c κs = search rules
 
-cast_n : tie.Need-overflow-cast-n
+cast_n : tie.Need-overflow_cast-n
 cast_n c = search rules
 
 digit_count_requires : tie.Need-digit_count-s-requires
 digit_count_requires c κs = search rules
 
-cast_s : tie.Need-overflow-cast-s
+cast_s : tie.Need-overflow_cast-s
 cast_s c = search rules
 
 unknown_points_requires : tie.Need-unknown_points-requires
@@ -38,7 +38,6 @@ same_length_4 c = search rules
 
 returns : tie.Need-returns
 returns c =
-    
     let a = c.args in
     found_of working a.l a.h a.w a.first a.helpers.now a.v a.run c.requires.2 _ _ a.sides.now _ _ c.requires.0.adm
     c.unknown_count-n.ensures

@@ -5,7 +5,7 @@ use borrow.Author.Rules.{rules}
 use Rattle.sums257.proofs.solve_sides.Statement.{statement}
 use Rattle.sums257.proofs.solve_sides.Tie as tie
 
-add_if1 : tie.Need-overflow-add-if1
+add_if1 : tie.Need-overflow_add-d
 add_if1 c = search rules
 
 solve_columns_requires : tie.Need-solve_columns-requires

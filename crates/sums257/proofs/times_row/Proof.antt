@@ -5,16 +5,16 @@ use borrow.Author.Rules.{rules}
 use Rattle.sums257.proofs.times_row.Statement.{statement}
 use Rattle.sums257.proofs.times_row.Tie as tie
 
-mul_fill : tie.Need-overflow-mul-fill
+mul_fill : tie.Need-overflow_mul-q
 mul_fill c = search rules
 
 fill_requires : tie.Need-fill-requires
 fill_requires c κs = search rules
 
-mul_add_multiple : tie.Need-overflow-mul-add-multiple
+mul_add_multiple : tie.Need-overflow_mul-q-2
 mul_add_multiple c = search rules
 
-mul_add_multiple_2 : tie.Need-overflow-mul-add-multiple-2
+mul_add_multiple_2 : tie.Need-overflow_mul-a
 mul_add_multiple_2 c = search rules
 
 add_multiple_requires : tie.Need-add_multiple-requires

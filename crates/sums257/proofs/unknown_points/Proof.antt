@@ -21,7 +21,7 @@ decreases-loop-i points₀ l h w first helpers v run row₀ n i₀ points row i 
 unknown_count_requires : tie.Need-unknown_count-n-requires invariant-loop-i decreases-loop-i
 unknown_count_requires c κs = search rules
 
-cast_n : tie.Need-overflow-cast-n invariant-loop-i decreases-loop-i
+cast_n : tie.Need-overflow_cast-n invariant-loop-i decreases-loop-i
 cast_n c = search rules
 
 loop_holds : tie.Need-loop-i-init invariant-loop-i decreases-loop-i
@@ -30,7 +30,7 @@ loop_holds c = (omega arith, refl, refl, search (points_none working))
 unknown_row_requires : tie.Need-unknown_row-requires invariant-loop-i decreases-loop-i
 unknown_row_requires c κs = (search pointed_next, omega arith)
 
-add_i : tie.Need-overflow-add-i invariant-loop-i decreases-loop-i
+add_i : tie.Need-overflow_add-i invariant-loop-i decreases-loop-i
 add_i c = omega arith
 
 loop_less : tie.Need-loop-i-smaller invariant-loop-i decreases-loop-i

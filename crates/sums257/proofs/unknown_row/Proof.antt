@@ -9,7 +9,7 @@ use Rattle.sums257.proofs.unknown_row.Tie as tie
 digit_count_requires : tie.Need-digit_count-s-requires
 digit_count_requires c κs = search rules
 
-cast_free_place : tie.Need-overflow-cast-free-place
+cast_free_place : tie.Need-overflow_cast-i
 cast_free_place c = search rules
 
 free_place_requires : tie.Need-free_place-x-requires
@@ -18,7 +18,7 @@ free_place_requires c κs = search choosing_of
 digit_point_requires : tie.Need-digit_point-p-requires
 digit_point_requires c κs = (search pointed_layout, search pointed_host, search host_digit_lem, search pointed_size)
 
-mul_fill : tie.Need-overflow-mul-fill
+mul_fill : tie.Need-overflow_mul-i
 mul_fill c = search point_fits
 
 fill_requires : tie.Need-fill-requires
@@ -36,7 +36,7 @@ skipped_requires c κs = search other_high
 rack_powers_requires : tie.Need-rack_powers-requires
 rack_powers_requires c κs = (search pointed_block, search pointed_host, search other_rack, search other_not, search pointed_size, search rules)
 
-mul_sample : tie.Need-overflow-mul-sample
+mul_sample : tie.Need-overflow_mul-i-2
 mul_sample c = search point_fits
 
 sample_requires : tie.Need-sample-requires

@@ -32,22 +32,22 @@ inverse_requires c κs = search rules
 difference_requires : tie.Need-difference-v-requires invariant-loop-a decreases-loop-a
 difference_requires c κs = search rules
 
-mul_times_row : tie.Need-overflow-mul-times-row invariant-loop-a decreases-loop-a
+mul_times_row : tie.Need-overflow_mul-m invariant-loop-a decreases-loop-a
 mul_times_row c = search row_fits
 
-add_times_row : tie.Need-overflow-add-times-row invariant-loop-a decreases-loop-a
+add_times_row : tie.Need-overflow_add-m invariant-loop-a decreases-loop-a
 add_times_row c = search row_fits_2
 
-cast_times_row : tie.Need-overflow-cast-times-row invariant-loop-a decreases-loop-a
+cast_times_row : tie.Need-overflow_cast-m invariant-loop-a decreases-loop-a
 cast_times_row c = search row_wide
 
-cast_times_row_2 : tie.Need-overflow-cast-times-row-2 invariant-loop-a decreases-loop-a
+cast_times_row_2 : tie.Need-overflow_cast-a invariant-loop-a decreases-loop-a
 cast_times_row_2 c = search rules
 
 times_row_requires : tie.Need-times_row-requires invariant-loop-a decreases-loop-a
 times_row_requires c κs = (search sums_row, search found_row)
 
-add_a : tie.Need-overflow-add-a invariant-loop-a decreases-loop-a
+add_a : tie.Need-overflow_add-a invariant-loop-a decreases-loop-a
 add_a c = omega arith
 
 loop_less : tie.Need-loop-a-smaller invariant-loop-a decreases-loop-a
@@ -59,9 +59,9 @@ loop_again c = (
   search rules,
   let a = c.args in let k =
       c.loop-a in weighed_more working a.l a.h a.w a.m a.found.now a.sums.now
-      k.a _ _ _ _ k.sums-1 _ c.digit_count-s.ensures
+      k.a _ _ _ _ k.sums _ c.digit_count-s.ensures
       c.digit_point.ensures c.inverse.ensures
-      c.difference-v.ensures k.inv.2 c.times_row.ensures,
+      c.difference-v.ensures k.invariant.2 c.times_row.ensures,
 )
 
 same_length : tie.Need-shape_of-sums invariant-loop-a decreases-loop-a

@@ -10,23 +10,21 @@ block_sides_requires c κs = (search rules, search rules)
 
 solve_sides_requires : tie.Need-solve_sides-requires
 solve_sides_requires c κs =
-    
     let a = c.args in (
       c.requires.0.received.chosen,
       c.requires.0.block,
       space_of a.l a.h a.w a.first a.helpers.now a.shares.now a.e a.sums.now a.sides.now
           a.found.now a.points.now a.coefs.now a.row.now a.cur.now c.requires.0 _ _
-          c.block_sides.auto.0
-          c.block_sides.auto.1.1.1.1.1.1.1.1.1.1.0,
+          c.block_sides.auto.sides
+          c.block_sides.auto.row,
     )
 
 weigh_sums_requires : tie.Need-weigh_sums-requires
 weigh_sums_requires c κs =
-    
     let a = c.args in
     weighing_of a.l a.h a.w a.first a.helpers.now a.shares.now a.e a.sums.now a.sides.now a.found.now a.points.now
     a.coefs.now a.row.now a.cur.now c.requires.0 a.m _ c.requires.1
-    c.solve_sides.auto.0
+    c.solve_sides.auto.found
 
 same_length : tie.Need-shape_of-sums
 same_length c = search rules
@@ -51,7 +49,6 @@ same_length_7 c = search rules
 
 returns : tie.Need-returns
 returns c =
-    
     let a = c.args in
     weights_more working a.l a.h a.w a.first a.helpers.now a.shares.now a.e a.m _ _ a.sums.now _ c.requires.0.received.chosen
     c.block_sides.ensures

@@ -20,7 +20,7 @@ returns c = search rules
 digit_count_requires : tie.Need-digit_count-s-requires
 digit_count_requires c κs = search rules
 
-cast_digit_at : tie.Need-overflow-cast-digit-at
+cast_digit_at : tie.Need-overflow_cast-first
 cast_digit_at c = search first_fits
 
 digit_at_requires : tie.Need-digit_at-a-requires

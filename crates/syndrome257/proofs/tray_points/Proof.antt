@@ -8,7 +8,7 @@ use Rattle.syndrome257.proofs.tray_points.Tie as tie
 point_power_requires : tie.Need-point_power-p-requires
 point_power_requires c κs = search rules
 
-div_digit_powers : tie.Need-nonzero-div-digit-powers
+div_digit_powers : tie.Need-nonzero_div-x
 div_digit_powers c = search size_of
 
 digit_powers_requires : tie.Need-digit_powers-requires

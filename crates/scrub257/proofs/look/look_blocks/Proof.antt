@@ -28,22 +28,17 @@ look_blocks_spec =
     (λ c κs. let a = c.requires.0.scannable.adm in (a, omega arith, c.loop-left.invariant.0.room, omega arith))
     (λ c. search rules)
     (λ c κs.
-    
-    
-    
-    
     let o = c.loop-left in let b = c.block_at-w in (
       b.ensures.0,
       o.invariant.0.bad_in,
       c.requires.0.scannable.long,
       c.requires.1,
-      room_here c.args.l o.seen.next o.left c.check_count-r.result b.result c.args.sums.now c.args.cur.now c.args.row.now o.sums-1
-          o.cur-1 o.row-1 c.check_count-r.ensures b.ensures.1 c.requires.2 c.requires.3 c.requires.4 o.invariant.2 o.invariant.3 o.invariant.4,
+      room_here c.args.l o.seen.next o.left c.check_count-r.result b.result c.args.sums.now c.args.cur.now c.args.row.now o.sums
+          o.cur o.row c.check_count-r.ensures b.ensures.1 c.requires.2 c.requires.3 c.requires.4 o.invariant.2 o.invariant.3 o.invariant.4,
     ))
     (λ c. c.block_at-w.ensures.1.within)
     (λ c. let b = c.block_at-w.ensures in omega (arith, b.1.within, b.2))
     (λ c.
-    
     let o = c.loop-left in
     let b = c.block_at-w in
     let k = c.look_block-seen in
@@ -55,6 +50,5 @@ look_blocks_spec =
     (λ c. search rules)
     (λ c. search rules)
     (λ c.
-    
     let o = c.loop-left in
     after_end (bad_layer gf257 c.args.l c.args.c.now) o.seen o.left (omega arith) o.invariant.1))
