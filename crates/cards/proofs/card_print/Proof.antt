@@ -13,7 +13,6 @@ card_print_spec =
     (λ c. search (print_host working))
     (λ c. search (print_group working))
     (λ c κs.
-    
     let a = c.args in
     print_given working a.l a.lost.0 _ a.helpers.now a.group a.card.now c.number-x.ensures _ c.print_ground-ground.ensures c.if-ground-ne0.false)
     (λ c. search rules)

@@ -32,7 +32,6 @@ card_repair_spec =
     (λ c. search (repair_wrong working))
     (λ c. search (repair_group working))
     (λ c κs.
-    
     let a = c.args in
     card_repairing_of working a.l a.lost.0 _ a.helpers.now a.card.now a.shares.now a.host.now a.group a.spare.now c.number-x.ensures _
     c.repair_ground-ground.ensures c.if-ground-ne0.false _ c.right_card.ensures c.if-not-right_card.false-raw)
@@ -43,9 +42,6 @@ card_repair_spec =
     (λ c. report_fits _ _ _ (given c.before.before.before.before.before.before.before).adm.admissible.cabinet c.group_count.ensures)
     (λ c. search rules)
     (λ c.
-    
-    
-    
     let a = c.args in
     done_of working a.l a.lost.0 _ a.helpers.now a.card.now a.shares.now a.host.now a.group a.spare.now c.number-x.ensures _
     c.repair_ground-ground.ensures c.if-ground-ne0.false _ c.right_card.ensures c.if-not-right_card.false-raw _ _ c.group_count.ensures c.repair_by_card.ensures))

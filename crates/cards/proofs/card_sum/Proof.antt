@@ -32,8 +32,6 @@ card_sum_spec =
     (λ c. omega arith)
     (λ c. omega arith)
     (λ c.
-    
-    
     let a = c.args in (
       omega arith,
       part_more working a.card.now a.shares.now a.l.helpers _ a.p a.b c.loop-k.k _ _ _ _ _ _ _ c.loop-k.invariant.1

@@ -11,7 +11,6 @@ group_symbols_spec =
     tie.close (tie.spec
     (λ c. search rules)
     (λ c κs.
-    
     let g = c.requires in
     (g.adm, one_below c.args.l c.args.x g.lost_in, g.shares_long ∙ sym (one-mul (traffic c.args.l)), g.host_long))
     (λ c. search rules))

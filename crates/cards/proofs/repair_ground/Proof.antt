@@ -11,9 +11,6 @@ past : (c : tie.Else-not-in_layout) →
     let a = c.args in
     Measured gf256 a.l a.x a.helpers.now a.group a.card.now a.shares.now a.host.now a.spare
 past c =
-    
-    
-    
     let a = c.args in
     measured_of gf256 a.l a.x a.helpers.now a.group a.card.now a.shares.now a.host.now a.spare _ c.admits.ensures c.if-not-admits.false-raw
     _ c.layer_count-total.ensures _ _ c.digit_count.ensures c.group_count.ensures c.if-card-digit_count.false c.if-shares-d.false

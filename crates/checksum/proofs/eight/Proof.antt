@@ -20,21 +20,17 @@ eight_spec = tie.close (tie.spec
     (λ c. search rules)
     (λ c. search rules)
     (λ c κs.
-    
     c.requires.0 3 (omega arith))
     (λ c. search rules)
     (λ c. search rules)
     (λ c κs.
-    
     c.requires.0 2 (omega arith))
     (λ c. search rules)
     (λ c. search rules)
     (λ c κs.
-    
     c.requires.0 1 (omega arith))
     (λ c. search rules)
     (λ c. search rules)
     (λ c κs.
-    
     c.requires.0 0 (omega arith))
     (λ c. search eight_is))

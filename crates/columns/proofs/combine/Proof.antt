@@ -26,8 +26,6 @@ combine_spec =
     (λ c. search found_fits)
     (λ c. search coefs_fits)
     (λ c κs.
-    
-    
     (
       places_of c.args.w c.args.v c.args.run c.args.turns c.args.m c.args.i c.loop-t.t c.args.found.now
           c.fill.new.out c.loop-t.found c.args.sums.now c.args.coefs.now c.args.row.now c.requires.0 c.fill.ensures.long
@@ -38,9 +36,6 @@ combine_spec =
     (λ c. omega arith)
     (λ c. omega arith)
     (λ c.
-    
-    
-    
     (
       omega arith,
       search rules,
@@ -52,8 +47,5 @@ combine_spec =
     (λ c. search rules)
     (λ c. search rules)
     (λ c.
-    
-    
-    
     combined_end working c.args.w c.args.v c.args.run c.args.m c.loop-t.t c.args.i c.args.sums.now c.args.coefs.now
     c.args.found.now c.fill.new.out c.loop-t.found c.fill.ensures c.loop-t.invariant.3 (omega arith) (omega arith)))

@@ -35,12 +35,10 @@ divisors_spec =
     (λ c. (omega arith, omega arith, search rules, search rules))
     (λ c. search whole_fits)
     (λ c κs.
-    
     all_in c.args.v c.args.m c.args.points.now c.loop-k.out
     (columns_next c.args.v c.args.m c.args.points.now c.args.out.now c.loop-k.out c.requires.0 (search rules)))
     (λ c. search rules)
     (λ c.
-    
     let k = c.loop-k in
     divisors_of working c.args.v c.args.m k.k c.args.points.now k.out c.invert.new.out k.invariant.3
     (omega arith) (omega arith) c.invert.ensures))

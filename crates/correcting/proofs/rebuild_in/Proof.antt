@@ -11,34 +11,25 @@ rebuild_in_spec =
     (λ c κs. search rules)
     (λ c. search rules)
     (λ c.
-    
     let a = c.args in
     product_fits gf256.order a.l a.x a.helpers.now a.shares.now a.host.now a.k a.spare.now c.requires.0 _ c.group_count.ensures)
     (λ c.
-    
     let a = c.args in
     let p = c.requires in
     left_room gf256.order a.l a.x a.helpers.now a.shares.now a.host.now a.k a.spare.now p.0 a.few.now p.1)
     (λ c.
-    
     let a = c.args in
     let p = c.requires in
     cut_left gf256.order a.l a.x a.helpers.now a.shares.now a.host.now a.k a.spare.now p.0 a.few.now p.1)
     (λ c.
-    
-    
     let a = c.args in
     let p = c.requires in
     sent_room gf256.order a.l a.x a.helpers.now a.shares.now a.host.now a.k a.spare.now p.0 _ a.sent.now c.group_count.ensures p.2)
     (λ c.
-    
-    
     let a = c.args in
     let p = c.requires in
     cut_sent gf256.order a.l a.x a.helpers.now a.shares.now a.host.now a.k a.spare.now p.0 _ a.sent.now c.group_count.ensures p.2)
     (λ c κs.
-    
-    
     let a = c.args in
     let p = c.requires in
     let f = cut_fits gf256.order a.l a.x a.helpers.now a.shares.now a.host.now a.k a.spare.now p.0 _ a.few.now a.sent.now c.group_count.ensures p.1 p.2 in (p.0, f.0, f.1))

@@ -12,23 +12,16 @@ rebuild_without_spec =
     tie.close (tie.spec
     (λ c κs. c.requires.0.adm.admissible.cabinet)
     (λ c κs.
-    
     let a = c.args in
     let p = c.requires in
     left_in working a.l a.x a.helpers.now a.shares.now a.host.now a.k a.spare.now p.0 a.few.now p.1)
     (λ c. search rules)
     (λ c κs.
-    
-    
-    
     let a = c.args in
     let p = c.requires in
     shares_in working a.l a.x a.helpers.now a.shares.now a.host.now a.k a.spare.now p.0 c.group_count-total.result
     a.few.now c.leave_helpers.new.0 a.sent.now c.group_count-total.ensures p.1 c.leave_helpers.ensures.long p.2)
     (λ c κs.
-    
-    
-    
     let a = c.args in
     let p = c.requires in
     rebuilding_of working a.l a.x a.helpers.now a.shares.now a.host.now a.k a.spare.now p.0 (length a.few.now)
@@ -37,11 +30,6 @@ rebuild_without_spec =
     (λ c. search rules)
     (λ c. search rules)
     (λ c.
-    
-    
-    
-    
-    
     let a = c.args in
     let p = c.requires in
     without_of working a.l a.x a.helpers.now a.shares.now a.host.now a.k a.spare.now p.0 c.group_count-total.result (length a.few.now)

@@ -28,8 +28,6 @@ refusal_spec =
     (λ c. search stop_3_helpers)
     (λ c κs. (
       search (cabinet_so gf256.order),
-      
-          
           long_so _ _ _ _ c.if-host-u.false c.layer_count-total.ensures,
     ))
     (λ c. search stop_3_symbols)

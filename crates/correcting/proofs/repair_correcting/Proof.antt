@@ -18,65 +18,34 @@ repair_correcting_spec =
     (λ c κs. search rules)
     (λ c κs. search rules)
     (λ c.
-    
-    
     let a = c.args in
     subst (λ y. CorrectingRefused gf256 a.l y a.helpers.now a.shares.now a.host.now a.spare.now a.spare.now (report (Refused c.refusal-ground.result))) c.number-x.ensures (refused_answer working a.l c.number-x.result a.helpers.now a.shares.now a.host.now a.spare.now _ c.refusal-ground.ensures c.if-ground-ne0.true))
     (λ c κs.
-    
-    
     let a = c.args in (
       accepted_layout working a.l c.number-x.result a.helpers.now a.shares.now a.host.now a.spare.now (sym c.refusal-ground.ensures ∙ c.if-ground-ne0.false),
       two_racks,
     ))
     (λ c.
-    
-    
-    
     let a = c.args in
     size_pos a.l (accepted_layout working a.l c.number-x.result a.helpers.now a.shares.now a.host.now a.spare.now (sym c.refusal-ground.ensures ∙
     c.if-ground-ne0.false)).admissible.cabinet)
     (λ c κs.
-    
-    
-    
     let a = c.args in
     sending_of working a.l c.number-x.result a.helpers.now a.shares.now a.host.now a.spare.now (sym c.refusal-ground.ensures ∙ c.if-ground-ne0.false) _ c.plain_layout.ensures)
     (λ c.
-    
-    
-    
-    
-    
     let a = c.args in
     subst (λ y. CorrectingRefused gf256 a.l y a.helpers.now a.shares.now a.host.now a.spare.now a.spare.now (report (Refused 14))) c.number-x.ensures (none_answer working a.l c.number-x.result a.helpers.now a.shares.now a.host.now a.spare.now (sym c.refusal-ground.ensures ∙
     c.if-ground-ne0.false) c.plain_layout.result c.plain_layout.ensures c.locate-k.result c.locate-k.ensures c.if-d-k.true))
     (λ c κs.
-    
-    
-    
     let a = c.args in
     rebuilding_all working a.l c.number-x.result a.helpers.now a.shares.now a.host.now a.spare.now (sym c.refusal-ground.ensures ∙ c.if-ground-ne0.false))
     (λ c. search rules)
     (λ c.
-    
-    
-    
-    
-    
-    
-    
     let a = c.args in
     subst (λ y. CorrectingDone gf256 a.l y a.helpers.now a.shares.now a.host.now a.spare.now c.rebuild.new.1.1.1.1.1.1.0 (report (Done
     a.l.racks (length a.shares.now)))) c.number-x.ensures (clean_answer working a.l c.number-x.result a.helpers.now a.shares.now a.host.now
     a.spare.now (sym c.refusal-ground.ensures ∙ c.if-ground-ne0.false) c.plain_layout.result c.plain_layout.ensures c.locate-k.result c.locate-k.ensures _ c.if-k-d.true c.rebuild.ensures))
     (λ c κs.
-    
-    
-    
-    
-    
-    
     let a = c.args in
     leaving_out working a.l c.number-x.result a.helpers.now a.shares.now a.host.now a.spare.now (sym c.refusal-ground.ensures ∙ c.if-ground-ne0.false)
     c.locate-k.result (omega (arith, c.if-d-k.false, c.if-k-d.false)))
@@ -84,14 +53,6 @@ repair_correcting_spec =
     (λ c. search rules)
     (λ c. search rules)
     (λ c.
-    
-    
-    
-    
-    
-    
-    
-    
     let a = c.args in
     subst (λ y. CorrectingDone gf256 a.l y a.helpers.now a.shares.now a.host.now a.spare.now c.rebuild_others.new.1.1.1.1.1.1.0 (report (Done
     (get_or a.helpers.now c.locate-k.result 0) (length a.shares.now)))) c.number-x.ensures (named_answer working a.l c.number-x.result a.helpers.now a.shares.now a.host.now a.spare.now (sym c.refusal-ground.ensures ∙ c.if-ground-ne0.false) c.plain_layout.result c.plain_layout.ensures

@@ -27,8 +27,6 @@ fill_rests_spec =
     (c.requires.2.sums_long, rw d c.requires.4, rw d c.requires.3, c.requires.1.some))
     (λ c. (omega arith, search rules, refl, refl, search (grow_none working)))
     (λ c κs.
-    
-    
     let a = c.args in
     let k = c.loop-g in (
       c.requires.0,

@@ -20,12 +20,6 @@ place_terms_spec =
     (λ c. search rules)
     (λ c. search rules)
     (λ c.
-    
-    
-    
-    
-    
-    
     let a = c.args in
     terms_of working a.l a.w a.e a.r.start a.r.run a.r.count a.r.stride c.layer_count-total.result a.host.now a.g
     c.place_power-p.result a.cur.now c.gather.new.out a.row.now c.fill.new.out

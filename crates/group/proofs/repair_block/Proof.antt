@@ -25,12 +25,6 @@ repair_block_spec =
     (λ c κs. search rules)
     (λ c. (omega arith, refl, refl, refl, refl, refl, refl, repaired_none working _ _ _ _ _ _ _ _))
     (λ c κs.
-    
-    
-    
-    
-    
-    
     let a = c.args in
     let k = c.loop-a in
     let t : k.a < c.digit_count-s.result = c.loop-a-test.true in (
@@ -45,16 +39,6 @@ repair_block_spec =
     (λ c. omega arith)
     (λ c. omega arith)
     (λ c.
-    
-    
-    
-    
-    
-    
-    
-    
-    
-    
     let a = c.args in
     let k = c.loop-a in
     let d = c.repair_digit in

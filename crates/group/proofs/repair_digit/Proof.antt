@@ -12,10 +12,6 @@ repair_digit_spec =
     (λ c κs. search rules)
     (λ c κs. search rules)
     (λ c κs.
-    
-    
-    
-    
     let a = c.args in (
       systems_of (length a.lost.now) a.w a.rests.now a.found.now a.places.now a.coefs.now a.row.now a.cur.now
           c.fill_rests.new.0 c.fill_rests.new.1.1.1.1.1.1.1.1.1.1.0
@@ -24,9 +20,6 @@ repair_digit_spec =
       points_few (length a.lost.now) a.w a.rests.now a.found.now a.places.now a.coefs.now a.row.now a.cur.now c.requires.2,
     ))
     (λ c κs.
-    
-    
-    
     let a = c.args in (
       c.requires.0.losing.adm,
       c.runs_of-r.ensures.in_tray,
@@ -41,11 +34,6 @@ repair_digit_spec =
     (λ c. search rules)
     (λ c. search rules)
     (λ c.
-    
-    
-    
-    
-    
     let a = c.args in
     let r = c.runs_of-r.result in
     digit_repaired working a.l a.h a.lost.now a.host.now a.w a.first a.sums.now a.a r.start r.run r.count r.stride

@@ -24,10 +24,6 @@ runs_of_spec =
     (λ c. search run_low)
     (λ c. search stride_fits)
     (λ c.
-    
-    
-    
-    
     let a = c.args in
     lying a.l a.h a.w a.first a.a c.digit_count-s.result c.block_width-q.result c.smaller-run.result c.requires.0 c.requires.1 c.requires.2 c.digit_count-s.ensures
     c.block_width-q.ensures c.smaller-run.ensures c.layer_of-start.result c.layer_of-start.ensures.0))

@@ -26,22 +26,16 @@ is_located_spec =
     decreases-loop-p
     (λ c κs. c.requires.0.adm)
     (λ c.
-    
     let a = c.args in
     (omega arith, refl, located_none working a.l a.h a.helpers.now a.zeroth.now a.first.now a.k))
     (λ c. omega arith)
     (λ c κs.
-    
-    
     (c.requires.0.adm, omega arith, within_layers c.args.l _ _ c.group_count-total.ensures (omega arith), omega arith))
     (λ c. search rules)
     (λ c. search rules)
     (λ c. search rules)
     (λ c. let p = c.requires in rw p.0.many p.1)
     (λ c κs.
-    
-    
-    
     let p = c.requires in (
       c.block_at-w.ensures.0,
       p.0.host_in,
@@ -58,12 +52,6 @@ is_located_spec =
     (λ c. search rules)
     (λ c. search rules)
     (λ c κs.
-    
-    
-    
-    
-    
-    
     let p = c.requires in (
       omega (arith, c.block_at-w.ensures.1.within, p.2, c.group_count-total.ensures, c.loop-p-test.true),
       omega (
@@ -76,16 +64,8 @@ is_located_spec =
       omega (arith, c.rack_powers.auto.0, c.loop-p.invariant.1, p.4, c.block_at-w.ensures.1.small),
     ))
     (λ c.
-    
-    
     c.rack_powers.auto.0 ∙ c.loop-p.invariant.1)
     (λ c.
-    
-    
-    
-    
-    
-    
     let a = c.args in
     let p = c.requires in
     located_not working a.l a.h a.helpers.now a.zeroth.now a.first.now a.k p.0 p.1 _ _ _ c.rack_powers.ensures (omega (
@@ -95,20 +75,10 @@ is_located_spec =
       c.loop-p-test.true,
     )) (says_false c.row_agrees.result (not-true c.row_agrees.result c.if-not-row_agrees.true-raw) c.row_agrees.ensures))
     (λ c.
-    
-    
-    
     next_fits c.args.l _ _ _ _ c.requires.0.adm c.group_count-total.ensures (omega arith) c.block_at-w.ensures.1)
     (λ c.
-    
-    
     omega (arith, c.block_at-w.ensures.2, c.loop-p-test.true))
     (λ c.
-    
-    
-    
-    
-    
     let a = c.args in
     let p = c.requires in (
       omega (arith, c.block_at-w.ensures.1.within),
@@ -118,8 +88,5 @@ is_located_spec =
     ))
     (λ c. c.loop-p.invariant.1)
     (λ c.
-    
-    
-    
     let a = c.args in
     located_end working a.l a.h a.helpers.now a.zeroth.now a.first.now a.k _ _ c.loop-p.invariant.2 (omega arith) c.group_count-total.ensures))

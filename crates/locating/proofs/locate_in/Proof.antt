@@ -11,8 +11,6 @@ locate_in_spec =
     tie.close (tie.spec
     (λ c κs. search rules)
     (λ c κs.
-    
-    
     let a = c.args in
     let p = c.requires in (
       p.0.chosen,
@@ -33,8 +31,5 @@ locate_in_spec =
     (λ c. search rules)
     (λ c. search rules)
     (λ c.
-    
-    
-    
     let a = c.args in
     found_so working a.l a.h a.helpers.now a.shares.now _ _ c.all_residues.ensures _ c.pointed.ensures))

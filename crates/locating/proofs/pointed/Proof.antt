@@ -11,19 +11,11 @@ pointed_spec =
     (λ c. search rules)
     (λ c κs. search rules)
     (λ c.
-    
-    
-    
     let a = c.args in
     pointed_clean working a.l a.h a.helpers.now a.zeroth.now a.first.now c.requires.0 _ c.group_count.ensures c.all_clear.result c.all_clear.ensures c.if-all_clear.true)
     (λ c κs. search rules)
     (λ c. search rules)
     (λ c.
-    
-    
-    
-    
-    
     let a = c.args in
     pointed_dirty working a.l a.h a.helpers.now a.zeroth.now a.first.now c.requires.0 _ c.group_count.ensures c.all_clear.result c.all_clear.ensures
     c.if-all_clear.false _ c.first_located.ensures))

@@ -21,9 +21,6 @@ loop_holds c = (omega arith, refl, search (points_none working))
 
 loop_again : tie.Need-loop-k-preserved invariant-loop-k decreases-loop-k
 loop_again c =
-    
-    
-    
     let v = c.point_power-v.ensures in
     (omega arith, search rules, points_more working _ _ _ _ c.requires.0 _ _ _ _ _ c.layer_of-j.ensures.0 (omega arith) v c.fill.ensures c.loop-k.invariant.2)
 

@@ -7,11 +7,6 @@ use Rattle.multipliers.proofs.solve_sides.Tie as tie
 
 solve_first_requires : tie.Need-solve_first-requires
 solve_first_requires c κs =
-    
-    
-    
-    
-    
     let a = c.args in
     let k = c.unknown_points.auto in
     let v = c.power_sides.auto in
@@ -26,19 +21,12 @@ solve_first_requires c κs =
 
 returns : tie.Need-returns
 returns c =
-    
-    
-    
-    
-    
-    
     let a = c.args in
     multipliers_of working a.l a.h a.p a.helpers.now c.requires.0 _ _ _ _ _ c.unknown_count-n.ensures c.digit_count-s.ensures c.unknown_points.ensures
     c.power_sides.ensures c.solve_first.ensures
 
 power_sides_requires : tie.Need-power_sides-requires
 power_sides_requires c κs =
-    
     (c.requires.0, search space_of)
 
 pub solve_sides_spec : {M : Type 1} → statement M

@@ -17,14 +17,12 @@ cast_e c = search rules
 
 block_sums_requires : tie.Need-block_sums-requires
 block_sums_requires c κs =
-    
     let a = c.args in
     summing_of gf256.order a.l a.lost.now a.helpers.now a.shares.now a.host.now a.w a.first a.spare.now a.sums.now
     a.sides.now a.found.now a.points.now a.coefs.now a.row.now a.cur.now c.requires.0 c.requires.1 c.requires.2 c.requires.3
 
 repair_block_requires : tie.Need-repair_block-requires
 repair_block_requires c κs =
-    
     let a = c.args in
     let k =
     c.block_sums.auto in (
@@ -64,7 +62,6 @@ same_length_8 c = search rules
 
 returns : tie.Need-returns
 returns c =
-    
     let a = c.args in
     repaired_piece working a.l a.lost.now a.helpers.now a.shares.now a.host.now a.w a.first _ c.requires.0.adm c.requires.0.losses
     c.requires.1.block c.requires.1.inside

@@ -51,7 +51,6 @@ add_repair_block c = search rules
 
 repair_block_requires : tie.Need-repair_block-requires invariant-loop-k decreases-loop-k
 repair_block_requires c κs =
-    
     let a = c.args in
     let o = c.loop-k in
     let w = c.block_at-w in (

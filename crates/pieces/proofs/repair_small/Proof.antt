@@ -26,7 +26,6 @@ slice_aggregate_repair_blocks_7 c = search rules
 
 repair_blocks_requires : tie.Need-repair_blocks-requires
 repair_blocks_requires c κs =
-    
     (c.requires.0, few_spacious _ _ _ c.requires.1, small_rooms)
 
 same_length : tie.Need-shape_of-spare

@@ -10,7 +10,6 @@ solve_block_spec =
     (λ c. search rules)
     (λ c κs. (search rules, search rules, search racks_in))
     (λ c κs.
-    
     let r = c.are_racks.ensures c.if-are_racks.true in
     (search rules, search rules, search rules, search rules, search rules, r.0, r.1))
     (λ c. search rules)

@@ -15,18 +15,12 @@ solve_rows_spec =
     (λ c κs. (search columns_of, search rules, search rules))
     (λ c. search rules)
     (λ c κs.
-    
-    
-    
     let a = c.args in
     let r = c.cycle_of-p.result in
     (rooms_of a.l a.w a.first a.es.now a.n a.sums.now a.found.now a.points.now a.coefs.now a.row.now
     c.requires.0 c.requires.3 c.requires.6 c.requires.4).wide_of a.e r.run r.columns r.turns a.ys.now c.rack_points.new.points a.wide.now
     c.requires.2 c.cycle_of-p.ensures c.requires.7 c.requires.8 (search rules))
     (λ c κs.
-    
-    
-    
     let a = c.args in
     let m = rooms_of a.l a.w a.first a.es.now a.n a.sums.now a.found.now a.points.now a.coefs.now a.row.now
     c.requires.0 c.requires.3 c.requires.6 c.requires.4 in (
@@ -37,10 +31,6 @@ solve_rows_spec =
       row_left a.w a.row.now c.rack_points.new.row c.requires.4.row_long c.rack_points.auto.row,
     ))
     (λ c κs.
-    
-    
-    
-    
     let a = c.args in
     let m = rooms_of a.l a.w a.first a.es.now a.n a.sums.now a.found.now a.points.now a.coefs.now a.row.now
     c.requires.0 c.requires.3 c.requires.6 c.requires.4 in (
@@ -58,12 +48,6 @@ solve_rows_spec =
     (λ c. search rules)
     (λ c. search rules)
     (λ c.
-    
-    
-    
-    
-    
-    
     let a = c.args in
     let r = c.cycle_of-p.result in
     found_racks a.l a.w a.first a.es.now a.n a.sums.now c.weighted_sums.new.0 c.lower_rows.new.0 c.racks_symbols.new.0 c.requires.0.adm c.requires.3 c.requires.6

@@ -22,7 +22,5 @@ highest_spec =
     (λ c. omega arith)
     (λ c. omega arith)
     (λ c.
-    
-    
     let t = c.higher-top.ensures in (omega arith, highest_more _ _ c.loop-k.k c.loop-k.top _ _ c.loop-k.invariant.1 c.at.ensures t.0 t.1 t.2))
     (λ c. highest_end _ _ c.loop-k.k _ c.loop-k.top c.loop-k.invariant.1 (omega arith) (omega arith)))

@@ -20,10 +20,4 @@ highest_apart_spec =
     (λ c κs. search rules)
     (λ c κs. search rules)
     (λ c.
-    
-    
-    
-    
-    
-    
     apart_of _ _ _ _ _ _ _ _ _ _ c.at.ensures c.at-2.ensures c.at-3.ensures c.at-4.ensures c.higher-low.ensures c.higher-high.ensures c.higher.ensures))

@@ -21,8 +21,5 @@ highest_of_four_spec =
     (λ c. omega arith)
     (λ c. omega arith)
     (λ c.
-    
-    
-    
     let t = c.higher-top.ensures in (omega arith, four_more _ _ _ c.loop-k.k c.loop-k.top _ _ c.loop-k.invariant.1 c.loop-k-test.true c.highest_apart.ensures t.0 t.1 t.2))
     (λ c. four_end _ _ _ c.loop-k.k c.loop-k.top c.loop-k.invariant.1 (omega arith)))

@@ -56,8 +56,6 @@ refusal_spec =
     (λ c. search rules)
     (λ c κs. search rules)
     (λ c.
-    
-    
     let a = c.args in ground_1 gf256 a.l a.lost.now a.helpers.now a.shares.now a.host.now a.spare a.first a.budget
     (told_false c.admitted_with.ensures c.if-not-admitted_with.true-raw))
     (λ c κs. facts c)
@@ -72,7 +70,6 @@ refusal_spec =
     (λ c.
     let c1 = c.before in
     let c2 = c1.before.before.before in
-    
     let a = c.args in ground_2 gf256 a.l a.lost.now a.helpers.now a.shares.now a.host.now a.spare a.first a.budget (adm c2)
     (λ p q r. eqb-false _ _ (told_false (shares_are c1) c.if-not-is_times.true-raw) p))
     (λ c.
@@ -82,14 +79,12 @@ refusal_spec =
     (λ c.
     let c1 = c.before.before.before.before in
     let c2 = c1.before in
-    
     let a = c.args in ground_2 gf256 a.l a.lost.now a.helpers.now a.shares.now a.host.now a.spare a.first a.budget (adm c2)
     (λ p q r. c.if-host-u.true (q ∙ sym (host_is c1))))
     (λ c κs. let b = bounds _ (facts c.before.before.before.before.before) in omega (arith, c.layer_count-total.ensures))
     (λ c.
     let c1 = c.before in
     let c2 = c1.before.before.before.before.before.before in
-    
     let a = c.args in ground_2 gf256 a.l a.lost.now a.helpers.now a.shares.now a.host.now a.spare a.first a.budget (adm c2)
     (λ p q r. eqb-false _ _ (told_false (spare_is c1) c.if-not-is_times-2.true-raw) r))
     (λ c κs. (

@@ -14,8 +14,5 @@ repair_spec =
     (λ c κs. search rules)
     (λ c. search rules)
     (λ c.
-    
-    
-    
     let a = c.args in subst (λ y. RepairAnswer gf256 a.l (y ∷ []) a.helpers.now a.shares.now a.host.now a.first a.budget a.spare.now
     c.repair_named.new.1.1.0 c.repair_named.result) c.number.ensures c.repair_named.ensures))

@@ -12,8 +12,6 @@ all_fit_spec =
     (λ c κs. search rules)
     (λ c. search rules)
     (λ c.
-    
-    
     let a = c.args in fit_all working a.l a.total a.es.now a.c.now c.requires.0 c.requires.1 (c.if-es-check_count.true ∙ c.check_count.ensures))
     (λ c κs. search rules)
     (λ c. search rules))

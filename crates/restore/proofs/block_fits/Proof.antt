@@ -19,7 +19,6 @@ block_fits_spec =
     (λ c κs. search rules)
     (λ c. search rules)
     (λ c κs.
-    
     (
       c.requires.0,
       room_all c.args.l c.args.w c.check_count-r.result c.args.sums.now c.args.found.now c.args.points.now
@@ -62,8 +61,6 @@ block_fits_spec =
           a.row-1.now p.3.listed p.4 (search rules),
     ))
     (λ c.
-    
-    
     all_fits c.args.l c.args.w c.args.first c.check_count-r.result c.requires.0 c.check_count-r.ensures)
     (λ c κs. let a =
     c.args in let e : length c.found_terms.new.0
@@ -84,12 +81,6 @@ block_fits_spec =
     (λ c. search rules)
     (λ c. search rules)
     (λ c.
-    
-    
-    
-    
-    
-    
     block_says working c.args.l c.args.w c.args.first c.args.total c.check_count-r.result c.args.es.now c.args.c.now
     c.sum_kept.new.0 c.solve_block.new.0 c.found_terms.new.0 c.requires.3 c.check_count-r.ensures c.sum_kept.ensures
     c.solve_block.ensures c.found_terms.ensures c.all_zero.result c.all_zero.ensures))

@@ -27,22 +27,14 @@ blocks_fit_spec =
     tie.close (tie.spec invariant-loop-q decreases-loop-q
     (λ c κs. (search rules, omega arith))
     (λ c.
-    
     width_pos c.args.l c.args.e c.block_width-w.result c.args.total c.requires.1.adm c.requires.0 c.block_width-w.ensures
     c.requires.1.total_is)
     (λ c. (omega arith, refl, refl, refl, refl, refl, refl, λ j h. absurd (omega arith)))
     (λ c.
-    
-    
-    
     start_fits c.args.l c.block_width-w.result (c.loop-q.q * c.block_width-w.result) (block_of c.args.l c.args.e
     c.block_width-w.result c.args.total c.requires.1.adm c.requires.0 c.block_width-w.ensures c.requires.1.total_is c.loop-q.q
     c.loop-q-test.true))
     (λ c κs.
-    
-    
-    
-    
     let a = c.args in let p = c.requires in (
       (block_of a.l a.e c.block_width-w.result a.total c.requires.1.adm c.requires.0 c.block_width-w.ensures
           c.requires.1.total_is c.loop-q.q c.loop-q-test.true),
@@ -62,24 +54,14 @@ blocks_fit_spec =
     (λ c. search rules)
     (λ c. search rules)
     (λ c.
-    
-    
-    
-    
-    
     λ all. let a = c.args in says_false c.block_fits.result (not-true c.block_fits.result c.if-not-block_fits.true-raw) c.block_fits.ensures
     (fit_block working a.l c.block_width-w.result c.loop-q.q a.es.now a.c.now (block_of a.l a.e c.block_width-w.result a.total
     c.requires.1.adm c.requires.0 c.block_width-w.ensures c.requires.1.total_is c.loop-q.q c.loop-q-test.true).inside all))
     (λ c.
-    
-    
-    
-    
     count_fits c.args.l c.args.total c.block_width-w.result c.loop-q.q c.args.es.now c.args.c.now c.requires.1
     c.loop-q-test.true)
     (λ c. omega arith)
     (λ c. (
-      
           omega (arith, c.loop-q-test.true),
       search rules,
       search rules,
@@ -87,10 +69,6 @@ blocks_fit_spec =
       search rules,
       search rules,
       search rules,
-      
-          
-          
-          
           let a = c.args in fit_more working a.l c.block_width-w.result c.loop-q.q a.es.now a.c.now c.loop-q.invariant.7
           (says_true c.block_fits.result (not-false c.block_fits.result c.if-not-block_fits.false-raw) c.block_fits.ensures),
     ))
@@ -101,9 +79,6 @@ blocks_fit_spec =
     (λ c. search rules)
     (λ c. search rules)
     (λ c.
-    
-    
-    
     let a = c.args in fit_end working a.l c.block_width-w.result c.loop-q.q (a.total / c.block_width-w.result) a.es.now a.c.now
     c.loop-q.invariant.7 c.loop-q.invariant.0 (omega arith) (count_whole a.l a.e c.block_width-w.result a.total c.requires.1.adm c.requires.0
     c.block_width-w.ensures c.requires.1.total_is)))

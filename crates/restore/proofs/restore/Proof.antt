@@ -15,8 +15,6 @@ restore_spec =
     (λ c. search rules)
     (λ c. search rules)
     (λ c κs.
-    
-    
     let s = space c.args.l c.block_digits-e.result c.block_digits-e.ensures.1 c.block_digits-e.ensures.2 in (
       c.block_digits-e.ensures.0,
       c.requires,

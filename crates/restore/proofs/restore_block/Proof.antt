@@ -48,10 +48,6 @@ restore_block_spec =
     (λ c. search rules)
     (λ c. search rules)
     (λ c.
-    
-    
-    
-    
     block_restored working c.args.l c.args.total c.args.w c.args.first c.args.es.now c.args.c.now c.sum_kept.new.0
     c.solve_block.new.0 c.put_block.new.0 c.requires.0 c.requires.3 c.sum_kept.ensures c.solve_block.ensures
     c.put_block.ensures))

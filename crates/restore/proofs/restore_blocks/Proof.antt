@@ -25,23 +25,14 @@ restore_blocks_spec =
     tie.close (tie.spec invariant-loop-q decreases-loop-q
     (λ c κs. (search rules, omega arith))
     (λ c.
-    
     width_pos c.args.l c.args.e c.block_width-w.result c.args.total c.requires.1.adm c.requires.0 c.block_width-w.ensures
     c.requires.1.total_is)
     (λ c. (omega arith, refl, refl, refl, refl, refl, refl, refl, restored_none working _ _ _ _))
     (λ c.
-    
-    
-    
-    
     start_fits c.args.l c.block_width-w.result (c.loop-q.q * c.block_width-w.result) (block_of c.args.l c.args.e
     c.block_width-w.result c.args.total c.requires.1.adm c.requires.0 c.block_width-w.ensures c.requires.1.total_is c.loop-q.q
     c.loop-q-test.true))
     (λ c κs.
-    
-    
-    
-    
     let a = c.args in let p = c.requires in (
       (block_of a.l a.e c.block_width-w.result a.total c.requires.1.adm c.requires.0 c.block_width-w.ensures
           c.requires.1.total_is c.loop-q.q c.loop-q-test.true),
@@ -56,15 +47,10 @@ restore_blocks_spec =
       omega (arith, c.block_width-w.ensures, p.3, c.loop-q.invariant.7),
     ))
     (λ c.
-    
-    
-    
-    
     count_fits c.args.l c.args.total c.block_width-w.result c.loop-q.q c.args.es.now c.args.c.now c.requires.1
     c.loop-q-test.true)
     (λ c. omega arith)
     (λ c. (
-      
           omega (arith, c.loop-q-test.true),
       search rules,
       search rules,
@@ -73,11 +59,6 @@ restore_blocks_spec =
       search rules,
       search rules,
       search rules,
-      
-          
-          
-          
-          
           let a = c.args in restored_more working a.l a.es.now a.c.now c.block_width-w.result c.loop-q.q c.loop-q.c c.restore_block.new.0
           c.requires.1.listed.places (block_of a.l a.e c.block_width-w.result a.total c.requires.1.adm c.requires.0 c.block_width-w.ensures
           c.requires.1.total_is c.loop-q.q c.loop-q-test.true).inside c.loop-q.invariant.8 c.restore_block.ensures,
@@ -90,9 +71,6 @@ restore_blocks_spec =
     (λ c. search rules)
     (λ c. search rules)
     (λ c.
-    
-    
-    
     let a = c.args in restored_end working a.l a.es.now a.c.now c.block_width-w.result c.loop-q.q (a.total / c.block_width-w.result)
     c.loop-q.c c.loop-q.invariant.8 c.loop-q.invariant.0 (omega arith) (count_whole a.l a.e c.block_width-w.result a.total c.requires.1.adm c.requires.0
     c.block_width-w.ensures c.requires.1.total_is)))

@@ -47,8 +47,6 @@ add_rest_spec =
     (omega (arith, a.layers_high), omega (arith, p.at_once), omega (arith, b.layers_low)))
     (λ c. omega (arith, inside c))
     (λ c.
-    
-    
     let b = bounds _ c.requires.0.adm.cabinet in omega (arith, c.requires.2, c.loop-k-test.true, c.requires.0.adm.cabinet.trays_high))
     (λ c κs.
     let a = c.args in

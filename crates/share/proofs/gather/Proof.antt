@@ -46,9 +46,6 @@ gather_spec =
     omega (arith, cell_in _ _ _ _ p.helper_in c.loop-g-test.true))
     (λ c. search rules)
     (λ c.
-    
-    
-    
     let a = c.args in omega (arith, start c, c.requires.0.long, row_before c.loop-g.g a.l.size (layers a.l) c.loop-g-test.true))
     (λ c κs.
     let a = c.args in
@@ -68,9 +65,6 @@ gather_spec =
     (λ c.
     let c1 = c.before.before in
     let c2 = c1.before.before in
-    
-    
-    
     let a = c.args in let m = c.at_once-m.ensures in (
       omega (arith, m.1, c.loop-g-test.true),
       gather_turn working a.l a.count a.h a.helper

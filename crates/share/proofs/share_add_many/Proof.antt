@@ -13,7 +13,5 @@ share_add_many_spec =
     (λ c κs. search rules)
     (λ c. search rules)
     (λ c.
-    
-    
     let a = c.args in
     add_many_done gf256 a.l a.count a.host.0 a.tray.0 a.symbols.now a.shares.now _ _ c.if-e-ne0.false c.feed_tray.ensures.0 c.feed_tray.ensures.1))

@@ -13,7 +13,5 @@ share_many_spec =
     (λ c κs. search rules)
     (λ c. search rules)
     (λ c.
-    
-    
     let a = c.args in
     many_done gf256 a.l a.count a.host.0 a.helper.0 a.rack.now a.out.now _ _ c.if-e-ne0.false c.make_shares.ensures.0 c.make_shares.ensures.1))

@@ -15,7 +15,6 @@ solve_block_spec =
     columns_of a.l a.w a.first a.es.now a.e r.run r.columns r.turns a.sums.now a.found.now a.points.now a.coefs.now a.row.now
     c.requires.0 c.requires.3 c.requires.2 y.ensures c.requires.4)
     (λ c κs.
-    
     let a = c.args in
     let y = c.cycle_of-p in
     let r = y.result in
@@ -33,10 +32,6 @@ solve_block_spec =
     (λ c. search rules)
     (λ c. search rules)
     (λ c.
-    
-    
-    
-    
     let a = c.args in let y = c.cycle_of-p in let r = y.result in let p = c.listed_points in let f = c.solve in found_of working a.l a.w
     a.first a.es.now a.e r.run r.columns r.turns a.sums.now p.new.points f.new.found c.requires.0 c.requires.2 y.ensures p.ensures
     f.ensures))

@@ -21,7 +21,6 @@ parity_in_spec =
     (λ c κs. let a = c.requires.0.adm in (omega (arith, dimension_in _ a), omega arith))
     (λ c κs. search rules)
     (λ c κs.
-    
     subst (λ es. Erasing c.args.l c.layer_count.result es c.args.out.now) (sym (listed c.before.before.before.before))
     (parity_told c.args.l _ c.args.out.now c.requires.0 c.layer_count.ensures))
     (λ c. search rules)

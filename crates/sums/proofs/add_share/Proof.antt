@@ -24,7 +24,6 @@ rack_powers_requires c κs = (search block_there, search host_there, search help
 
 add_terms_requires : tie.Need-add_terms-requires
 add_terms_requires c κs =
-    
     let a = c.args in
     room_of a.l a.h a.w a.first a.helpers.now a.shares.now a.e a.m a.k a.cur.now a.row.now c.requires.0 c.requires.1 _ _ _ _
     c.requires.2 c.unknown_count-r.ensures

@@ -37,7 +37,6 @@ same_length_4 c = search rules
 
 returns : tie.Need-returns
 returns c =
-    
     let a = c.args in
     found_of working a.l a.h a.w a.first a.helpers.now a.v a.run c.requires.2 _ _ a.sides.now _ _ c.requires.0.adm
     c.unknown_count-n.ensures

@@ -9,7 +9,6 @@ block_sides_requires c κs = (search rules, search rules)
 
 solve_sides_requires : tie.Need-solve_sides-requires
 solve_sides_requires c κs =
-    
     let a = c.args in (
       c.requires.0.received.chosen,
       c.requires.0.block,
@@ -21,7 +20,6 @@ solve_sides_requires c κs =
 
 weigh_sums_requires : tie.Need-weigh_sums-requires
 weigh_sums_requires c κs =
-    
     let a = c.args in
     weighing_of a.l a.h a.w a.first a.helpers.now a.shares.now a.e a.sums.now a.sides.now a.found.now a.points.now
     a.coefs.now a.row.now a.cur.now c.requires.0 a.m _ c.requires.1
@@ -50,7 +48,6 @@ same_length_7 c = search rules
 
 returns : tie.Need-returns
 returns c =
-    
     let a = c.args in
     weights_more working a.l a.h a.w a.first a.helpers.now a.shares.now a.e a.m _ _ a.sums.now _ c.requires.0.received.chosen
     c.block_sides.ensures

@@ -25,7 +25,6 @@ sum_kept_spec =
     (λ c κs. search sums_in)
     (λ c. (omega arith, refl, refl, refl, search (sums_none working)))
     (λ c κs.
-    
     (
       search rules,
       room_next c.args.w c.args.r c.args.sums.now c.args.cur.now c.args.row.now c.loop-x.sums

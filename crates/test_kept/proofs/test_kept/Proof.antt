@@ -15,12 +15,10 @@ test_kept_spec =
     (λ c. search (few working))
     (λ c κs. (search (erasing working), search (admitted working)))
     (λ c.
-    
     let a = c.args in
     sound working a.l a.erased.now a.c.now _ c.refusal-ground.ensures c.if-ground-ne0.false _ c.all_fit.ensures _
     c.check_count.ensures c.if-all_fit.true)
     (λ c κs.
-    
     let a = c.args in (
       search (erasing working),
       not_all working a.l a.erased.now a.c.now _ c.refusal-ground.ensures c.if-ground-ne0.false _
@@ -29,7 +27,6 @@ test_kept_spec =
     (λ c. search rules)
     (λ c κs. search rules)
     (λ c.
-    
     let a = c.args in
     bad working a.l a.erased.now a.c.now _ c.refusal-ground.ensures c.if-ground-ne0.false _ _ _
     c.check_count.ensures c.of.ensures c.bad_layer.ensures))

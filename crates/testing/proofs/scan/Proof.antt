@@ -14,7 +14,5 @@ scan_spec =
     (λ c. search rules)
     (λ c. search rules)
     (λ c κs.
-    
-    
     let d = c.block_digits-e in (d.ensures.0, c.requires, refl, room c.args.l d.result d.ensures.1 d.ensures.2))
     (λ c. search rules))

@@ -35,11 +35,6 @@ scan_blocks_spec =
     (λ c. search rules)
     (λ c. search rules)
     (λ c.
-    
-    
-    
-    
-    
     rw c.of.ensures (first_bad working c.args.l c.args.c.now c.block_width-w.result c.loop-q.q c.first_broken-p.result.column
     c.first_broken-p.result.check c.loop-q.invariant.4 c.first_broken-p.ensures (omega arith) (block_at c.args.l c.args.e
     c.block_width-w.result c.args.total c.args.c.now c.requires.0 c.requires.1 c.block_width-w.ensures c.loop-q.q
@@ -51,9 +46,6 @@ scan_blocks_spec =
     (λ c. search rules)
     (λ c. search rules)
     (λ c.
-    
-    
-    
     sound_end working c.args.l c.args.c.now c.block_width-w.result c.loop-q.q (c.args.total / c.block_width-w.result) c.loop-q.invariant.4
     c.loop-q.invariant.0 (omega arith) (count_all c.args.l c.args.e c.block_width-w.result c.args.total c.args.c.now
     c.requires.0 c.requires.1 c.block_width-w.ensures)))

@@ -22,15 +22,10 @@ leave_helpers_spec =
     (λ c. (omega arith, refl, λ q l. absurd (omega arith)))
     (λ c κs. omega arith)
     (λ c.
-    
-    
     let a = c.args in
     let p = c.requires in
     helper_fits a.k c.loop-i.i _ a.out.now a.helpers.now p.0 p.1 (omega arith) c.past.ensures)
     (λ c.
-    
-    
-    
     let a = c.args in
     helper_there a.k c.loop-i.i _ a.out.now a.helpers.now c.requires.0 (omega arith) c.past.ensures)
     (λ c. search rules)
@@ -38,9 +33,6 @@ leave_helpers_spec =
     (λ c. search rules)
     (λ c. omega arith)
     (λ c.
-    
-    
-    
     let a = c.args in (
       omega arith,
       simp length-set (omega arith),

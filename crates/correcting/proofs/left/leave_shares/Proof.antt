@@ -9,7 +9,6 @@ leave_shares_spec =
     tie.close (tie.spec
     (λ c. search front_fits)
     (λ c κs.
-    
     let a = c.args in
     let p = c.requires in
     front_in a.k a.n a.each a.shares.now a.out.now p.0 p.2 p.3)
@@ -19,16 +18,11 @@ leave_shares_spec =
     (λ c. record { fits = omega arith })
     (λ c. search from_fits)
     (λ c κs.
-    
-    
     let a = c.args in
     let p = c.requires in
     rest_in a.k a.n a.each a.shares.now a.out.now p.0 p.2 p.3 c.copy.new.0 c.copy.ensures.long)
     (λ c. search rules)
     (λ c.
-    
-    
-    
     let a = c.args in
     let p = c.requires in
     shares_left a.k a.n a.each a.shares.now a.out.now p.0 p.2 p.3 _ _ c.copy.ensures c.copy-2.ensures))

@@ -9,8 +9,6 @@ add_part_spec =
     tie.close (tie.spec
     (λ c κs. search rules)
     (λ c κs.
-    
-    
     let a = c.args in
     let p = c.requires in
     sharing_of working a.l a.h a.w a.first a.helpers.now a.shares.now a.sides.now a.points.now a.cur.now a.prod.now a.row.now p.0 a.k _ _ p.1 c.own_points.auto.0 c.own_points.ensures)
@@ -21,10 +19,6 @@ add_part_spec =
     (λ c. search rules)
     (λ c. search rules)
     (λ c.
-    
-    
-    
-    
     let a = c.args in (
       part_added working a.l a.h a.w a.first a.helpers.now a.shares.now a.k _ _ _ _ _ c.own_points.ensures c.share_gaps.ensures c.add_terms.ensures,
       c.own_points.ensures.unknowns,

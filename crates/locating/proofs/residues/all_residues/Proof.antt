@@ -26,17 +26,12 @@ all_residues_spec =
     (λ c κs. c.requires.0.chosen.adm)
     (λ c κs. c.requires.0.chosen.adm)
     (λ c.
-    
     rows_fit c.args.l _ c.requires.0.chosen.adm c.unknown_count-rows.ensures)
     (λ c.
-    
     let a = c.args in
     (omega arith, refl, refl, refl, refl, refl, refl, refl, kept_none working a.l a.h a.helpers.now a.shares.now _ _))
     (λ c. omega arith)
     (λ c κs.
-    
-    
-    
     let a = c.args in
     let p = c.requires in (
       p.0.chosen.adm,
@@ -47,11 +42,6 @@ all_residues_spec =
     (λ c. search rules)
     (λ c. search rules)
     (λ c κs.
-    
-    
-    
-    
-    
     let a = c.args in
     let p = c.requires in (
       working_of a.l a.h a.helpers.now a.shares.now a.zeroth.now a.first.now a.sides.now a.points.now a.cur.now a.prod.now
@@ -61,17 +51,10 @@ all_residues_spec =
       block_in a.l _ _ _ _ a.first.now c.loop-p.first p.0.chosen.adm c.group_count-total.ensures (omega arith) c.block_at-w.ensures.1 p.1.first_long c.loop-p.invariant.2,
     ))
     (λ c.
-    
-    
-    
     next_fits c.args.l _ _ _ _ c.requires.0.chosen.adm c.group_count-total.ensures (omega arith) c.block_at-w.ensures.1)
     (λ c.
-    
-    
     omega (arith, c.block_at-w.ensures.2, c.loop-p-test.taken))
     (λ c.
-    
-    
     (
       omega (arith, c.block_at-w.ensures.1.within),
       c.keep_block.auto.0 ∙ c.loop-p.invariant.1,
@@ -91,8 +74,5 @@ all_residues_spec =
     (λ c. c.loop-p.invariant.6)
     (λ c. c.loop-p.invariant.7)
     (λ c.
-    
-    
-    
     let a = c.args in
     kept_end working a.l a.h a.helpers.now a.shares.now _ _ _ _ c.loop-p.invariant.8 c.loop-p.invariant.0 (omega arith) c.group_count-total.ensures))

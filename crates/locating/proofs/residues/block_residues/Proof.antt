@@ -25,20 +25,15 @@ block_residues_spec =
     invariant-loop-k
     decreases-loop-k
     (λ c κs.
-    
     let a = c.args in
     work_pointed a.l a.h a.w a.first a.helpers.now a.shares.now a.sides.now a.points.now a.cur.now a.prod.now a.row.now
     c.requires)
     (λ c. search work_twice)
     (λ c κs.
-    
     let a = c.args in
     work_sides a.l a.h a.w a.first a.helpers.now a.shares.now a.sides.now a.points.now a.cur.now a.prod.now a.row.now
     c.requires a.sides.now refl)
     (λ c.
-    
-    
-    
     let a = c.args in (
       omega arith,
       refl,
@@ -50,11 +45,6 @@ block_residues_spec =
       c.unknown_points.ensures,
     ))
     (λ c κs.
-    
-    
-    
-    
-    
     let a = c.args in
     let p = c.requires in (
       work_next a.l a.h a.w a.first a.helpers.now a.shares.now a.sides.now a.points.now a.cur.now a.prod.now a.row.now
@@ -63,17 +53,11 @@ block_residues_spec =
       c.loop-k.invariant.7,
     ))
     (λ c.
-    
-    
     let a = c.args in
     work_count a.l a.h a.w a.first a.helpers.now a.shares.now a.sides.now a.points.now a.cur.now a.prod.now a.row.now
     c.requires _ c.loop-k-test.true)
     (λ c. omega arith)
     (λ c.
-    
-    
-    
-    
     let a = c.args in (
       omega (arith, c.loop-k-test.true),
       c.add_part.auto.0 ∙ c.loop-k.invariant.1,
@@ -86,18 +70,12 @@ block_residues_spec =
     ))
     (λ c. c.loop-k.invariant.1 ∙ c.fill.ensures.long)
     (λ c.
-    
-    
     c.loop-k.invariant.2 ∙ c.unknown_points.auto.0)
     (λ c. c.loop-k.invariant.3)
     (λ c. c.loop-k.invariant.4)
     (λ c.
-    
-    
     c.loop-k.invariant.5 ∙ c.unknown_points.auto.1.1.1.1.1.1.1.1.0)
     (λ c.
-    
-    
     let a = c.args in
     parts_end working a.l a.h a.w a.first a.helpers.now a.shares.now _ (length a.helpers.now) _ c.loop-k.invariant.6 (omega arith) (omega arith)
     c.requires.chosen.many))

@@ -10,8 +10,6 @@ keep_block_spec =
     (λ c κs. search rules)
     (λ c κs. search rules)
     (λ c κs.
-    
-    
     let a = c.args in
     let p = c.requires in (
       p.3,
@@ -25,9 +23,5 @@ keep_block_spec =
     (λ c. search rules)
     (λ c. search rules)
     (λ c.
-    
-    
-    
-    
     let a = c.args in
     kept_more working a.l a.h a.helpers.now a.shares.now a.at a.w _ _ _ _ _ c.requires.1 c.block_residues.ensures c.copy.ensures c.copy-2.ensures))

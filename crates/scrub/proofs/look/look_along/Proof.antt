@@ -21,7 +21,6 @@ look_along_spec =
     (λ c. omega arith)
     (λ c. omega arith)
     (λ c.
-    
     let o = c.loop-j in
     looked_more gf256 c.args.w c.args.r c.args.sums.now c.args.walk o.seen c.look_at-seen.result o.j c.bad_column.result o.invariant
     c.loop-j-test.true c.bad_column.ensures c.look_at-seen.ensures)

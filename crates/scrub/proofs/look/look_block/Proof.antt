@@ -16,10 +16,8 @@ look_block_spec =
     (λ c. search rules)
     (λ c. search rules)
     (λ c κs.
-    
     (c.requires.0, rw c.check_count-r.ensures c.requires.4, c.requires.2, none_listed c.args.l c.args.none.now c.requires.3))
     (λ c κs.
-    
     let b = c.requires.0 in
     (search sums_in, omega (arith, b.inside, b.adm.layers_high), c.requires.1))
     (λ c. search rules)
@@ -28,6 +26,5 @@ look_block_spec =
     (λ c.
     let k = c.sum_kept in
     let n = c.check_count-r in
-    
     c.look_along.ensures (bad_layer gf256 c.args.l c.args.c.now) (column_is working c.args.l c.args.w c.args.walk.next
     n.result c.args.c.now c.args.none.now k.new.sums c.requires.3 n.ensures k.ensures)))

@@ -27,10 +27,6 @@ look_blocks_spec =
     (λ c κs. let a = c.requires.0.scannable.adm in (a, omega arith, c.loop-left.invariant.0.room, omega arith))
     (λ c. search rules)
     (λ c κs.
-    
-    
-    
-    
     let o = c.loop-left in let b = c.block_at-w in (
       b.ensures.0,
       o.invariant.0.bad_in,
@@ -42,7 +38,6 @@ look_blocks_spec =
     (λ c. c.block_at-w.ensures.1.within)
     (λ c. let b = c.block_at-w.ensures in omega (arith, b.1.within, b.2))
     (λ c.
-    
     let o = c.loop-left in
     let b = c.block_at-w in
     let k = c.look_block-seen in
@@ -54,6 +49,5 @@ look_blocks_spec =
     (λ c. search rules)
     (λ c. search rules)
     (λ c.
-    
     let o = c.loop-left in
     after_end (bad_layer gf256 c.args.l c.args.c.now) o.seen o.left (omega arith) o.invariant.1))

@@ -13,7 +13,6 @@ fits_spec =
     (λ c. search rules)
     (λ c. search rules)
     (λ c κs.
-    
     let a = c.args in
     let b = c.requires.0 in (
       b.block,
