@@ -37,9 +37,9 @@ solve_rows_spec =
       c.requires.5,
       m.some_layers,
       m.symbols_in a.found.now refl,
-      m.sums_in a.ys.now c.lower_rows.new.ys c.requires.7 (c.lower_rows.auto.0 ∙ c.weighted_sums.auto.0),
+      m.sums_in a.ys.now c.lower_rows.new.ys c.requires.7 (c.lower_rows.auto.ys ∙ c.weighted_sums.auto.ys),
       row_left a.w a.row.now c.lower_rows.new.row c.requires.4.row_long
-          (c.lower_rows.auto.1.1.1.1.1.0 ∙ c.rack_points.auto.1.1.1.1.1.1.1.1.0),
+          (c.lower_rows.auto.row ∙ c.rack_points.auto.row),
     ))
     (λ c. search rules)
     (λ c. search rules)
@@ -50,8 +50,8 @@ solve_rows_spec =
     (λ c.
     let a = c.args in
     let r = c.cycle_of-p.result in
-    found_racks a.l a.w a.first a.es.now a.n a.sums.now c.weighted_sums.new.0 c.lower_rows.new.0 c.racks_symbols.new.0 c.requires.0.adm c.requires.3 c.requires.6
+    found_racks a.l a.w a.first a.es.now a.n a.sums.now c.weighted_sums.new.ys c.lower_rows.new.ys c.racks_symbols.new.found c.requires.0.adm c.requires.3 c.requires.6
     c.requires.5
     (weighted_solved working a.l a.w a.first a.es.now a.n a.e r.run r.columns r.turns c.requires.0 c.requires.2 c.cycle_of-p.ensures c.requires.6
-    c.rack_points.new.0 c.rack_points.ensures a.sums.now c.weighted_sums.new.0 c.weighted_sums.ensures)
+    c.rack_points.new.points c.rack_points.ensures a.sums.now c.weighted_sums.new.ys c.weighted_sums.ensures)
     c.lower_rows.ensures c.racks_symbols.ensures.0 c.racks_symbols.ensures.1))
