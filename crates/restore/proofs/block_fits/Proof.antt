@@ -9,7 +9,7 @@ use borrow.Author.Rules.{rules}
 use Rattle.restore.proofs.block_fits.Statement.{statement}
 use Rattle.restore.proofs.block_fits.Tie as tie
 
-kept_long : (c : tie.After-sum_kept) → length c.sum_kept.new.0
+kept_long : (c : tie.After-sum_kept) → length c.sum_kept.new.sums
     ≡ length c.args.sums.now
 kept_long c = search rules
 
@@ -35,8 +35,8 @@ block_fits_spec =
       p.1,
       p.2,
       p.3.listed,
-      space_next a.l a.w a.sums-1.now a.found-1.now a.points-1.now a.coefs-1.now a.row-1.now
-          c.sum_kept.new.0 a.found-1.now a.points-1.now a.coefs-1.now
+      space_next a.l a.w a.sums.now a.found.now a.points.now a.coefs.now a.row.now
+          c.sum_kept.new.sums a.found.now a.points-1.now a.coefs-1.now
           c.sum_kept.new.1.1.1.1.1.1.1.1.0 p.4
           (search rules) refl refl refl (search rules),
     ))
