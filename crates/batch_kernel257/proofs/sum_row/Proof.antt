@@ -33,6 +33,6 @@ sum_row_spec =
     (λ c κs. (search adding_room, search row_in))
     (λ c. omega arith)
     (λ c. omega arith)
-    (λ c. let a = c.args in (omega arith, search rules, row_next a.picks.now a.wide a.src.now a.at.now a.o a.to a.w c.fill.new.0 c.loop-t.t _ _ _ c.at-v.ensures c.loop-t.invariant.2 c.add_multiple.ensures))
+    (λ c. let a = c.args in (omega arith, search rules, row_next a.picks.now a.wide a.src.now a.at.now a.o a.to a.w c.fill.new.out c.loop-t.t _ _ _ c.at-v.ensures c.loop-t.invariant.2 c.add_multiple.ensures))
     (λ c. search rules)
     (λ c. search (row_end working)))

@@ -14,7 +14,7 @@ others_requires : tie.Need-others-requires
 others_requires c κs = (search restoring_es, search restoring_ks)
 
 restore_from_requires : tie.Need-restore_from-requires
-restore_from_requires c κs = let a = c.args in (known_job a.l a.m (length a.ks.now) a.es.now a.c.now c.others.new.0 c.requires.0 c.requires.1 c.others.ensures, known_complement a.l a.m (length a.ks.now) a.es.now a.c.now c.others.new.0 c.requires.0 c.requires.1 c.others.ensures working)
+restore_from_requires c κs = let a = c.args in (known_job a.l a.m (length a.ks.now) a.es.now a.c.now c.others.new.ks c.requires.0 c.requires.1 c.others.ensures, known_complement a.l a.m (length a.ks.now) a.es.now a.c.now c.others.new.ks c.requires.0 c.requires.1 c.others.ensures working)
 
 same_length : tie.Need-shape_of-c
 same_length c = search rules

@@ -28,19 +28,19 @@ places_requires : tie.Need-places-requires
 places_requires c κs = (search sums_some, search sums_few, zeros_most (c.eights-n.result * 8) (search eight_most), search sums_first, search sums_places)
 
 array_share_prefix_at : tie.Need-slice_bounds-at-end-2
-array_share_prefix_at c = last_in (c.eights-n.result * 8) (search eight_most) c.places.new.0 c.places.ensures.long
+array_share_prefix_at c = last_in (c.eights-n.result * 8) (search eight_most) c.places.new.at c.places.ensures.long
 
 slice_aggregate_sum_rows : tie.Need-slice_bounds-sum_rows-end
-slice_aggregate_sum_rows c = last_again (c.eights-n.result * 8) (search eight_most) c.places.new.0 c.places.ensures.long
+slice_aggregate_sum_rows c = last_again (c.eights-n.result * 8) (search eight_most) c.places.new.at c.places.ensures.long
 
 sum_rows_requires : tie.Need-sum_rows-requires
-sum_rows_requires c κs = let n = c.eights-n.result * 8 in let small : n ≤ 64 = search eight_most in let last = c.places.new.0 in let p = c.places.ensures in let a = c.args in let e = last_whole n small last p.long in (T-laid _ _ _ _ _ _ _ _ _ c.requires.0 c.eights-n.result c.eights-n.ensures last _ _ _ (zeros_long n small) (last_long n small last p.long) p e, subst (λ (y : ℕ). Ready a.picks.now a.wide y) (T-eights _ _ _ _ _ _ _ _ _ c.requires.0 c.eights-n.result c.eights-n.ensures last _ _ _ (zeros_long n small) (last_long n small last p.long) p e) c.requires.1)
+sum_rows_requires c κs = let n = c.eights-n.result * 8 in let small : n ≤ 64 = search eight_most in let last = c.places.new.at in let p = c.places.ensures in let a = c.args in let e = last_whole n small last p.long in (T-laid _ _ _ _ _ _ _ _ _ c.requires.0 c.eights-n.result c.eights-n.ensures last _ _ _ (zeros_long n small) (last_long n small last p.long) p e, subst (λ (y : ℕ). Ready a.picks.now a.wide y) (T-eights _ _ _ _ _ _ _ _ _ c.requires.0 c.eights-n.result c.eights-n.ensures last _ _ _ (zeros_long n small) (last_long n small last p.long) p e) c.requires.1)
 
 same_length : tie.Need-shape_of-acc
 same_length c = search rules
 
 returns : tie.Need-returns
-returns c = let n = c.eights-n.result * 8 in let small : n ≤ 64 = search eight_most in let last = c.places.new.0 in let p = c.places.ensures in T-done _ _ _ _ _ _ _ _ _ c.requires.0 c.eights-n.result c.eights-n.ensures last _ _ _ (zeros_long n small) (last_long n small last p.long) p (last_whole n small last p.long) working _ _ c.sum_rows.ensures c.requires.2
+returns c = let n = c.eights-n.result * 8 in let small : n ≤ 64 = search eight_most in let last = c.places.new.at in let p = c.places.ensures in T-done _ _ _ _ _ _ _ _ _ c.requires.0 c.eights-n.result c.eights-n.ensures last _ _ _ (zeros_long n small) (last_long n small last p.long) p (last_whole n small last p.long) working _ _ c.sum_rows.ensures c.requires.2
 
 pub sum_block_spec : {M : Type 1} → statement M
 sum_block_spec = tie.close (tie.spec eights_requires mul_n array_borrow_prefix_at slice_aggregate_places places_requires array_share_prefix_at slice_aggregate_sum_rows sum_rows_requires same_length returns)

@@ -13,7 +13,7 @@ use Rattle.batch_store.proofs.Answers.{parity_told}
 use Rattle.batch_store.proofs.parity_in.Statement.{statement}
 use Rattle.batch_store.proofs.parity_in.Tie as tie
 
-listed : (c : tie.After-trays_from) → c.trays_from.new.1.0 ≡ parity_trays c.args.l
+listed : (c : tie.After-trays_from) → c.trays_from.new.list ≡ parity_trays c.args.l
 listed c = c.trays_from.ensures ∙ ap (table (λ (i : ℕ). c.args.l.dimension + i)) c.requires.1
 
 pub parity_in_spec : {M : Type 1} → statement M
@@ -23,4 +23,4 @@ parity_in_spec =
     (λ c κs. subst (λ es. Restoring c.args.l c.args.many es c.args.out.now) (sym (listed c.before.before.before)) (parity_told c.args.l c.args.many c.args.out.now c.requires.0))
     (λ c. search rules)
     (λ c. search rules)
-    (λ c. subst (λ es. Restored gf256 c.args.l c.args.many es c.args.out.now c.restore.new.1.1.0) (listed c.before.before.before.before.before.before) c.restore.ensures))
+    (λ c. subst (λ es. Restored gf256 c.args.l c.args.many es c.args.out.now c.restore.new.c) (listed c.before.before.before.before.before.before) c.restore.ensures))

@@ -17,6 +17,6 @@ print_card_spec =
     (λ c κs.
     let a = c.args in
     let m = c.right_multipliers in
-    (omega arith, copy_room working a.l a.h a.p a.helpers.now c.requires.0 a.card.now m.new.0 c.requires.1 (m.auto.0 ∙ room_long)))
+    (omega arith, copy_room working a.l a.h a.p a.helpers.now c.requires.0 a.card.now m.new.found c.requires.1 (m.auto.found ∙ room_long)))
     (λ c. search rules)
     (λ c. search (copied_of working)))

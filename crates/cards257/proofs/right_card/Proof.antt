@@ -17,7 +17,7 @@ right_card_spec =
     (λ c κs.
     let a = c.args in
     let m = c.right_multipliers in
-    (omega arith, card_room working a.l a.h a.p a.helpers.now c.requires.0 a.card.now m.new.0 c.requires.1 (m.auto.0 ∙ room_long)))
+    (omega arith, card_room working a.l a.h a.p a.helpers.now c.requires.0 a.card.now m.new.found c.requires.1 (m.auto.found ∙ room_long)))
     (λ c.
     let a = c.args in verdict_of working a.l a.h a.p a.helpers.now c.requires.0 a.card.now _ _ c.requires.1 c.requires.2
     c.right_multipliers.ensures c.alike.ensures))

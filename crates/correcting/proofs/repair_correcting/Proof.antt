@@ -42,7 +42,7 @@ repair_correcting_spec =
     (λ c. search rules)
     (λ c.
     let a = c.args in
-    subst (λ y. CorrectingDone gf256 a.l y a.helpers.now a.shares.now a.host.now a.spare.now c.rebuild.new.1.1.1.1.1.1.0 (report (Done
+    subst (λ y. CorrectingDone gf256 a.l y a.helpers.now a.shares.now a.host.now a.spare.now c.rebuild.new.spare (report (Done
     a.l.racks (length a.shares.now)))) c.number-x.ensures (clean_answer working a.l c.number-x.result a.helpers.now a.shares.now a.host.now
     a.spare.now (sym c.refusal-ground.ensures ∙ c.if-ground-ne0.false) c.plain_layout.result c.plain_layout.ensures c.locate-k.result c.locate-k.ensures _ c.if-k-d.true c.rebuild.ensures))
     (λ c κs.
@@ -54,6 +54,6 @@ repair_correcting_spec =
     (λ c. search rules)
     (λ c.
     let a = c.args in
-    subst (λ y. CorrectingDone gf256 a.l y a.helpers.now a.shares.now a.host.now a.spare.now c.rebuild_others.new.1.1.1.1.1.1.0 (report (Done
+    subst (λ y. CorrectingDone gf256 a.l y a.helpers.now a.shares.now a.host.now a.spare.now c.rebuild_others.new.spare (report (Done
     (get_or a.helpers.now c.locate-k.result 0) (length a.shares.now)))) c.number-x.ensures (named_answer working a.l c.number-x.result a.helpers.now a.shares.now a.host.now a.spare.now (sym c.refusal-ground.ensures ∙ c.if-ground-ne0.false) c.plain_layout.result c.plain_layout.ensures
     c.locate-k.result c.locate-k.ensures _ (omega (arith, c.if-d-k.false, c.if-k-d.false)) c.rebuild_others.ensures)))

@@ -21,12 +21,12 @@ rebuild_without_spec =
     let a = c.args in
     let p = c.requires in
     shares_in working a.l a.x a.helpers.now a.shares.now a.host.now a.k a.spare.now p.0 c.group_count-total.result
-    a.few.now c.leave_helpers.new.0 a.sent.now c.group_count-total.ensures p.1 c.leave_helpers.ensures.long p.2)
+    a.few.now c.leave_helpers.new.out a.sent.now c.group_count-total.ensures p.1 c.leave_helpers.ensures.long p.2)
     (λ c κs.
     let a = c.args in
     let p = c.requires in
     rebuilding_of working a.l a.x a.helpers.now a.shares.now a.host.now a.k a.spare.now p.0 (length a.few.now)
-    c.leave_helpers.new.0 c.leave_shares.new.0 p.1 c.leave_helpers.ensures (c.leave_shares.auto.0 ∙ p.2))
+    c.leave_helpers.new.out c.leave_shares.new.out p.1 c.leave_helpers.ensures (c.leave_shares.auto.out ∙ p.2))
     (λ c. search rules)
     (λ c. search rules)
     (λ c. search rules)
@@ -34,4 +34,4 @@ rebuild_without_spec =
     let a = c.args in
     let p = c.requires in
     without_of working a.l a.x a.helpers.now a.shares.now a.host.now a.k a.spare.now p.0 c.group_count-total.result (length a.few.now)
-    (length c.leave_helpers.new.0) _ _ _ c.group_count-total.ensures p.1 c.leave_helpers.ensures.long c.leave_helpers.ensures c.leave_shares.ensures c.rebuild.ensures))
+    (length c.leave_helpers.new.out) _ _ _ c.group_count-total.ensures p.1 c.leave_helpers.ensures.long c.leave_helpers.ensures c.leave_shares.ensures c.rebuild.ensures))

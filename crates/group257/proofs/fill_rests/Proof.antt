@@ -32,7 +32,7 @@ fill_rests_spec =
     let k = c.loop-g in (
       c.requires.0,
       c.requires.1,
-      room_next a.w (length a.lost.now) a.rests.now a.cur.now a.row.now k.rests-1 k.cur-1 k.row-1 c.requires.2
+      room_next a.w (length a.lost.now) a.rests.now a.cur.now a.row.now k.rests k.cur k.row c.requires.2
           (search rules) k.invariant.2 k.invariant.3,
       omega arith,
     ))

@@ -31,8 +31,8 @@ repair_block_spec =
     let t : k.a < c.digit_count-s.result = c.loop-a-test.true in (
       c.requires.0,
       rw (sym c.digit_count-s.ensures) t,
-      space_next (length a.lost.now) a.w a.rests.now a.found.now a.places.now a.coefs.now a.row.now a.cur.now k.rests-1 k.found-1
-          c.fill_places.new.1.1.0 k.coefs-1 k.row-1 k.cur-1
+      space_next (length a.lost.now) a.w a.rests.now a.found.now a.places.now a.coefs.now a.row.now a.cur.now k.rests k.found
+          c.fill_places.new.places k.coefs k.row k.cur
           c.requires.1 k.invariant.1 k.invariant.2 c.places-1.given k.invariant.3 k.invariant.4 k.invariant.5,
       c.fill_places.ensures,
       k.invariant.6 ∙ c.requires.2,
@@ -52,8 +52,8 @@ repair_block_spec =
       c.row-1.given ∙ k.invariant.4,
       c.cur-1.given ∙ k.invariant.5,
       c.spare-1.given ∙ k.invariant.6,
-      repaired_more working a.l a.h a.lost.now a.host.now a.w a.first a.sums.now k.a a.spare.now k.spare-1
-          d.new.1.1.1.1.1.1.1.1.1.1.1.1.1.1.0 c.requires.0 (rw (sym c.digit_count-s.ensures) t) k.invariant.7 d.ensures,
+      repaired_more working a.l a.h a.lost.now a.host.now a.w a.first a.sums.now k.a a.spare.now k.spare
+          d.new.spare c.requires.0 (rw (sym c.digit_count-s.ensures) t) k.invariant.7 d.ensures,
     ))
     (λ c. search rules)
     (λ c. search rules)

@@ -15,7 +15,7 @@ repair_digit_spec =
     (λ c κs.
     let a = c.args in (
       systems_of (length a.lost.now) a.w a.rests.now a.found.now a.places.now a.coefs.now a.row.now a.cur.now
-          c.fill_rests.new.0 c.fill_rests.new.1.1.1.1.1.1.1.1.1.1.0
+          c.fill_rests.new.rests c.fill_rests.new.row
           (width_pos a.l a.w a.first c.requires.0.block) c.requires.2 c.rests-1.given c.row-1.given,
       points_in (length a.lost.now) a.w a.rests.now a.found.now a.places.now a.coefs.now a.row.now a.cur.now c.requires.2,
       points_few (length a.lost.now) a.w a.rests.now a.found.now a.places.now a.coefs.now a.row.now a.cur.now c.requires.2,
@@ -26,7 +26,7 @@ repair_digit_spec =
       c.runs_of-r.ensures.in_tray,
       c.requires.4,
       found_in (length a.lost.now) a.w a.rests.now a.found.now a.places.now
-          a.coefs.now a.row.now a.cur.now c.solve.new.0 c.requires.2 (search rules),
+          a.coefs.now a.row.now a.cur.now c.solve.new.found c.requires.2 (search rules),
     ))
     (λ c. search rules)
     (λ c. search rules)
@@ -38,5 +38,5 @@ repair_digit_spec =
     let a = c.args in
     let r = c.runs_of-r.result in
     digit_repaired working a.l a.h a.lost.now a.host.now a.w a.first a.sums.now a.a r.start r.run r.count r.stride
-    a.places.now c.fill_rests.new.0 c.solve.new.0
-    c.runs_of-r.ensures c.requires.3 c.fill_rests.ensures c.solve.ensures a.spare.now c.put_rows.new.0 c.put_rows.ensures))
+    a.places.now c.fill_rests.new.rests c.solve.new.found
+    c.runs_of-r.ensures c.requires.3 c.fill_rests.ensures c.solve.ensures a.spare.now c.put_rows.new.spare c.put_rows.ensures))

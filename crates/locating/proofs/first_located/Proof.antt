@@ -27,7 +27,7 @@ first_located_spec =
     (λ c κs.
     let p = c.requires in
     (p.0, rw (sym p.0.many) (omega arith), p.1, p.2, omega (arith, c.loop-k.invariant.1, p.3)))
-    (λ c. c.is_located.auto.1.1.1.1.1.1.0 ∙ c.loop-k.invariant.1)
+    (λ c. c.is_located.auto.row ∙ c.loop-k.invariant.1)
     (λ c.
     let a = c.args in
     first_found working a.l a.h a.helpers.now a.zeroth.now a.first.now c.requires.0 _ (omega arith) (says_true c.is_located.result c.if-is_located.true c.is_located.ensures))
@@ -38,7 +38,7 @@ first_located_spec =
     (λ c.
     let a = c.args in (
       omega arith,
-      c.is_located.auto.1.1.1.1.1.1.0 ∙ c.loop-k.invariant.1,
+      c.is_located.auto.row ∙ c.loop-k.invariant.1,
       none_more working a.l a.h a.helpers.now a.zeroth.now a.first.now c.requires.0 _ c.loop-k.invariant.2 (says_false c.is_located.result c.if-is_located.false c.is_located.ensures),
     ))
     (λ c.

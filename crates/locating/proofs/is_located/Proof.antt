@@ -61,10 +61,10 @@ is_located_spec =
         c.group_count-total.ensures,
         c.loop-p-test.true,
       ),
-      omega (arith, c.rack_powers.auto.0, c.loop-p.invariant.1, p.4, c.block_at-w.ensures.1.small),
+      omega (arith, c.rack_powers.auto.row, c.loop-p.invariant.1, p.4, c.block_at-w.ensures.1.small),
     ))
     (λ c.
-    c.rack_powers.auto.0 ∙ c.loop-p.invariant.1)
+    c.rack_powers.auto.row ∙ c.loop-p.invariant.1)
     (λ c.
     let a = c.args in
     let p = c.requires in
@@ -82,7 +82,7 @@ is_located_spec =
     let a = c.args in
     let p = c.requires in (
       omega (arith, c.block_at-w.ensures.1.within),
-      c.rack_powers.auto.0 ∙ c.loop-p.invariant.1,
+      c.rack_powers.auto.row ∙ c.loop-p.invariant.1,
       located_more working a.l a.h a.helpers.now a.zeroth.now
           a.first.now a.k p.0 p.1 _ _ _ c.rack_powers.ensures (says_true c.row_agrees.result (not-false c.row_agrees.result c.if-not-row_agrees.false-raw) c.row_agrees.ensures) c.loop-p.invariant.2,
     ))

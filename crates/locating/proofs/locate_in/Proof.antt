@@ -14,12 +14,12 @@ locate_in_spec =
     let a = c.args in
     let p = c.requires in (
       p.0.chosen,
-      groups_in a.l a.zeroth.now c.all_residues.new.0 p.0.chosen.adm p.1.zeroth_long c.all_residues.auto.0,
+      groups_in a.l a.zeroth.now c.all_residues.new.zeroth p.0.chosen.adm p.1.zeroth_long c.all_residues.auto.zeroth,
       groups_in
-          a.l a.first.now c.all_residues.new.1.0 p.0.chosen.adm p.1.first_long c.all_residues.auto.1.0,
+          a.l a.first.now c.all_residues.new.first p.0.chosen.adm p.1.first_long c.all_residues.auto.first,
       omega (
         arith,
-        c.all_residues.auto.1.1.1.1.1.1.1.1.1.1.0,
+        c.all_residues.auto.row,
         p.1.row_long,
       ),
     ))

@@ -12,9 +12,9 @@ solve_first_requires c κs =
     let v = c.power_sides.auto in
     let e = c.unknown_count-n.ensures in (
       systems_one a.l a.h a.p a.helpers.now c.requires.0 a.found.now a.sides.now a.points.now a.coefs.now a.row.now a.cur.now c.requires.1
-          _ _ _ e v.0 (v.1.1.1.1.1.0 ∙ k.1.1.1.1.1.1.1.1.0),
+          _ _ _ e v.sides (v.row ∙ k.row),
       points_room a.l a.h a.p a.helpers.now c.requires.0 a.found.now a.sides.now a.points.now a.coefs.now a.row.now a.cur.now c.requires.1
-          _ c.unknown_points.new.points e k.0,
+          _ c.unknown_points.new.points e k.points,
       digits_first a.l a.h a.p a.helpers.now c.requires.0 _ _ e c.digit_count-s.ensures,
       points_few a.l a.h a.p a.helpers.now c.requires.0 _ e,
     )

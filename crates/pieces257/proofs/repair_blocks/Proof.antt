@@ -81,15 +81,15 @@ loop_again c =
     let w =
     c.block_at-w.ensures.1.within in (
       omega arith,
-      m.auto.1.1.1.1.1.1.1.1.0 ∙ o.inv.1,
-      m.auto.1.1.1.1.1.1.1.1.1.0 ∙ o.inv.2,
-      m.auto.1.1.1.1.1.1.1.1.1.1.0
+      m.auto.sums ∙ o.inv.1,
+      m.auto.sides ∙ o.inv.2,
+      m.auto.found
           ∙ o.inv.3,
-      m.auto.1.1.1.1.1.1.1.1.1.1.1.0 ∙ o.inv.4,
-      m.auto.1.1.1.1.1.1.1.1.1.1.1.1.0 ∙ o.inv.5,
-      m.auto.1.1.1.1.1.1.1.1.1.1.1.1.1.0 ∙ o.inv.6,
-      m.auto.1.1.1.1.1.1.1.1.1.1.1.1.1.1.0 ∙ o.inv.7,
-      piece_more gf257 a.l a.lost.now a.helpers.now a.shares.now a.host.now a.first o.k _ a.spare.now o.spare-1 _ o.inv.8
+      m.auto.points ∙ o.inv.4,
+      m.auto.coefs ∙ o.inv.5,
+      m.auto.row ∙ o.inv.6,
+      m.auto.cur ∙ o.inv.7,
+      piece_more gf257 a.l a.lost.now a.helpers.now a.shares.now a.host.now a.first o.k _ a.spare.now o.spare _ o.inv.8
           m.ensures,
     )
 

@@ -15,7 +15,7 @@ recover_correcting_spec =
     (λ c. search rules)
     (λ c. let a = c.args in
     correction_answer working a.l a.erased.now a.c.now _ _
-    c.recover-number.ensures c.correct.new.1.0
+    c.recover-number.ensures c.correct.new.c
     c.correct.result c.if-number-eq8.true c.correct.ensures)
     (λ c. search rules)
     (λ c. let a = c.args in answer_refused working a.l

@@ -15,4 +15,4 @@ repair_spec =
     (λ c. search rules)
     (λ c.
     let a = c.args in subst (λ y. RepairAnswer gf256 a.l (y ∷ []) a.helpers.now a.shares.now a.host.now a.first a.budget a.spare.now
-    c.repair_named.new.1.1.0 c.repair_named.result) c.number.ensures c.repair_named.ensures))
+    c.repair_named.new.spare c.repair_named.result) c.number.ensures c.repair_named.ensures))

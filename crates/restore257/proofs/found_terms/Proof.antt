@@ -32,8 +32,8 @@ found_terms_spec =
     c.args
     in room_next a.w a.r a.sums.now a.cur.now a.row.now
     c.loop-k.sums
-    c.copy.new.0
-    c.tray_points.new.0
+    c.copy.new.out
+    c.tray_points.new.row
     c.requires.2 c.loop-k.invariant.1 (search rules)
     (search rules))
     (λ c. omega arith)
@@ -43,8 +43,8 @@ found_terms_spec =
       search rules,
       search rules,
       search rules,
-      let a = c.args in terms_more working a.l a.w a.first a.r a.es.now a.found.now c.loop-k.k c.loop-k.cur c.copy.new.0
-          c.tray_points.new.0 a.sums.now c.loop-k.sums c.add_terms.new.0 c.loop-k.invariant.4 c.copy.ensures c.tray_points.ensures
+      let a = c.args in terms_more working a.l a.w a.first a.r a.es.now a.found.now c.loop-k.k c.loop-k.cur c.copy.new.out
+          c.tray_points.new.row a.sums.now c.loop-k.sums c.add_terms.new.sums c.loop-k.invariant.4 c.copy.ensures c.tray_points.ensures
           c.add_terms.ensures,
     ))
     (λ c. search rules)

@@ -28,17 +28,17 @@ restore_block_spec =
       p.2,
       p.3.listed,
       space_next a.l a.w a.sums-1.now a.found-1.now a.points-1.now a.coefs-1.now a.row-1.now
-          c.sum_kept.new.0 a.found-1.now a.points-1.now a.coefs-1.now
-          c.sum_kept.new.1.1.1.1.1.1.1.1.0 p.4
+          c.sum_kept.new.sums a.found-1.now a.points-1.now a.coefs-1.now
+          c.sum_kept.new.row p.4
           (search rules) refl refl refl (search rules),
     ))
     (λ c κs. let a =
     c.args in cells_of a.l
-    a.total a.w a.first a.es.now a.c-1.now c.solve_block.new.0
+    a.total a.w a.first a.es.now a.c-1.now c.solve_block.new.found
     c.requires.0
     c.requires.3
     (found_next a.l a.w a.sums-1.now a.found-1.now
-    c.solve_block.new.0 a.points-1.now a.coefs-1.now a.row-1.now
+    c.solve_block.new.found a.points-1.now a.coefs-1.now a.row-1.now
     c.requires.4 (search rules)))
     (λ c. search rules)
     (λ c. search rules)
@@ -48,6 +48,6 @@ restore_block_spec =
     (λ c. search rules)
     (λ c. search rules)
     (λ c.
-    block_restored working c.args.l c.args.total c.args.w c.args.first c.args.es.now c.args.c.now c.sum_kept.new.0
-    c.solve_block.new.0 c.put_block.new.0 c.requires.0 c.requires.3 c.sum_kept.ensures c.solve_block.ensures
+    block_restored working c.args.l c.args.total c.args.w c.args.first c.args.es.now c.args.c.now c.sum_kept.new.sums
+    c.solve_block.new.found c.put_block.new.c c.requires.0 c.requires.3 c.sum_kept.ensures c.solve_block.ensures
     c.put_block.ensures))

@@ -12,7 +12,7 @@ use Rattle.store.proofs.Trays.{parity_told}
 use Rattle.store.proofs.parity_in.Statement.{statement}
 use Rattle.store.proofs.parity_in.Tie as tie
 
-listed : (c : tie.After-count_from) → c.count_from.new.1.0 ≡ parity_trays c.args.l
+listed : (c : tie.After-count_from) → c.count_from.new.list ≡ parity_trays c.args.l
 listed c = c.count_from.ensures ∙ ap (table (λ (i : ℕ). c.args.l.dimension + i)) c.requires.1
 
 pub parity_in_spec : {M : Type 1} → statement M
@@ -26,4 +26,4 @@ parity_in_spec =
     (λ c. search rules)
     (λ c. search rules)
     (λ c.
-    subst (λ es. RestoredTo gf256 c.args.l es c.args.out.now (layers c.args.l) c.restore.new.1.1.0) (listed c.before.before.before.before.before.before.before) c.restore.ensures))
+    subst (λ es. RestoredTo gf256 c.args.l es c.args.out.now (layers c.args.l) c.restore.new.c) (listed c.before.before.before.before.before.before.before) c.restore.ensures))

@@ -20,7 +20,7 @@ leave_shares_spec =
     (λ c κs.
     let a = c.args in
     let p = c.requires in
-    rest_in a.k a.n a.each a.shares.now a.out.now p.0 p.2 p.3 c.copy.new.0 c.copy.ensures.long)
+    rest_in a.k a.n a.each a.shares.now a.out.now p.0 p.2 p.3 c.copy.new.out c.copy.ensures.long)
     (λ c. search rules)
     (λ c.
     let a = c.args in

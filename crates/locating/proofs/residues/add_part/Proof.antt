@@ -11,7 +11,7 @@ add_part_spec =
     (λ c κs.
     let a = c.args in
     let p = c.requires in
-    sharing_of working a.l a.h a.w a.first a.helpers.now a.shares.now a.sides.now a.points.now a.cur.now a.prod.now a.row.now p.0 a.k _ _ p.1 c.own_points.auto.0 c.own_points.ensures)
+    sharing_of working a.l a.h a.w a.first a.helpers.now a.shares.now a.sides.now a.points.now a.cur.now a.prod.now a.row.now p.0 a.k _ _ p.1 c.own_points.auto.points c.own_points.ensures)
     (λ c κs. search rules)
     (λ c. search rules)
     (λ c. search rules)

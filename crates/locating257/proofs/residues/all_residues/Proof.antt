@@ -57,13 +57,13 @@ all_residues_spec =
     omega (arith, c.block_at-w.ensures.2, c.loop-p-test.taken))
     (λ c. (
       omega (arith, c.block_at-w.ensures.1.within),
-      c.keep_block.auto.0 ∙ c.loop-p.invariant.1,
-      c.keep_block.auto.1.0 ∙ c.loop-p.invariant.2,
-      c.keep_block.auto.1.1.1.1.1.1.1.1.0 ∙ c.loop-p.invariant.3,
-      c.keep_block.auto.1.1.1.1.1.1.1.1.1.0 ∙ c.loop-p.invariant.4,
-      c.keep_block.auto.1.1.1.1.1.1.1.1.1.1.0 ∙ c.loop-p.invariant.5,
-      c.keep_block.auto.1.1.1.1.1.1.1.1.1.1.1.0 ∙ c.loop-p.invariant.6,
-      c.keep_block.auto.1.1.1.1.1.1.1.1.1.1.1.1.0 ∙ c.loop-p.invariant.7,
+      c.keep_block.auto.zeroth ∙ c.loop-p.invariant.1,
+      c.keep_block.auto.first ∙ c.loop-p.invariant.2,
+      c.keep_block.auto.sides ∙ c.loop-p.invariant.3,
+      c.keep_block.auto.points ∙ c.loop-p.invariant.4,
+      c.keep_block.auto.cur ∙ c.loop-p.invariant.5,
+      c.keep_block.auto.prod ∙ c.loop-p.invariant.6,
+      c.keep_block.auto.row ∙ c.loop-p.invariant.7,
       c.keep_block.ensures,
     ))
     (λ c. c.loop-p.invariant.1)

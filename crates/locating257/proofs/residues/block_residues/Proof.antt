@@ -49,7 +49,7 @@ block_residues_spec =
     let a = c.args in
     let p = c.requires in (
       work_next a.l a.h a.w a.first a.helpers.now a.shares.now a.sides.now a.points.now a.cur.now a.prod.now a.row.now
-          (p) _ _ _ _ _ (c.loop-k.invariant.1 ∙ c.fill.ensures.long) (c.loop-k.invariant.2 ∙ c.unknown_points.auto.0) c.loop-k.invariant.3 c.loop-k.invariant.4 (c.loop-k.invariant.5 ∙ c.unknown_points.auto.1.1.1.1.1.1.1.1.0),
+          (p) _ _ _ _ _ (c.loop-k.invariant.1 ∙ c.fill.ensures.long) (c.loop-k.invariant.2 ∙ c.unknown_points.auto.points) c.loop-k.invariant.3 c.loop-k.invariant.4 (c.loop-k.invariant.5 ∙ c.unknown_points.auto.row),
       work_helper a.l a.h a.w a.first a.helpers.now a.shares.now a.sides.now a.points.now a.cur.now a.prod.now a.row.now (p) _ c.loop-k-test.true,
       c.loop-k.invariant.7,
     ))
@@ -61,21 +61,21 @@ block_residues_spec =
     (λ c.
     let a = c.args in (
       omega (arith, c.loop-k-test.true),
-      c.add_part.auto.0 ∙ c.loop-k.invariant.1,
-      c.add_part.auto.1.1.1.1.1.1.1.1.0 ∙ c.loop-k.invariant.2,
-      c.add_part.auto.1.1.1.1.1.1.1.1.1.0 ∙ c.loop-k.invariant.3,
-      c.add_part.auto.1.1.1.1.1.1.1.1.1.1.0 ∙ c.loop-k.invariant.4,
-      c.add_part.auto.1.1.1.1.1.1.1.1.1.1.1.0 ∙ c.loop-k.invariant.5,
+      c.add_part.auto.sides ∙ c.loop-k.invariant.1,
+      c.add_part.auto.points ∙ c.loop-k.invariant.2,
+      c.add_part.auto.cur ∙ c.loop-k.invariant.3,
+      c.add_part.auto.prod ∙ c.loop-k.invariant.4,
+      c.add_part.auto.row ∙ c.loop-k.invariant.5,
       parts_more working a.l a.h a.w a.first a.helpers.now a.shares.now _ _ _ c.loop-k.invariant.6 c.add_part.ensures.0,
       c.add_part.ensures.1,
     ))
     (λ c. c.loop-k.invariant.1 ∙ c.fill.ensures.long)
     (λ c.
-    c.loop-k.invariant.2 ∙ c.unknown_points.auto.0)
+    c.loop-k.invariant.2 ∙ c.unknown_points.auto.points)
     (λ c. c.loop-k.invariant.3)
     (λ c. c.loop-k.invariant.4)
     (λ c.
-    c.loop-k.invariant.5 ∙ c.unknown_points.auto.1.1.1.1.1.1.1.1.0)
+    c.loop-k.invariant.5 ∙ c.unknown_points.auto.row)
     (λ c.
     let a = c.args in
     parts_end working a.l a.h a.w a.first a.helpers.now a.shares.now _ (length a.helpers.now) _ c.loop-k.invariant.6 (omega arith) (omega arith)

@@ -14,7 +14,7 @@ keep_block_spec =
     let a = c.args in
     let p = c.requires in (
       p.3,
-      row_second a.l a.h a.w a.at a.helpers.now a.shares.now a.sides.now a.points.now a.cur.now a.prod.now a.row.now c.block_residues.new.0 p.0 c.block_residues.auto.0,
+      row_second a.l a.h a.w a.at a.helpers.now a.shares.now a.sides.now a.points.now a.cur.now a.prod.now a.row.now c.block_residues.new.sides p.0 c.block_residues.auto.sides,
     ))
     (λ c. search rules)
     (λ c. search rules)
