@@ -36,8 +36,8 @@ block_fits_spec =
       p.2,
       p.3.listed,
       space_next a.l a.w a.sums.now a.found.now a.points.now a.coefs.now a.row.now
-          c.sum_kept.new.sums a.found.now a.points-1.now a.coefs-1.now
-          c.sum_kept.new.1.1.1.1.1.1.1.1.0 p.4
+          c.sum_kept.new.sums a.found.now a.points.now a.coefs.now
+          c.sum_kept.new.row p.4
           (search rules) refl refl refl (search rules),
     ))
     (λ c κs.
@@ -48,27 +48,27 @@ block_fits_spec =
       p.0,
       p.3.listed,
       room_next a.w
-          c.check_count-r.result a.sums-1.now a.cur-1.now a.row-1.now
-          c.sum_kept.new.0
-          c.sum_kept.new.1.1.1.1.1.1.1.0
-          c.solve_block.new.1.1.1.1.1.1.1.1.1.0
+          c.check_count-r.result a.sums.now a.cur.now a.row.now
+          c.sum_kept.new.sums
+          c.sum_kept.new.cur
+          c.solve_block.new.row
           (room_all a.l a.w
-          c.check_count-r.result a.sums-1.now a.found-1.now a.points-1.now a.coefs-1.now
-          a.row-1.now a.cur-1.now
+          c.check_count-r.result a.sums.now a.found.now a.points.now a.coefs.now
+          a.row.now a.cur.now
           c.check_count-r.ensures p.4 p.5) (search rules) (search rules) (search rules),
-      found_few a.l a.w a.es.now a.sums-1.now a.found-1.now
-          c.solve_block.new.0 a.points-1.now a.coefs-1.now
-          a.row-1.now p.3.listed p.4 (search rules),
+      found_few a.l a.w a.es.now a.sums.now a.found.now
+          c.solve_block.new.found a.points.now a.coefs.now
+          a.row.now p.3.listed p.4 (search rules),
     ))
     (λ c.
     all_fits c.args.l c.args.w c.args.first c.check_count-r.result c.requires.0 c.check_count-r.ensures)
     (λ c κs. let a =
-    c.args in let e : length c.found_terms.new.0
+    c.args in let e : length c.found_terms.new.sums
     ≡ length
-    c.sum_kept.new.0 = search rules in all_in a.l
+    c.sum_kept.new.sums = search rules in all_in a.l
     a.w
     c.check_count-r.result
-    a.sums-1.now c.found_terms.new.0 a.found-1.now a.points-1.now a.coefs-1.now a.row-1.now
+    a.sums.now c.found_terms.new.sums a.found.now a.points.now a.coefs.now a.row.now
     c.check_count-r.ensures
     c.requires.4
     (e
@@ -82,5 +82,5 @@ block_fits_spec =
     (λ c. search rules)
     (λ c.
     block_says working c.args.l c.args.w c.args.first c.args.total c.check_count-r.result c.args.es.now c.args.c.now
-    c.sum_kept.new.0 c.solve_block.new.0 c.found_terms.new.0 c.requires.3 c.check_count-r.ensures c.sum_kept.ensures
+    c.sum_kept.new.sums c.solve_block.new.found c.found_terms.new.sums c.requires.3 c.check_count-r.ensures c.sum_kept.ensures
     c.solve_block.ensures c.found_terms.ensures c.all_zero.result c.all_zero.ensures))

@@ -37,8 +37,8 @@ restore_block_spec =
     a.total a.w a.first a.es.now a.c.now c.solve_block.new.found
     c.requires.0
     c.requires.3
-    (found_next a.l a.w a.sums-1.now a.found-1.now
-    c.solve_block.new.0 a.points-1.now a.coefs-1.now a.row-1.now
+    (found_next a.l a.w a.sums.now a.found.now
+    c.solve_block.new.found a.points.now a.coefs.now a.row.now
     c.requires.4 (search rules)))
     (λ c. search rules)
     (λ c. search rules)
@@ -48,6 +48,6 @@ restore_block_spec =
     (λ c. search rules)
     (λ c. search rules)
     (λ c.
-    block_restored working c.args.l c.args.total c.args.w c.args.first c.args.es.now c.args.c.now c.sum_kept.new.0
-    c.solve_block.new.0 c.put_block.new.0 c.requires.0 c.requires.3 c.sum_kept.ensures c.solve_block.ensures
+    block_restored working c.args.l c.args.total c.args.w c.args.first c.args.es.now c.args.c.now c.sum_kept.new.sums
+    c.solve_block.new.found c.put_block.new.c c.requires.0 c.requires.3 c.sum_kept.ensures c.solve_block.ensures
     c.put_block.ensures))
