@@ -36,8 +36,7 @@ shares_fit c = omega arith
 
 first_in : (c : tie.After-group_count) → c.args.first ≤ c.group_count.result
 first_in c = let a = c.args in
-    first_below working a.l a.many a.lost.0 a.helpers.now a.shares.now a.host.now a.spare.now a.first a.budget (none
-    c.before) _ c.group_count.ensures
+    first_below working a.l a.many a.lost.0 a.helpers.now a.shares.now a.host.now a.spare.now a.first a.budget (none c.before) _ c.group_count.ensures
 
 high : (c : tie.After-group_count) → (c.group_count.result ≤ layer_limit) ×
     (c.args.l.helpers ≤ tray_limit)
@@ -80,8 +79,7 @@ repair_batch_spec =
       arith,
       report_in working a.l a.many a.lost.0 a.helpers.now a.shares.now a.host.now a.spare.now a.first
           a.budget (none c.before.before.before.before.before.before) _ e,
-      shares_fit
-          c.before.before.before.before.before.before.before.before.before.before.before.before.before.before,
+      shares_fit c.before.before.before.before.before.before.before.before.before.before.before.before.before.before,
     ))
     (λ c. omega (arith, c.smaller-count.ensures))
     (λ c. let h = high c.before.before.before.before.before in
@@ -93,12 +91,10 @@ repair_batch_spec =
       arith,
       report_in working a.l a.many a.lost.0 a.helpers.now a.shares.now a.host.now a.spare.now a.first
           a.budget (none c.before.before.before.before.before.before) _ e,
-      shares_fit
-          c.before.before.before.before.before.before.before.before.before.before.before.before.before.before,
+      shares_fit c.before.before.before.before.before.before.before.before.before.before.before.before.before.before,
     ))
     (λ c. c.repair_groups.ensures.long)
     (λ c. let a = c.args in
-    answer_done working a.l a.many a.lost.0 a.helpers.now a.shares.now a.host.now a.spare.now a.first a.budget (none
-    c.before.before.before.before.before.before) _ _ _ _ _ _ c.group_count.ensures
+    answer_done working a.l a.many a.lost.0 a.helpers.now a.shares.now a.host.now a.spare.now a.first a.budget (none c.before.before.before.before.before.before) _ _ _ _ _ _ c.group_count.ensures
     c.smaller-count.ensures refl refl
     c.number-x.ensures c.repair_groups.ensures))

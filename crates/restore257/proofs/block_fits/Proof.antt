@@ -72,8 +72,7 @@ block_fits_spec =
     c.check_count-r.ensures
     c.requires.4
     (e
-    ∙ kept_long
-    c.before.before.before.before.before.before.before.before.before.before.before.before.before.before.before.before.before.before.before.before.before.before.before.before.before.before.before.before.before.before.before.before))
+    ∙ kept_long c.before.before.before.before.before.before.before.before.before.before.before.before.before.before.before.before.before.before.before.before.before.before.before.before.before.before.before.before.before))
     (λ c. search rules)
     (λ c. search rules)
     (λ c. search rules)

@@ -47,8 +47,7 @@ told : (c : tie.Else-b-rack) → let a = c.args in
 told c = record {
   adm = facts c.before.before.before.before.before;
   rack_in = c.if-b-rack.false;
-  images_long = long
-      c.before.before.before;
+  images_long = long c.before.before.before;
 }
 
 pub refusal_spec : {M : Type 1} → statement M
