@@ -24,7 +24,7 @@ loop_holds c = (omega arith, refl, refl, refl, search (batch_none, working))
 layer_requires : tie.Need-layer-requires invariant-loop-j decreases-loop-j
 layer_requires c κs = (search job_still, search rules, omega arith, search rules, search rules)
 
-add_j : tie.Need-overflow-add-j invariant-loop-j decreases-loop-j
+add_j : tie.Need-overflow_add-j invariant-loop-j decreases-loop-j
 add_j c = omega arith
 
 loop_less : tie.Need-loop-j-smaller invariant-loop-j decreases-loop-j

@@ -21,19 +21,19 @@ decreases-loop-b c₀ es ks gap first m picks wide acc₀ b₀ c acc b = m - b
 loop_holds : tie.Need-loop-b-init invariant-loop-b decreases-loop-b
 loop_holds c = (omega arith, refl, refl, blocks_none _ _ _ _ _ _)
 
-sub_smaller : tie.Need-overflow-sub-smaller invariant-loop-b decreases-loop-b
+sub_smaller : tie.Need-overflow_sub-m invariant-loop-b decreases-loop-b
 sub_smaller c = omega arith
 
 smaller_requires : tie.Need-smaller-w-requires invariant-loop-b decreases-loop-b
 smaller_requires c κs = search rules
 
-add_block : tie.Need-overflow-add-block invariant-loop-b decreases-loop-b
+add_block : tie.Need-overflow_add-first invariant-loop-b decreases-loop-b
 add_block c = omega arith
 
 block_requires : tie.Need-block-requires invariant-loop-b decreases-loop-b
 block_requires c κs = (search trays_still, search wide_still, omega arith, omega arith, search rules, search rules)
 
-add_b : tie.Need-overflow-add-b invariant-loop-b decreases-loop-b
+add_b : tie.Need-overflow_add-b invariant-loop-b decreases-loop-b
 add_b c = omega arith
 
 loop_less : tie.Need-loop-b-smaller invariant-loop-b decreases-loop-b

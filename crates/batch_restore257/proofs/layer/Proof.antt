@@ -18,10 +18,10 @@ lanes_requires c κs = search job_few
 factors_requires : tie.Need-factors-requires
 factors_requires c κs = (search job_lists, search rules, search rules)
 
-mul_blocks : tie.Need-overflow-mul-blocks
+mul_blocks : tie.Need-overflow_mul-total
 mul_blocks c = search job_gap_fits
 
-mul_blocks_2 : tie.Need-overflow-mul-blocks-2
+mul_blocks_2 : tie.Need-overflow_mul-j
 mul_blocks_2 c = search job_first_fits
 
 blocks_requires : tie.Need-blocks-requires

@@ -24,16 +24,16 @@ list_points_requires c κs = search ks_pointing
 list_points_requires_2 : tie.Need-list_points-requires-2
 list_points_requires_2 c κs = search es_pointing
 
-mul_fill : tie.Need-overflow-mul-fill
+mul_fill : tie.Need-overflow_mul-n
 mul_fill c = search n_fits
 
-mul_fill_2 : tie.Need-overflow-mul-fill-2
+mul_fill_2 : tie.Need-overflow_mul-count
 mul_fill_2 c = search count_fits
 
-sub_fill : tie.Need-overflow-sub-fill
+sub_fill : tie.Need-overflow_sub-count
 sub_fill c = search count_low
 
-mul_fill_3 : tie.Need-overflow-mul-fill-3
+mul_fill_3 : tie.Need-overflow_mul-count-2
 mul_fill_3 c = search rest_fits
 
 fill_requires : tie.Need-fill-requires

@@ -19,7 +19,7 @@ decreases-loop-d es i x₀ d₀ x d = length es - d
 loop_holds : tie.Need-loop-d-init invariant-loop-d decreases-loop-d
 loop_holds c = (omega arith, free_first _ _)
 
-mul_skipped : tie.Need-overflow-mul-skipped invariant-loop-d decreases-loop-d
+mul_skipped : tie.Need-offset_bounds-es-d invariant-loop-d decreases-loop-d
 mul_skipped c = omega arith
 
 shared_slice_read_skipped : tie.Need-bounds-es-d invariant-loop-d decreases-loop-d
@@ -28,7 +28,7 @@ shared_slice_read_skipped c = omega arith
 skipped_requires : tie.Need-skipped-x-requires invariant-loop-d decreases-loop-d
 skipped_requires c κs = let a = c.args in other_low a.es.now a.i c.loop-d.d _ c.loop-d.invariant.1 c.requires.0 c.requires.1 (omega arith)
 
-add_d : tie.Need-overflow-add-d invariant-loop-d decreases-loop-d
+add_d : tie.Need-overflow_add-d invariant-loop-d decreases-loop-d
 add_d c = omega arith
 
 loop_less : tie.Need-loop-d-smaller invariant-loop-d decreases-loop-d

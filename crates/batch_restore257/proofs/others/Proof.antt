@@ -20,19 +20,19 @@ decreases-loop-i ks₀ es i₀ ks i = length ks₀ - i
 loop_holds : tie.Need-loop-i-init invariant-loop-i decreases-loop-i
 loop_holds c = (omega arith, refl, upto_none _ _)
 
-cast_other : tie.Need-overflow-cast-other invariant-loop-i decreases-loop-i
+cast_other : tie.Need-overflow_cast-i invariant-loop-i decreases-loop-i
 cast_other c = omega arith
 
 other_requires : tie.Need-other-requires invariant-loop-i decreases-loop-i
 other_requires c κs = (search rules, omega arith)
 
-mul_ks : tie.Need-overflow-mul-ks invariant-loop-i decreases-loop-i
+mul_ks : tie.Need-offset_bounds-ks-i invariant-loop-i decreases-loop-i
 mul_ks c = omega arith
 
 slice_write_ks : tie.Need-bounds-ks-i invariant-loop-i decreases-loop-i
 slice_write_ks c = omega arith
 
-add_i : tie.Need-overflow-add-i invariant-loop-i decreases-loop-i
+add_i : tie.Need-overflow_add-i invariant-loop-i decreases-loop-i
 add_i c = omega arith
 
 loop_less : tie.Need-loop-i-smaller invariant-loop-i decreases-loop-i

@@ -19,34 +19,34 @@ decreases-loop-t at₀ ks gap first t₀ at t = length at₀ - t
 loop_holds : tie.Need-loop-t-init invariant-loop-t decreases-loop-t
 loop_holds c = (omega arith, refl, placed_none _ _ _ _)
 
-sub_smaller : tie.Need-overflow-sub-smaller invariant-loop-t decreases-loop-t
+sub_smaller : tie.Need-overflow_sub-ks invariant-loop-t decreases-loop-t
 sub_smaller c = omega arith
 
 smaller_requires : tie.Need-smaller-i-requires invariant-loop-t decreases-loop-t
 smaller_requires c κs = search rules
 
-mul_at : tie.Need-overflow-mul-at invariant-loop-t decreases-loop-t
+mul_at : tie.Need-offset_bounds-ks-i invariant-loop-t decreases-loop-t
 mul_at c = omega arith
 
 shared_slice_read_at : tie.Need-bounds-ks-i invariant-loop-t decreases-loop-t
 shared_slice_read_at c = omega arith
 
-cast_at : tie.Need-overflow-cast-at invariant-loop-t decreases-loop-t
+cast_at : tie.Need-overflow_cast-at invariant-loop-t decreases-loop-t
 cast_at c = cast_fits _ (c.shared_slice_known-in-loop-t-1.given _)
 
-mul_at_2 : tie.Need-overflow-mul-at-2 invariant-loop-t decreases-loop-t
+mul_at_2 : tie.Need-overflow_mul-at invariant-loop-t decreases-loop-t
 mul_at_2 c = search place_fits
 
-add_at : tie.Need-overflow-add-at invariant-loop-t decreases-loop-t
+add_at : tie.Need-overflow_add-at invariant-loop-t decreases-loop-t
 add_at c = search place_to_fits
 
-mul_at_3 : tie.Need-overflow-mul-at-3 invariant-loop-t decreases-loop-t
+mul_at_3 : tie.Need-offset_bounds-at-t invariant-loop-t decreases-loop-t
 mul_at_3 c = omega arith
 
 slice_write_at : tie.Need-bounds-at-t invariant-loop-t decreases-loop-t
 slice_write_at c = omega arith
 
-add_t : tie.Need-overflow-add-t invariant-loop-t decreases-loop-t
+add_t : tie.Need-overflow_add-t invariant-loop-t decreases-loop-t
 add_t c = omega arith
 
 loop_less : tie.Need-loop-t-smaller invariant-loop-t decreases-loop-t

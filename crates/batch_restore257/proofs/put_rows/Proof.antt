@@ -19,28 +19,28 @@ decreases-loop-o c₀ es gap first w acc o₀ c o = length es - o
 loop_holds : tie.Need-loop-o-init invariant-loop-o decreases-loop-o
 loop_holds c = (omega arith, refl, put_none _ _ _ _ _ _)
 
-mul_copy : tie.Need-overflow-mul-copy invariant-loop-o decreases-loop-o
+mul_copy : tie.Need-offset_bounds-es-o invariant-loop-o decreases-loop-o
 mul_copy c = omega arith
 
 shared_slice_read_copy : tie.Need-bounds-es-o invariant-loop-o decreases-loop-o
 shared_slice_read_copy c = omega arith
 
-cast_copy : tie.Need-overflow-cast-copy invariant-loop-o decreases-loop-o
+cast_copy : tie.Need-overflow_cast-es invariant-loop-o decreases-loop-o
 cast_copy c = record { fits = omega (arith, c.shared_slice_known-in-loop-o-1.given c.loop-o.o) }
 
-mul_copy_2 : tie.Need-overflow-mul-copy-2 invariant-loop-o decreases-loop-o
+mul_copy_2 : tie.Need-overflow_mul-es invariant-loop-o decreases-loop-o
 mul_copy_2 c = search put_fits
 
-add_copy : tie.Need-overflow-add-copy invariant-loop-o decreases-loop-o
+add_copy : tie.Need-overflow_add-es invariant-loop-o decreases-loop-o
 add_copy c = search put_to_fits
 
-mul_copy_3 : tie.Need-overflow-mul-copy-3 invariant-loop-o decreases-loop-o
+mul_copy_3 : tie.Need-overflow_mul-o invariant-loop-o decreases-loop-o
 mul_copy_3 c = omega arith
 
 copy_requires : tie.Need-copy-requires invariant-loop-o decreases-loop-o
 copy_requires c κs = (search put_in, search put_from)
 
-add_o : tie.Need-overflow-add-o invariant-loop-o decreases-loop-o
+add_o : tie.Need-overflow_add-o invariant-loop-o decreases-loop-o
 add_o c = omega arith
 
 loop_less : tie.Need-loop-o-smaller invariant-loop-o decreases-loop-o

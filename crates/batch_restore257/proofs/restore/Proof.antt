@@ -13,10 +13,10 @@ use Rattle.batch_restore257.proofs.restore.Tie as tie
 tray_count_requires : tie.Need-tray_count-requires
 tray_count_requires c κs = search restoring_adm
 
-cast_n : tie.Need-overflow-cast-n
+cast_n : tie.Need-overflow_cast-n
 cast_n c = search rules
 
-sub_n : tie.Need-overflow-sub-n
+sub_n : tie.Need-overflow_sub-n
 sub_n c = search left_low
 
 array_borrow_prefix_ks : tie.Need-slice_bounds-ks-end

@@ -15,7 +15,7 @@ use Rattle.batch_restore257.proofs.sum_block.Tie as tie
 eights_requires : tie.Need-eights-n-requires
 eights_requires c κs = search sums_few
 
-mul_n : tie.Need-overflow-mul-n
+mul_n : tie.Need-overflow_mul-n
 mul_n c = search eight_fits
 
 array_borrow_prefix_at : tie.Need-slice_bounds-at-end

@@ -54,7 +54,7 @@ all_residues_spec =
     (λ c.
     next_fits c.args.l _ _ _ _ c.requires.0.chosen.adm c.group_count-total.ensures (omega arith) c.block_at-w.ensures.1)
     (λ c.
-    omega (arith, c.block_at-w.ensures.2, c.loop-p-test.taken))
+    omega (arith, c.block_at-w.ensures.2, c.loop-p-test.true))
     (λ c. (
       omega (arith, c.block_at-w.ensures.1.within),
       c.keep_block.auto.zeroth ∙ c.loop-p.invariant.1,
