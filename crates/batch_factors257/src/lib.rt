@@ -2,6 +2,8 @@
 // The factors of a layer: what each known symbol counts for in each symbol that is worked out, by the products of differences. Promises, less, the value of
 // the algebra's `basis` of the points that are solved for (algebra/specs/Lagrange.antt) at every known point; the sums with these factors are the solution
 // (proofs/Sums.antt).
+#![tactic(auto)]
+
 ghost use Rattle.std.specs.Prelude.{◌≡◌, ◌+◌, ◌*◌, ◌<◌, ◌≤◌, length};
 ghost use Rattle.symbol257.specs.Elem.{gf257};
 ghost use Rattle.kernel.specs.Inner.{Run, Standing};

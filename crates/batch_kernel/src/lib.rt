@@ -1,6 +1,8 @@
 // Sums of rows, each times a factor: many output rows from the same input rows, in the field of 256. Of each four input rows the sixteen sums of some of them
 // are made once for a block of columns; for each bit of the factors, from the highest down, the sum so far is doubled and the sum that the bit picks is added,
 // eight rows at a time (the method of the four Russians). No branch and no table in memory depends on a symbol.
+#![tactic(auto)]
+
 ghost use Rattle.std.specs.Prelude.{◌≡◌, ℕ, ◌+◌, ◌*◌, ◌/◌, ◌%◌, ◌^◌, ◌<◌, ◌≤◌, length, get_or};
 ghost use Rattle.symbol.specs.Elem.{gf256, z};
 ghost use Rattle.kernel.specs.Inner.{Run, Standing};

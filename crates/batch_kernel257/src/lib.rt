@@ -1,5 +1,7 @@
 // Sums of rows, each times a factor: many output rows from the same input rows, in the field modulo 257, by the names that the first field's kernel has. A row
 // is taken to an output row in one pass, with a product and a reduction a symbol.
+#![tactic(auto)]
+
 ghost use Rattle.std.specs.Prelude.{◌≡◌, ℕ, ◌+◌, ◌*◌, ◌/◌, ◌<◌, ◌≤◌, length, get_or};
 ghost use Rattle.symbol257.specs.Elem.{gf257};
 ghost use Rattle.kernel.specs.Inner.{Run};

@@ -2,6 +2,8 @@
 // sums is the same in every codeword, so a group's multipliers (crate multipliers) are worked out once for all. Promises, for every layout, number of codewords, list, buffer,
 // first group and budget, the first ground of refusal that applies and no symbol changed; or of each codeword what the repair call answers and writes (crate repair). Over
 // lists of such calls it proves the cutting claim for each codeword (specs/BatchCalls.antt).
+#![tactic(auto)]
+
 ghost use Rattle.std.specs.Prelude.{◌≡◌, [], ◌∷◌, ℕ, ◌+◌, ◌*◌, ◌<◌, ◌≤◌, length};
 ghost use Rattle.symbol.specs.Elem.{gf256};
 ghost use Rattle.kernel.specs.Inner.{Run};

@@ -2,6 +2,8 @@
 // Erased trays of many codewords worked out from the others, layer after layer: the factors of a layer once for all codewords, then sums of rows, a block of
 // codewords at a time. Promises of every codeword the symbols that the checks determine (restore/specs/Inner.antt). Never looks at the old symbols of the
 // trays listed.
+#![tactic(auto)]
+
 ghost use Rattle.std.specs.Prelude.{◌≡◌, ℕ, ◌+◌, ◌*◌, ◌<◌, ◌≤◌, length, get_or};
 ghost use Rattle.lists.specs.Lists.{table};
 ghost use Rattle.algebra.specs.Group.{skip, free};

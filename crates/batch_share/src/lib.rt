@@ -1,6 +1,8 @@
 // A helper's shares of many codewords of one layout at once, interleaved (crate batch_parts). The layers of s^h consecutive groups with the same digit are consecutive, so with
 // m codewords they are one run of m·s^h symbols, and the runs are added as those of one codeword are (crate share). Promises, for every layout, number of codewords, racks and
 // buffers, the first ground of refusal that applies and no symbol changed; or of each codeword the share that document 01's call makes.
+#![tactic(auto)]
+
 ghost use Rattle.std.specs.Prelude.{◌≡◌, ℕ, ◌<◌, length};
 ghost use Rattle.symbol.specs.Elem.{gf256};
 ghost use Rattle.share.specs.Inner.{RunsOf};

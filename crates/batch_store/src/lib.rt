@@ -1,5 +1,7 @@
 // Storing many codewords of one layout at once, interleaved: symbol (x, j) of codeword q of `many` stands at (typeof.x.L + j)·many + q, and likewise the data. Promises
 // of every codeword what storing promises of one; a layout or length that does not fit is refused and no symbol changes.
+#![tactic(auto)]
+
 ghost use Rattle.std.specs.Prelude.{◌≡◌, ◌+◌, ◌≤◌, length};
 ghost use Rattle.lists.specs.Lists.{table};
 ghost use Rattle.symbol.specs.Elem.{gf256};

@@ -1,6 +1,8 @@
 // Repair cards (document 02, W13) over any field: what a right card is, and the grounds of a card's calls that hang on numbers alone. Promises, for E = 0, that for each lost
 // tray, helpers and group exactly one card is right, that its multipliers are what the rule of repair makes of single symbols, and that a repair by a right card is document
 // 01's, on any shares (proofs/Right.antt); and that each test answers exactly what its definition says.
+#![tactic(auto)]
+
 ghost use Rattle.std.specs.Prelude.{◌≡◌};
 ghost use Rattle.layout.specs.Layout.{admissible_with, Cabinet};
 ghost use Rattle.card.specs.Grounds.{in_layout, helpers_ground};

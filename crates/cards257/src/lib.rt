@@ -3,6 +3,8 @@
 // makes the host's rack sums by the card's own multipliers and goes on as every repair does (crate group). Promises, for every layout, list, card, buffer and group, the
 // first ground of refusal that applies, 15 exactly where the card is not right, and no symbol changed; or the right card; or what a repair of that group answers and
 // writes. Over lists of pieces and repairs by card the cutting claim holds (proofs/Mixed.antt).
+#![tactic(auto)]
+
 ghost use Rattle.std.specs.Prelude.{◌≡◌, true, [], ◌∷◌, ◌*◌, ◌<◌, ◌≤◌, length};
 ghost use Rattle.symbol257.specs.Elem.{gf257};
 ghost use Rattle.layout.specs.Layout.{digits, Cabinet};

@@ -1,5 +1,7 @@
 // The checksum of bytes: CRC-64 as xz has it. Promises the number that the definition gives (specs/Checksum.antt): the remainder by the
 // polynomial of ECMA-182, in parts as in one go (specs/Claims.antt).
+#![tactic(auto)]
+
 mod table;
 
 ghost use Rattle.std.specs.Prelude.{◌≡◌, ◌+◌, ◌*◌, ◌%◌, ◌<◌, ◌≤◌, length, get_or, take, drop};

@@ -1,4 +1,6 @@
 // Codewords of document 01 in a buffer, over either field: the exponents of the points, where a symbol stands, and what a test answers (crate testing).
+#![tactic(auto)]
+
 ghost use Rattle.std.specs.Prelude.{◌≡◌, ◌+◌, ◌*◌, ◌<◌, ◌≤◌};
 ghost use Rattle.layout.specs.Layout.{trays, tray_limit, layer_limit, Cabinet};
 ghost use Rattle.codeword.specs.Inner.{exponent_at};

@@ -3,6 +3,8 @@
 // for each system; right sides and solutions have a row for each check and unknown, `run` places for each column, whose points are alike there, and the columns
 // come `turns` times over.
 // Promises the algebra's solution (`solve` in algebra/specs/Lagrange.antt) at every place, for any points and right sides.
+#![tactic(auto)]
+
 pub mod runs;
 
 ghost use Rattle.std.specs.Prelude.{◌≡◌, ◌+◌, ◌-◌, ◌*◌, ◌<◌, ◌≤◌, min, length};

@@ -2,6 +2,8 @@
 // The repair of a lost tray with E = 1, all groups at once, from shares of which one may be wrong. Crate locating finds the wrong one; the tray is then worked out by crate
 // pieces from the shares of the others, or from all where none is wrong. Promises the first ground of refusal that applies and no symbol changed, or the rack whose
 // share is wrong, B for none, the symbols crossed and the tray.
+#![tactic(auto)]
+
 mod left;
 
 ghost use Rattle.std.specs.Prelude.{◌≡◌, ◌+◌, ◌*◌, ◌≤◌, length};

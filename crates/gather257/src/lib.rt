@@ -3,6 +3,8 @@
 // of trays that are present are handed on. A tray is present exactly when its image is live, well formed, of the layout and volume
 // expected, and its own. What is gathered depends on the trays present and on nothing else (proofs/Present.antt), and recovering it gives
 // back the codeword stored where at most r trays are missing (proofs/Returns.antt).
+#![tactic(auto)]
+
 pub mod rack;
 pub mod states;
 pub mod tray;

@@ -1,5 +1,7 @@
 // The grounds of a repair that hang on numbers alone, over either field: lengths, one rack, and the counts of the lists. Each test answers exactly what its definition
 // says.
+#![tactic(auto)]
+
 ghost use Rattle.std.specs.Prelude.{◌≡◌, ◌*◌, ◌<◌, eqb};
 ghost use Rattle.layout.specs.Layout.{Cabinet};
 ghost use Rattle.grounds.specs.Grounds.{one_rack};

@@ -2,6 +2,8 @@
 // A block of groups of a repair of e lost trays, by the host's rack sums of the block. In each layer the e sums are one system for the e lost symbols; all
 // layers of the block with one digit are solved at a time. Never looks at the old symbols of the lost trays. Promises that the block's layers of the spare are
 // as the rule fixes them (`repaired_piece` in proofs/Repair.antt), and every other symbol as it was.
+#![tactic(auto)]
+
 ghost use Rattle.std.specs.Prelude.{◌≡◌, ◌+◌, ◌*◌, ◌<◌, ◌≤◌, length};
 ghost use Rattle.symbol257.specs.Elem.{gf257};
 ghost use Rattle.kernel.specs.Inner.{Run};

@@ -1,6 +1,8 @@
 // Horner's rule down the digits of a rack, over runs of symbols: for each digit from the highest down a power of the root times what there is, plus a symbol
 // where its digit is that one. A power of the root is so many doublings. The compiler does many symbols at a time only where the number of doublings is known to
 // it: one to four are written out, and more are done by fours.
+#![tactic(auto)]
+
 ghost use Rattle.std.specs.Prelude.{◌≡◌, cond, ◌+◌, ◌-◌, ◌<◌, ◌≤◌, eqb, length};
 ghost use Rattle.symbol.specs.Elem.{gf256};
 ghost use Rattle.kernel.specs.Inner.{Run};

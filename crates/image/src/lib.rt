@@ -1,6 +1,8 @@
 // Tray images: document 01's header of 24 bytes, then the symbols. A write makes the whole image, or refuses and writes nothing. A read takes bytes of
 // any length and content and hands out the tray and the symbols of a live, well-formed image of the layout and volume expected, and of no other: no
 // demonstration image passes for a live one (proofs/LiveOnly.antt). Here are what the images of every field share, and the calls for the field of 256.
+#![tactic(auto)]
+
 pub mod grounds;
 pub mod header;
 

@@ -1,5 +1,7 @@
 // Tray images of the second field (document 02, W10): edition 2, two bytes a symbol, low byte first. The definitions, the header and the claims over both
 // editions are in the crate image. A read copies the symbols to lent places, and leaves these as they were where it refuses.
+#![tactic(auto)]
+
 ghost use Rattle.std.specs.Prelude.{◌≡◌, ◌+◌, ◌*◌, ◌/◌, ◌%◌, ◌<◌, ◌≤◌, length, set};
 ghost use Rattle.lists.specs.Lists.{table, all_below};
 ghost use Rattle.layout.specs.Layout.{layers};

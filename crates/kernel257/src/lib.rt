@@ -2,6 +2,8 @@
 // Kernels: loops over a run of symbols, one loop each with one step a symbol and no branch or table, so that the compiler does many symbols at a time.
 // Each promises what its run holds afterwards and that every other symbol of the buffer is as it was. Beside them the inverses, which go by the symbol's
 // tables, and the test for zeros, which stops early.
+#![tactic(auto)]
+
 ghost use Rattle.std.specs.Prelude.{◌≡◌, ◌+◌, ◌*◌, ◌%◌, ◌<◌, ◌≤◌, length, get_or};
 ghost use Rattle.algebra.specs.Field.{Ops};
 ghost use Rattle.algebra.specs.Coding.{InRange};

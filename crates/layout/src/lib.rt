@@ -1,5 +1,7 @@
 // Layouts: the five numbers of a cabinet, which of them documents 01 and 02 admit, and the numbers that follow. Promises the definitions of specs/Layout.antt
 // for all 32-bit values, with no sum or product that wraps. A rack, a tray and a layer number are kinds of their own.
+#![tactic(auto)]
+
 pub mod power;
 
 ghost use Rattle.std.specs.Prelude.{◌≡◌, ◌+◌, ◌*◌, ◌/◌, ◌%◌, ◌^◌, ◌<◌, ◌≤◌};

@@ -1,5 +1,7 @@
 // Laws on lists and plain numbers that every crate above shares (specs/, proofs/), and the tests of a list of tray or rack numbers that several calls
 // make, the smaller of two numbers, and clearing a buffer. Each test answers exactly what its definition says, for a list of any length and content.
+#![tactic(auto)]
+
 ghost use Rattle.std.specs.Prelude.{◌≡◌, ◌≤◌, ◌++◌, min, take, drop, length};
 ghost use Rattle.lists.specs.Lists.{all_below, strictly_rising, absent};
 

@@ -2,6 +2,8 @@
 // Which one of the helpers' shares is wrong. With two helpers more than unknowns a group has two residues (module residues), which are both zero exactly where its checks
 // hold; a wrong share shows in both, by its helper's point. Promises the helper that the residues of all groups point to, that they are all zero, or that they point to
 // none.
+#![tactic(auto)]
+
 mod residues;
 
 ghost use Rattle.std.specs.Prelude.{◌≡◌, ◌&&◌, ◌+◌, ◌<◌, ◌≤◌, length};

@@ -1,5 +1,7 @@
 // The loss margin: how many more trays may go before data are lost. For any bytes it answers the live trays, less k, or the first ground for
 // refusing; a margin below zero is an answer. It runs from -k to n - k (proofs/Range.antt).
+#![tactic(auto)]
+
 ghost use Rattle.std.specs.Prelude.{◌≡◌, ◌<◌, ◌≤◌, eqb, pos, ◌-ℤ◌, length};
 ghost use Rattle.lists.specs.Lists.{all_below};
 ghost use Rattle.layout.specs.Layout.{tray_limit};

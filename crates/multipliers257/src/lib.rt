@@ -1,6 +1,8 @@
 // Made by tools/twin.py from crates/multipliers/src/lib.rt.
 // The multipliers of a right card (document 02, W13), for either field: by them the symbols that d helpers send for a group give the host's rack sums. They are found
 // by crate columns, a column for each helper, whose right sides are less the powers of its point. Promises the multipliers of crate card.
+#![tactic(auto)]
+
 ghost use Rattle.std.specs.Prelude.{◌≤◌, length};
 ghost use Rattle.symbol257.specs.Elem.{gf257};
 ghost use Rattle.blocks.specs.Inner.{room_limit};

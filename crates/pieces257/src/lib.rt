@@ -2,6 +2,8 @@
 // A piece of a repair: consecutive groups, a block at a time. A block is a power of s of groups that begins at a multiple of itself, so that the groups' points
 // go through it in runs (crates sums and group). Promises that the layers of these groups in the spare are as the rule fixes them, and every other symbol as
 // it was.
+#![tactic(auto)]
+
 ghost use Rattle.std.specs.Prelude.{◌+◌, ◌%◌, ◌≤◌, length};
 ghost use Rattle.symbol257.specs.Elem.{gf257};
 ghost use Rattle.layout.specs.Layout.{Cabinet};

@@ -1,5 +1,7 @@
 // A sum of rows, each times one symbol, by the bits of these from the highest down: the sum is doubled once for all rows together, where a product doubles each row.
 // The first field's alone: its numbers add by bits.
+#![tactic(auto)]
+
 ghost use Rattle.std.specs.Prelude.{◌≡◌, ◌+◌, ◌*◌, ◌<◌, ◌≤◌, length};
 ghost use Rattle.symbol.specs.Elem.{gf256};
 ghost use Rattle.kernel.specs.Inner.{Run};

@@ -1,4 +1,6 @@
 // A sum of rows, each times one symbol, in the field modulo 257: row after row, for its numbers do not add by bits. Promises what crate planes does.
+#![tactic(auto)]
+
 ghost use Rattle.symbol257.specs.Elem.{gf257};
 ghost use Rattle.planes.specs.Inner.{Rows, Summed};
 

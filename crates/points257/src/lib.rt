@@ -1,5 +1,7 @@
 // Made by tools/twin.py from crates/points/src/lib.rt.
 // The points of a layout as symbols: powers of the root. Promises the algebra's points (algebra/specs/Points.antt) and factors of places, to a power.
+#![tactic(auto)]
+
 ghost use Rattle.std.specs.Prelude.{◌≡◌, ◌<◌, ◌≤◌};
 ghost use Rattle.algebra.specs.Sum.{pow};
 ghost use Rattle.algebra.specs.Points.{place};

@@ -1,6 +1,8 @@
 // The sums of the checks over the trays that are not listed, by racks: check t = u·p + m of a layer speaks only of the rack sums of weight m, so that one step a
 // rack and check is done and not one a tray and check. The steps go from the highest rack down, by Horner's rule. `sum_kept` promises what that of `syndrome`
 // promises, and goes tray after tray where that takes fewer instructions.
+#![tactic(auto)]
+
 ghost use Rattle.std.specs.Prelude.{◌≡◌, true, ◌+◌, ◌*◌, ◌/◌, ◌<◌, ◌≤◌, length};
 ghost use Rattle.symbol.specs.Elem.{gf256};
 ghost use Rattle.layout.specs.Layout.{Cabinet, trays, layers, tray_limit};

@@ -1,6 +1,8 @@
 // A block of layers solved for the trays listed, by rack sums where these are whole racks of three or five: the checks u·p + m are then a system for the racks' sums of
 // weight m alone, so that there are u systems with an unknown for each rack in place of one with an unknown for each tray, and the symbols of a rack follow from its
 // sums. The first field's alone, as `weigh` is. `solve_block` promises what that of `solving` promises, and is that where the list is not of whole racks.
+#![tactic(auto)]
+
 ghost use Rattle.std.specs.Prelude.{◌≡◌, true, ◌+◌, ◌-◌, ◌*◌, ◌^◌, ◌<◌, ◌≤◌, length};
 ghost use Rattle.algebra.specs.Points.{opposite};
 ghost use Rattle.symbol.specs.Elem.{gf256};

@@ -1,5 +1,7 @@
 // Whether numbers stand for symbols. The highest number of a run is looked for, with no branch, so that the loop can be vectorised. In the field of 256 every byte
 // is a symbol, and the compiler leaves the loops out.
+#![tactic(auto)]
+
 ghost use Rattle.std.specs.Prelude.{◌≡◌, ℕ, ◌+◌, ◌*◌, ◌<◌, ◌≤◌, length};
 ghost use Rattle.symbol.specs.Elem.{gf256};
 ghost use Rattle.range.specs.Range.{symbols_from, symbol_rows};

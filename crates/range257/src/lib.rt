@@ -1,6 +1,8 @@
 // Made by tools/twin.py from crates/range/src/lib.rt.
 // Whether numbers stand for symbols. The highest number of a run is looked for, with no branch, so that the loop can be vectorised. In the field of 256 every byte
 // is a symbol, and the compiler leaves the loops out.
+#![tactic(auto)]
+
 ghost use Rattle.std.specs.Prelude.{◌≡◌, ℕ, ◌+◌, ◌*◌, ◌<◌, ◌≤◌, length};
 ghost use Rattle.symbol257.specs.Elem.{gf257};
 ghost use Rattle.range.specs.Range.{symbols_from, symbol_rows};

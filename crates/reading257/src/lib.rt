@@ -2,6 +2,8 @@
 // Reading while a lost tray is being repaired (document 02, W7). Promises, for every layout, buffers, trays, run of layers and number of groups done, the
 // first ground of refusal that applies and an empty part, or the run: a part of the store for a tray that is not lost, and of the spare for the lost one. Where
 // the spare was written by pieces of a repair, the part is the codeword's (proofs/ReadsTheCodeword.antt).
+#![tactic(auto)]
+
 ghost use Rattle.std.specs.Prelude.{◌≡◌, length};
 ghost use Rattle.symbol257.specs.Elem.{gf257};
 ghost use Rattle.layout.specs.Layout.{Cabinet};

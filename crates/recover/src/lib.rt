@@ -1,6 +1,8 @@
 // Recovering erased trays. Promises that the buffer becomes the only codeword that agrees with it outside the trays listed, and the answer 8 exactly when
 // there is none. It decides before it writes, writes erased trays only and never looks at their old symbols (proofs/Settled.antt); a refused call changes
 // no symbol. With fewer trays erased than there are checks, every check that was not needed to solve is tested.
+#![tactic(auto)]
+
 ghost use Rattle.std.specs.Prelude.{◌≡◌, ◌+◌, ◌*◌, ◌≤◌, length};
 ghost use Rattle.symbol.specs.Elem.{gf256};
 ghost use Rattle.layout.specs.Layout.{trays, layers, Cabinet};

@@ -4,6 +4,8 @@
 // checks or more are left over, each tray that is not erased is tried as if it were erased too. At most one of them leaves survivors of a
 // codeword
 // (proofs/Settled.antt): it is named, and the buffer becomes that codeword. It decides before it writes; a refused call changes no symbol.
+#![tactic(auto)]
+
 mod list;
 
 ghost use Rattle.std.specs.Prelude.{◌≡◌, ◌+◌, ◌-◌, ◌<◌, ◌≤◌, length};

@@ -1,6 +1,8 @@
 // The repair of a lost tray, or of several of one rack, from shares, whole or in pieces. Promises, for every layout, list, buffer, first group and budget,
 // the first ground of refusal that applies and no symbol changed, or the groups done, the symbols crossed and those still to come, the done groups' layers of
 // the spare as the rule of repair fixes them and every other symbol as it was. Over whole lists of such calls it proves the cutting claim (specs/Calls.antt).
+#![tactic(auto)]
+
 ghost use Rattle.std.specs.Prelude.{◌≡◌, [], ◌∷◌, ◌*◌, length};
 ghost use Rattle.symbol.specs.Elem.{gf256};
 ghost use Rattle.layout.specs.Layout.{layers, traffic, Cabinet};
@@ -156,7 +158,7 @@ pub fn repair_many<'t, 'r, 'c, 's, 'h>(
     first: u64,
     budget: u64,
 ) -> Repaired
-    ensures { RepairAnswer gf256 l lost.0.now helpers.0.now shares.now host.now first budget spare.old spare.new result }
+    ensures { RepairAnswer gf256 l lost.entry.0.now helpers.entry.0.now shares.now host.now first budget spare.old spare.new result }
 {
     repair_lists(lost.0, helpers.0, spare, l, shares, host, first, budget)
 }

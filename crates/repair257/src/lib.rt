@@ -2,6 +2,8 @@
 // The repair of a lost tray, or of several of one rack, from shares, whole or in pieces. Promises, for every layout, list, buffer, first group and budget,
 // the first ground of refusal that applies and no symbol changed, or the groups done, the symbols crossed and those still to come, the done groups' layers of
 // the spare as the rule of repair fixes them and every other symbol as it was. Over whole lists of such calls it proves the cutting claim (specs/Calls.antt).
+#![tactic(auto)]
+
 ghost use Rattle.std.specs.Prelude.{◌≡◌, [], ◌∷◌, ◌*◌, length};
 ghost use Rattle.symbol257.specs.Elem.{gf257};
 ghost use Rattle.layout.specs.Layout.{layers, traffic, Cabinet};

@@ -2,6 +2,8 @@
 // another. Promises that after each call the record holds exactly how many layers below the next are bad and the least of them, and what the report says; a
 // refused call leaves the record as it came. `reset` and `step` take the record by value and hand it back; the forms that change a lent one in its place stand
 // above these at the boundary, crate `gesarumbo`.
+#![tactic(auto)]
+
 mod grounds;
 mod look;
 

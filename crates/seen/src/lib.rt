@@ -1,5 +1,7 @@
 // What a piece of a repair looks at: the symbols of its own groups, in the shares and in the host rack's sound trays. Promises whether all of them are symbols
 // (specs/Seen.antt). The groups lie in blocks of s^h, h the host rack; the layers of a part of a block are a run for each digit, those of whole blocks are one run.
+#![tactic(auto)]
+
 ghost use Rattle.std.specs.Prelude.{◌≡◌, true, ◌+◌, ◌*◌, ◌%◌, ◌<◌, ◌≤◌, length};
 ghost use Rattle.lists.specs.Lists.{all, all_below};
 ghost use Rattle.symbol.specs.Elem.{gf256};

@@ -2,6 +2,8 @@
 // place g counts times the m-th power of its place's factor; document 01's share has m = 0, and e lost trays of one rack need those of m = 0 .. e - 1. Shares
 // are built up tray by tray, or worked out from a whole rack. Promises, for every layout, number of shares, racks, tray and buffers, the first ground of refusal
 // that applies, or the shares; a refused call changes no symbol.
+#![tactic(auto)]
+
 ghost use Rattle.std.specs.Prelude.{◌≡◌, true, cond, ◌&&◌, List, ℕ, ◌+◌, ◌%◌, ◌<◌, ◌≤◌, eqb, length, get_or};
 ghost use Rattle.symbol.specs.Elem.{gf256};
 ghost use Rattle.layout.specs.Layout.{trays, groups, admissible, Cabinet};

@@ -1,4 +1,6 @@
 // A block of layers solved for the trays listed: the symbols that make up for the sums of its checks, by the products of differences.
+#![tactic(auto)]
+
 ghost use Rattle.std.specs.Prelude.{◌≡◌, ◌^◌, ◌≤◌, length};
 ghost use Rattle.symbol.specs.Elem.{gf256};
 ghost use Rattle.layout.specs.Layout.{digits};

@@ -1,5 +1,7 @@
 // Made by tools/twin.py from crates/solving/src/lib.rt.
 // A block of layers solved for the trays listed: the symbols that make up for the sums of its checks, by the products of differences.
+#![tactic(auto)]
+
 ghost use Rattle.std.specs.Prelude.{◌≡◌, ◌^◌, ◌≤◌, length};
 ghost use Rattle.symbol257.specs.Elem.{gf257};
 ghost use Rattle.layout.specs.Layout.{digits};

@@ -1,5 +1,7 @@
 // Storing. Promises that the buffer becomes the only codeword whose first k trays are the data, whatever it held before; a layout or length that does not
 // fit is refused and no symbol changes.
+#![tactic(auto)]
+
 ghost use Rattle.std.specs.Prelude.{◌≡◌, ◌+◌, ◌≤◌, length};
 ghost use Rattle.lists.specs.Lists.{table};
 ghost use Rattle.symbol.specs.Elem.{gf256};

@@ -1,6 +1,8 @@
 // The host rack sums of a block of groups in a repair of e lost trays. For each weight m below e the R checks t = u·w + m summed over a group are one system
 // for the s host rack sums and the group sums of the racks that are neither host nor helper; crate columns solves the systems of all groups of the block at
 // a time. Promises these sums, weight after weight.
+#![tactic(auto)]
+
 ghost use Rattle.std.specs.Prelude.{◌≡◌, ◌+◌, ◌-◌, ◌*◌, ◌<◌, ◌≤◌, length};
 ghost use Rattle.algebra.specs.Sum.{pow};
 ghost use Rattle.algebra.specs.Points.{point};

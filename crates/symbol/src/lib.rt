@@ -1,6 +1,8 @@
 // The symbols: the field of 256 by the polynomial x^8 + x^4 + x^3 + x^2 + 1 with the root 2, as numbers below 256. Promises that each function gives the
 // definition's sum, product, inverse or power for every symbol (specs/Arithmetic.antt), and that the symbols are a field whose root has the order 255
 // (proofs/Elem.antt).
+#![tactic(auto)]
+
 pub mod logs;
 pub mod plain;
 pub mod powers;

@@ -1,6 +1,8 @@
 // Made by tools/twin.py from crates/syndrome/src/lib.rt.
 // Checks of a block of layers at a time: the points of a tray in consecutive layers, or of a rack in consecutive groups, and the sums of the checks over the
 // trays that are not listed. A row of the sums has a check, and a column a layer of the block.
+#![tactic(auto)]
+
 ghost use Rattle.std.specs.Prelude.{◌≡◌, ℕ, ◌+◌, ◌*◌, ◌/◌, ◌^◌, ◌<◌, ◌≤◌, length};
 ghost use Rattle.kernel.specs.Inner.{Run};
 ghost use Rattle.symbol257.specs.Elem.{gf257};

@@ -4,6 +4,8 @@
 // layer the missing symbols can be chosen so that all checks hold, and else the first layer in which they cannot; and how many checks
 // were tested, which is none where as many
 // trays are missing as there are checks. The grounds for refusing are those of a recovery.
+#![tactic(auto)]
+
 mod first;
 
 ghost use Rattle.symbol257.specs.Elem.{gf257};

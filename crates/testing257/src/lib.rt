@@ -1,6 +1,8 @@
 // Made by tools/twin.py from crates/testing/src/lib.rt.
 // Testing a codeword, whole blocks of layers at a time. Promises that a test answers sound exactly when the buffer is a codeword, and else the first bad
 // layer with the least check broken there; a layout or length that does not fit is refused, for every layout and buffer.
+#![tactic(auto)]
+
 ghost use Rattle.std.specs.Prelude.{◌≡◌, ◌*◌, ◌^◌, ◌<◌, ◌≤◌, eqb, length, get_or};
 ghost use Rattle.algebra.specs.Plain.{reduced};
 ghost use Rattle.symbol257.specs.Elem.{gf257};

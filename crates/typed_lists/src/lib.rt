@@ -1,4 +1,5 @@
 // Lists of trays and lists of racks, told apart by their types.
+#![tactic(auto)]
 
 // A list of trays' numbers, as it was lent.
 #[derive(Clone, Copy)]

@@ -1,6 +1,8 @@
 // Sums over the places of racks of three and of five, each place times a power of its factor. The bits of the factors go from the highest down, so that a
 // symbol is doubled once for all places together; the factors are written out, so that the compiler leaves out the bits that are not set. One loop a sum, with
 // no branch or table.
+#![tactic(auto)]
+
 ghost use Rattle.std.specs.Prelude.{◌≡◌, ◌+◌, ◌<◌, ◌≤◌, length};
 ghost use Rattle.symbol.specs.Elem.{gf256};
 ghost use Rattle.kernel.specs.Inner.{Run};

@@ -35,7 +35,7 @@ add_columns_spec =
     (λ c. (
       omega arith,
       search rules,
-          let k = c.loop-c in columns_more working _ _ _ _ _ _ _ _ _ _ k.c _ k.invariant.2 c.at.ensures c.add_multiple.ensures,
+      let k = c.loop-c in columns_more working _ _ _ _ _ _ _ _ _ _ k.c _ k.invariant.2 c.at.ensures c.add_multiple.ensures,
     ))
     (λ c. search rules)
     (λ c. search (columns_end working)))

@@ -25,8 +25,7 @@ combine_spec =
     (λ c. search found_fits)
     (λ c. search found_fits)
     (λ c. search coefs_fits)
-    (λ c κs.
-    (
+    (λ c κs. (
       places_of c.args.w c.args.v c.args.run c.args.turns c.args.m c.args.i c.loop-t.t c.args.found.now
           c.fill.new.out c.loop-t.found c.args.sums.now c.args.coefs.now c.args.row.now c.requires.0 c.fill.ensures.long
           c.loop-t.invariant.1 c.requires.1 (omega arith),
@@ -35,8 +34,7 @@ combine_spec =
     ))
     (λ c. omega arith)
     (λ c. omega arith)
-    (λ c.
-    (
+    (λ c. (
       omega arith,
       search rules,
       search rules,

@@ -11,11 +11,11 @@ solve_many_spec =
     (λ c. search rules)
     (λ c. search rules)
     (λ c κs. (
-          (columns_room c.args.w c.args.v c.args.run c.args.turns c.args.m c.args.found.now c.args.sums.now
+      (columns_room c.args.w c.args.v c.args.run c.args.turns c.args.m c.args.found.now c.args.sums.now
           c.args.coefs.now c.args.points.now c.args.row.now c.requires.0 c.requires.1 c.requires.3),
-          (columns_room c.args.w c.args.v c.args.run c.args.turns c.args.m c.args.found.now c.args.sums.now
+      (columns_room c.args.w c.args.v c.args.run c.args.turns c.args.m c.args.found.now c.args.sums.now
           c.args.coefs.now c.args.points.now c.args.row.now c.requires.0 c.requires.1 c.requires.3),
-          (carry_in c.args.w c.args.v c.args.run c.args.turns c.args.m c.args.found.now c.args.sums.now c.args.coefs.now
+      (carry_in c.args.w c.args.v c.args.run c.args.turns c.args.m c.args.found.now c.args.sums.now c.args.coefs.now
           c.args.row.now c.args.row.now c.requires.0 refl),
       omega arith,
     ))

@@ -28,7 +28,7 @@ refusal_spec =
     (λ c. search stop_3_helpers)
     (λ c κs. (
       search (cabinet_so gf256.order),
-          long_so _ _ _ _ c.if-host-u.false c.layer_count-total.ensures,
+      long_so _ _ _ _ c.if-host-u.false c.layer_count-total.ensures,
     ))
     (λ c. search stop_3_symbols)
     (λ c κs. search rules)

@@ -28,6 +28,6 @@ one_rack_spec =
     (λ c. search rules)
     (λ c. (
       omega arith,
-          rack_more c.args.lost.now c.args.l.size c.loop-i.i c.loop-i.invariant.1 c.if-lost-i.false,
+      rack_more c.args.lost.now c.args.l.size c.loop-i.i c.loop-i.invariant.1 c.if-lost-i.false,
     ))
     (λ c. rack_true _ _ (λ k h. c.loop-i.invariant.1 k (omega arith))))

@@ -32,7 +32,7 @@ fill_places_spec =
     (λ c κs. omega arith)
     (λ c. omega arith)
     (λ c. omega arith)
-    (λ c. 
+    (λ c.
     (omega arith, search rules, places_more working _ _ _ _ _ _ c.loop-i.invariant.2 c.fill.ensures c.place_power.ensures))
     (λ c. search rules)
     (λ c. search (places_end working)))

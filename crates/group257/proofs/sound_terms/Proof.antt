@@ -17,7 +17,7 @@ sound_terms_spec =
     (λ c κs. search rules)
     (λ c.
     let a = c.args in terms_lost working a.l a.h a.lost.now a.host.now c.requires.0 a.w (length a.lost.now)
-    (λ j. spot a.r.start a.r.run a.r.stride j) a.g a.rests.now s.requires.3 (told_false c1.is_absent.ensures c.if-not-is_absent.true-raw))
+    (λ j. spot a.r.start a.r.run a.r.stride j) a.g a.rests.now c.requires.3 (told_false c.is_absent.ensures c.if-not-is_absent.true-raw))
     (λ c κs. search rules)
     (λ c. search rules)
     (λ c. search rules)

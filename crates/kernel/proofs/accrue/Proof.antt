@@ -40,7 +40,7 @@ accrue_spec =
       omega arith,
       simp length-set (omega arith),
       simp length-set (omega arith),
-          let k = c.loop-j.invariant in accrue_more gf256 _ _ _ _ _ _ _ c.args.len _ _ k.3 k.4 (omega arith) (omega arith) c.lazy_product-v.ensures.0 c.lazy_sum.ensures,
+      let k = c.loop-j.invariant in accrue_more gf256 _ _ _ _ _ _ _ c.args.len _ _ k.3 k.4 (omega arith) (omega arith) c.lazy_product-v.ensures.0 c.lazy_sum.ensures,
       search step_more,
     ))
     (λ c. omega arith)

@@ -31,7 +31,7 @@ gather_apart_spec =
     (λ c. (omega arith, apart_none working _ _ _ _, omega arith))
     (λ c. omega (arith, read_in c))
     (λ c. omega (arith, read_in c))
-    -- twin: (λ c. omega (arith, read-in c))
+    -- twin: (λ c. omega (arith, read_in c))
     (λ c. read_in c.before)
     (λ c κs. omega (arith, read_below c.before))
     (λ c. omega arith)

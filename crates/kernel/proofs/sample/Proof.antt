@@ -19,7 +19,7 @@ sample_spec =
     tie.close (tie.spec invariant-loop-j decreases-loop-j
     (λ c. (omega arith, refl, run_none _ _ _))
     (λ c. let e : c.loop-j.j * c.args.step < length c.args.src.now = search sample_in in omega arith)
-    -- twin: (λ c. let e : c.loop.j * c.args.step < length c.args.src.now = search sample_in in omega arith)
+    -- twin: (λ c. let e : c.loop-j.j * c.args.step < length c.args.src.now = search sample_in in omega arith)
     (λ c. search sample_in)
     -- twin: (λ c. omega arith)
     (λ c. omega arith)

@@ -39,7 +39,7 @@ rack_points_spec =
       omega arith,
       search rules,
       search rules,
-          let a = c.args in racks_more working a.l a.w a.first a.es.now a.v a.run c.loop-i.i c.power_row.new.row c.loop-i.points
+      let a = c.args in racks_more working a.l a.w a.first a.es.now a.v a.run c.loop-i.i c.power_row.new.row c.loop-i.points
           c.sample.new.out c.requires.0.width c.requires.0.run_low c.loop-i.invariant.3 c.power_row.ensures c.sample.ensures,
     ))
     (λ c. search rules)

@@ -36,7 +36,7 @@ rack_symbols_spec =
       search rules,
       search rules,
       (λ h. search last_more),
-          let a = c.args in places_more gf256 a.u a.w a.i a.ys.now c.loop-m.m c.opposite_place.result a.found.now
+      let a = c.args in places_more gf256 a.u a.w a.i a.ys.now c.loop-m.m c.opposite_place.result a.found.now
           c.loop-m.found c.copy.new.out c.weigh_rows.new.row (omega arith) c.opposite_place.ensures.0 c.loop-m.invariant.4 c.weigh_rows.ensures c.copy.ensures,
     ))
     (λ c. search rules)

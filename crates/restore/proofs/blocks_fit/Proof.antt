@@ -62,14 +62,14 @@ blocks_fit_spec =
     c.loop-q-test.true)
     (λ c. omega arith)
     (λ c. (
-          omega (arith, c.loop-q-test.true),
+      omega (arith, c.loop-q-test.true),
       search rules,
       search rules,
       search rules,
       search rules,
       search rules,
       search rules,
-          let a = c.args in fit_more working a.l c.block_width-w.result c.loop-q.q a.es.now a.c.now c.loop-q.invariant.7
+      let a = c.args in fit_more working a.l c.block_width-w.result c.loop-q.q a.es.now a.c.now c.loop-q.invariant.7
           (says_true c.block_fits.result (not-false c.block_fits.result c.if-not-block_fits.false-raw) c.block_fits.ensures),
     ))
     (λ c. search rules)

@@ -10,8 +10,7 @@ use Rattle.restore.proofs.restore_block.Tie as tie
 pub restore_block_spec : {M : Type 1} → statement M
 restore_block_spec =
     tie.close (tie.spec
-    (λ c κs.
-    (
+    (λ c κs. (
       c.requires.0,
       room_few c.args.l c.args.w c.args.es.now c.args.sums.now c.args.found.now c.args.points.now
           c.args.coefs.now c.args.row.now c.args.cur.now c.requires.3.listed c.requires.4 c.requires.5,
@@ -27,18 +26,18 @@ restore_block_spec =
       p.1,
       p.2,
       p.3.listed,
-      space_next a.l a.w a.sums-1.now a.found-1.now a.points-1.now a.coefs-1.now a.row-1.now
-          c.sum_kept.new.sums a.found-1.now a.points-1.now a.coefs-1.now
+      space_next a.l a.w a.sums.now a.found.now a.points.now a.coefs.now a.row.now
+          c.sum_kept.new.sums a.found.now a.points.now a.coefs.now
           c.sum_kept.new.row p.4
           (search rules) refl refl refl (search rules),
     ))
     (λ c κs. let a =
     c.args in cells_of a.l
-    a.total a.w a.first a.es.now a.c-1.now c.solve_block.new.found
+    a.total a.w a.first a.es.now a.c.now c.solve_block.new.found
     c.requires.0
     c.requires.3
-    (found_next a.l a.w a.sums-1.now a.found-1.now
-    c.solve_block.new.found a.points-1.now a.coefs-1.now a.row-1.now
+    (found_next a.l a.w a.sums.now a.found.now
+    c.solve_block.new.found a.points.now a.coefs.now a.row.now
     c.requires.4 (search rules)))
     (λ c. search rules)
     (λ c. search rules)

@@ -51,7 +51,7 @@ restore_blocks_spec =
     c.loop-q-test.true)
     (λ c. omega arith)
     (λ c. (
-          omega (arith, c.loop-q-test.true),
+      omega (arith, c.loop-q-test.true),
       search rules,
       search rules,
       search rules,
@@ -59,7 +59,7 @@ restore_blocks_spec =
       search rules,
       search rules,
       search rules,
-          let a = c.args in restored_more working a.l a.es.now a.c.now c.block_width-w.result c.loop-q.q c.loop-q.c c.restore_block.new.c
+      let a = c.args in restored_more working a.l a.es.now a.c.now c.block_width-w.result c.loop-q.q c.loop-q.c c.restore_block.new.c
           c.requires.1.listed.places (block_of a.l a.e c.block_width-w.result a.total c.requires.1.adm c.requires.0 c.block_width-w.ensures
           c.requires.1.total_is c.loop-q.q c.loop-q-test.true).inside c.loop-q.invariant.8 c.restore_block.ensures,
     ))

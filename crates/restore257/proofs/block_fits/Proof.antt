@@ -35,8 +35,8 @@ block_fits_spec =
       p.1,
       p.2,
       p.3.listed,
-      space_next a.l a.w a.sums-1.now a.found-1.now a.points-1.now a.coefs-1.now a.row-1.now
-          c.sum_kept.new.sums a.found-1.now a.points-1.now a.coefs-1.now
+      space_next a.l a.w a.sums.now a.found.now a.points.now a.coefs.now a.row.now
+          c.sum_kept.new.sums a.found.now a.points.now a.coefs.now
           c.sum_kept.new.row p.4
           (search rules) refl refl refl (search rules),
     ))
@@ -48,17 +48,17 @@ block_fits_spec =
       p.0,
       p.3.listed,
       room_next a.w
-          c.check_count-r.result a.sums-1.now a.cur-1.now a.row-1.now
+          c.check_count-r.result a.sums.now a.cur.now a.row.now
           c.sum_kept.new.sums
           c.sum_kept.new.cur
           c.solve_block.new.row
           (room_all a.l a.w
-          c.check_count-r.result a.sums-1.now a.found-1.now a.points-1.now a.coefs-1.now
-          a.row-1.now a.cur-1.now
+          c.check_count-r.result a.sums.now a.found.now a.points.now a.coefs.now
+          a.row.now a.cur.now
           c.check_count-r.ensures p.4 p.5) (search rules) (search rules) (search rules),
-      found_few a.l a.w a.es.now a.sums-1.now a.found-1.now
-          c.solve_block.new.found a.points-1.now a.coefs-1.now
-          a.row-1.now p.3.listed p.4 (search rules),
+      found_few a.l a.w a.es.now a.sums.now a.found.now
+          c.solve_block.new.found a.points.now a.coefs.now
+          a.row.now p.3.listed p.4 (search rules),
     ))
     (λ c.
     all_fits c.args.l c.args.w c.args.first c.check_count-r.result c.requires.0 c.check_count-r.ensures)
@@ -68,7 +68,7 @@ block_fits_spec =
     c.sum_kept.new.sums = search rules in all_in a.l
     a.w
     c.check_count-r.result
-    a.sums-1.now c.found_terms.new.sums a.found-1.now a.points-1.now a.coefs-1.now a.row-1.now
+    a.sums.now c.found_terms.new.sums a.found.now a.points.now a.coefs.now a.row.now
     c.check_count-r.ensures
     c.requires.4
     (e

@@ -37,7 +37,7 @@ listed_points_spec =
       omega arith,
       search rules,
       search rules,
-          let a = c.args in listed_more working a.l a.w a.first a.es.now a.v a.run c.loop-k.k c.tray_points.new.row c.loop-k.points
+      let a = c.args in listed_more working a.l a.w a.first a.es.now a.v a.run c.loop-k.k c.tray_points.new.row c.loop-k.points
           c.sample.new.out c.requires.width c.requires.run_low c.loop-k.invariant.3 c.tray_points.ensures c.sample.ensures,
     ))
     (λ c. search rules)

@@ -12,8 +12,7 @@ add_terms_spec =
     tie.close (tie.spec
     (λ c. search (terms_none working))
     (λ c κs. (search first_in, search rules))
-    (λ c κs.
-    (
+    (λ c κs. (
       room_next c.args.w c.args.r c.args.sums.now c.args.cur.now c.args.row.now c.add.new.out c.args.cur.now
           c.args.row.now c.requires c.add.ensures.long refl refl,
       omega arith,

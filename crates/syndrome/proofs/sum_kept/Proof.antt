@@ -24,8 +24,7 @@ sum_kept_spec =
     (λ c. search sums_fits)
     (λ c κs. search sums_in)
     (λ c. (omega arith, refl, refl, refl, search (sums_none working)))
-    (λ c κs.
-    (
+    (λ c κs. (
       search rules,
       room_next c.args.w c.args.r c.args.sums.now c.args.cur.now c.args.row.now c.loop-x.sums
           c.loop-x.cur c.loop-x.row c.requires.1 (search rules) c.loop-x.invariant.2 c.loop-x.invariant.3,

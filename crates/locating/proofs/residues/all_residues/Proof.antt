@@ -54,8 +54,7 @@ all_residues_spec =
     next_fits c.args.l _ _ _ _ c.requires.0.chosen.adm c.group_count-total.ensures (omega arith) c.block_at-w.ensures.1)
     (λ c.
     omega (arith, c.block_at-w.ensures.2, c.loop-p-test.taken))
-    (λ c.
-    (
+    (λ c. (
       omega (arith, c.block_at-w.ensures.1.within),
       c.keep_block.auto.zeroth ∙ c.loop-p.invariant.1,
       c.keep_block.auto.first ∙ c.loop-p.invariant.2,
