@@ -139,7 +139,7 @@ pub fn repair_many<'t, 'r, 'c, 's, 'h>(
     first: u64,
     budget: u64,
 ) -> Repaired
-    ensures { RepairAnswer gf257 l lost.0.now helpers.0.now shares.now host.now first budget spare.old spare.new result }
+    ensures { RepairAnswer gf257 l lost.entry.0.now helpers.entry.0.now shares.now host.now first budget spare.old spare.new result }
 {
     repair_lists(lost.0, helpers.0, spare, l, shares, host, first, budget)
 }

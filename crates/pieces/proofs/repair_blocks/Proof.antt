@@ -18,7 +18,7 @@ invariant-loop-k l lost helpers shares host first count spare₀ sums₀ sides�
 abbrev decreases-loop-k : tie.decreases-loop-k
 decreases-loop-k l lost helpers shares host first count spare₀ sums₀ sides₀ found₀ points₀ coefs₀ row₀ cur₀ rows k₀ spare sums sides found points coefs row cur k = count - k
 
-cast_row_count : tie.Need-overflow-cast-row-count invariant-loop-k decreases-loop-k
+cast_row_count : tie.Need-overflow_cast-lost invariant-loop-k decreases-loop-k
 cast_row_count c = search rules
 
 row_count_requires : tie.Need-row_count-rows-requires invariant-loop-k decreases-loop-k
@@ -27,10 +27,10 @@ row_count_requires c κs = let p = c.requires.0 in (p.adm.admissible.cabinet, p.
 loop_holds : tie.Need-loop-k-init invariant-loop-k decreases-loop-k
 loop_holds c = (omega arith, refl, refl, refl, refl, refl, refl, refl, piece_none _ _ _ _ _ _ _ _)
 
-add_block_at : tie.Need-overflow-add-block-at invariant-loop-k decreases-loop-k
+add_block_at : tie.Need-overflow_add-first invariant-loop-k decreases-loop-k
 add_block_at c = search start_fits
 
-sub_block_at : tie.Need-overflow-sub-block-at invariant-loop-k decreases-loop-k
+sub_block_at : tie.Need-overflow_sub-count invariant-loop-k decreases-loop-k
 sub_block_at c = search rules
 
 block_at_requires : tie.Need-block_at-w-requires invariant-loop-k decreases-loop-k
@@ -46,7 +46,7 @@ block_at_requires c κs = let p =
       c.row_count-rows.ensures.few,
     )
 
-add_repair_block : tie.Need-overflow-add-repair-block invariant-loop-k decreases-loop-k
+add_repair_block : tie.Need-overflow_add-first-in-loop-k invariant-loop-k decreases-loop-k
 add_repair_block c = search rules
 
 repair_block_requires : tie.Need-repair_block-requires invariant-loop-k decreases-loop-k
@@ -64,7 +64,7 @@ repair_block_requires c κs =
           o.invariant.2 o.invariant.3 o.invariant.4 o.invariant.5 o.invariant.6 o.invariant.7,
     )
 
-add_k : tie.Need-overflow-add-k invariant-loop-k decreases-loop-k
+add_k : tie.Need-overflow_add-k invariant-loop-k decreases-loop-k
 add_k c = search rules
 
 loop_less : tie.Need-loop-k-smaller invariant-loop-k decreases-loop-k
@@ -80,15 +80,15 @@ loop_again c =
     let w =
     c.block_at-w.ensures.1.within in (
       omega arith,
-      m.auto.sums ∙ o.inv.1,
-      m.auto.sides ∙ o.inv.2,
+      m.auto.sums ∙ o.invariant.1,
+      m.auto.sides ∙ o.invariant.2,
       m.auto.found
-          ∙ o.inv.3,
-      m.auto.points ∙ o.inv.4,
-      m.auto.coefs ∙ o.inv.5,
-      m.auto.row ∙ o.inv.6,
-      m.auto.cur ∙ o.inv.7,
-      piece_more gf256 a.l a.lost.now a.helpers.now a.shares.now a.host.now a.first o.k _ a.spare.now o.spare _ o.inv.8
+          ∙ o.invariant.3,
+      m.auto.points ∙ o.invariant.4,
+      m.auto.coefs ∙ o.invariant.5,
+      m.auto.row ∙ o.invariant.6,
+      m.auto.cur ∙ o.invariant.7,
+      piece_more gf256 a.l a.lost.now a.helpers.now a.shares.now a.host.now a.first o.k _ a.spare.now o.spare _ o.invariant.8
           m.ensures,
     )
 

@@ -10,10 +10,10 @@ use Rattle.pieces257.proofs.repair_block.Tie as tie
 shared_slice_read_h : tie.Need-bounds-lost-0
 shared_slice_read_h c = search rules
 
-div_h : tie.Need-nonzero-div-h
+div_h : tie.Need-nonzero_div-h
 div_h c = search rules
 
-cast_e : tie.Need-overflow-cast-e
+cast_e : tie.Need-overflow_cast-e
 cast_e c = search rules
 
 block_sums_requires : tie.Need-block_sums-requires
@@ -29,11 +29,11 @@ repair_block_requires c κs =
     c.block_sums.auto in (
       repairing_of gf257.order a.l a.lost.now a.helpers.now a.shares.now a.host.now a.w a.first a.spare.now a.sums.now
           a.sides.now a.found.now a.points.now a.coefs.now a.row.now a.cur.now c.requires.0 c.requires.1 c.requires.2 c.requires.3 gf257 _
-          k.0,
+          k.sums,
       space_of gf257.order a.l a.lost.now a.helpers.now a.shares.now a.host.now a.w a.first a.spare.now a.sums.now
           a.sides.now a.found.now a.points.now a.coefs.now a.row.now a.cur.now c.requires.0 c.requires.1 c.requires.2 c.requires.3 _ _ _ _ _ _
-          k.1.1.1.1.1.1.1.1.0 k.1.1.1.1.1.1.1.1.1.0 k.1.1.1.1.1.1.1.1.1.1.0 k.1.1.1.1.1.1.1.1.1.1.1.0
-          k.1.1.1.1.1.1.1.1.1.1.1.1.0 k.1.1.1.1.1.1.1.1.1.1.1.1.1.0,
+          k.sides k.found k.points k.coefs
+          k.row k.cur,
       c.requires.0.spare_long,
     )
 

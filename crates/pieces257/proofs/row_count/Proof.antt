@@ -10,7 +10,7 @@ unknown_count_requires c κs = search rules
 digit_count_requires : tie.Need-digit_count-requires
 digit_count_requires c κs = search rules
 
-mul_host_sums : tie.Need-overflow-mul-host-sums
+mul_host_sums : tie.Need-overflow_mul-host_sums
 mul_host_sums c = search rows_fit
 
 returns : tie.Need-returns-then-unknowns-host_sums
