@@ -16,5 +16,5 @@ places_refusal_spec =
     (λ c. search read_2)
     (λ c κs. search rules)
     (λ c. search read_9)
-    (λ c κs. formed_reads _ _ _ proper2 c.well-formed-2.ensures c.if-not-well_formed.false-raw)
+    (λ c κs. formed_reads _ _ _ proper2 c.well_formed-2.ensures c.if-not-well_formed.false-raw)
     (λ c. search read_formed))
