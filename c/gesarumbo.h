@@ -60,44 +60,44 @@
  *
  *                                       field of 256      field of 257
  *     call                            stack     code    stack     code
- *     measure                           256      459      256      459
- *     test                            3,136   21,808    5,120    8,304
- *     store                          15,424   56,408   22,208   22,757
- *     recover                        15,296   58,478   22,208   25,582
- *     recover_correcting             15,744   59,335   22,592   26,439
- *     test_kept                      22,272   59,179   35,776   25,732
- *     share                           5,568   22,656    9,216   28,784
- *     share_add                       5,504   22,528    9,216   29,376
- *     share_many                      5,568   22,665    9,216   28,793
- *     share_add_many                  5,504   22,537    9,216   29,385
- *     repair                         14,592   48,071   26,304   36,487
- *     repair_many                    14,528   48,055   26,304   36,471
- *     repair_correcting              43,008   55,968   83,008   40,515
- *     card                           11,392   34,569   21,568   18,348
- *     card_test                      11,392   34,602   21,568   19,046
- *     card_repair                    13,120   45,200   24,768   30,259
- *     read_part                         256    1,252      256    1,252
- *     write_image                       384    3,393      448    4,082
- *     read_image                        448    3,522      448    3,868
- *     margin                            256    2,890      256    2,890
- *     states                            512    4,169      640    4,568
- *     gather                            640    5,464      704    5,990
- *     gather_rack                       768    6,770      832    6,793
- *     scrub_reset                       256      454      256      454
- *     scrub                           3,264   22,153    5,248   10,073
+ *     measure                           256      511      256      511
+ *     test                            3,072   23,550    4,800    8,711
+ *     store                          15,040   58,341   22,080   22,827
+ *     recover                        14,912   60,245   21,952   25,606
+ *     recover_correcting             15,296   60,965   22,336   26,326
+ *     test_kept                      21,696   60,597   35,392   25,721
+ *     share                           5,504   22,051    9,216   28,980
+ *     share_add                       5,440   21,955    9,152   29,572
+ *     share_many                      5,504   22,070    9,216   28,999
+ *     share_add_many                  5,440   21,974    9,152   29,591
+ *     repair                         14,016   48,798   25,792   36,383
+ *     repair_many                    14,016   48,788   25,792   36,373
+ *     repair_correcting              42,432   56,809   82,624   40,034
+ *     card                           11,328   34,876   21,504   18,524
+ *     card_test                      11,328   34,901   21,504   19,294
+ *     card_repair                    13,056   46,206   24,704   30,950
+ *     read_part                         256    1,199      256    1,199
+ *     write_image                       448    3,600      448    4,305
+ *     read_image                        384    3,503      448    3,935
+ *     margin                            256    2,910      256    2,910
+ *     states                            512    4,194      640    4,612
+ *     gather                            576    5,551      704    6,196
+ *     gather_rack                       704    6,906      832    6,875
+ *     scrub_reset                       320      474      320      474
+ *     scrub                           3,136   24,013    4,864   10,398
  *     scrub_reset_in_place              320      485      320      485
- *     scrub_in_place                  3,264   22,183    5,248   10,103
- *     store_batch                    17,536   17,559   26,944    9,487
- *     share_batch                       896   18,398      512   22,995
- *     repair_batch                   11,648   38,082   21,824   26,980
- *     all calls                      43,008  156,848   83,008  124,048
+ *     scrub_in_place                  3,136   24,020    4,864   10,405
+ *     store_batch                    17,600   19,654   27,136   10,635
+ *     share_batch                       896   17,920      512   23,152
+ *     repair_batch                   11,584   38,646   21,760   27,108
+ *     all calls                      42,432  162,847   82,624  127,761
  *
- *     checksum                        2,112    4,912
- *     box_store                         256    6,164
- *     box_data                          512    6,338
- *     box_recover                       448    5,930
- *     box_share                         192       95
- *     box_repair                        192      330
+ *     checksum                        2,240    4,954
+ *     box_store                         256    6,719
+ *     box_data                          384    7,353
+ *     box_recover                       384    5,831
+ *     box_share                         192      152
+ *     box_repair                        192      458
  *
  * From trays to records. Which trays are good is no question for the caller: gesarumbo_gather takes
  * what stands at all places of a cabinet, anything at all, and gives the symbols of the trays that

@@ -1,5 +1,5 @@
 // Made by tools/twin.py from crates/batch_store/src/lib.rt.
-// Storing many codewords of one layout at once, interleaved: symbol (x, j) of codeword q of `many` stands at (typeof.x.L + j)·many + q, and likewise the data. Promises
+// Storing many codewords of one layout at once, interleaved: symbol (x, j) of codeword q of `many` stands at (x·L + j)·many + q, and likewise the data. Promises
 // of every codeword what storing promises of one; a layout or length that does not fit is refused and no symbol changes.
 #![tactic(auto)]
 

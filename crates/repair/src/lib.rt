@@ -146,8 +146,7 @@ fn repair_lists(
     }
 }
 
-// Repairs a piece of the lost trays with the helper racks: a list of trays and a list of racks, which cannot be exchanged. The lists and the spare come first, as
-// `typed_lists` walks them.
+// Repairs a piece of the lost trays with the helper racks: a list of trays and a list of racks, which cannot be exchanged. The lists and the spare come first.
 pub fn repair_many<'t, 'r, 'c, 's, 'h>(
     lost: Trays<'t>,
     helpers: Racks<'r>,

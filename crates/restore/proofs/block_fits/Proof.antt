@@ -18,8 +18,7 @@ block_fits_spec =
     tie.close (tie.spec
     (λ c κs. search rules)
     (λ c. search rules)
-    (λ c κs.
-    (
+    (λ c κs. (
       c.requires.0,
       room_all c.args.l c.args.w c.check_count-r.result c.args.sums.now c.args.found.now c.args.points.now
           c.args.coefs.now c.args.row.now c.args.cur.now c.check_count-r.ensures c.requires.4 c.requires.5,

@@ -42,7 +42,7 @@ found_terms_spec =
       search rules,
       search rules,
       search rules,
-          let a = c.args in terms_more working a.l a.w a.first a.r a.es.now a.found.now c.loop-k.k c.loop-k.cur c.copy.new.out
+      let a = c.args in terms_more working a.l a.w a.first a.r a.es.now a.found.now c.loop-k.k c.loop-k.cur c.copy.new.out
           c.tray_points.new.row a.sums.now c.loop-k.sums c.add_terms.new.sums c.loop-k.invariant.4 c.copy.ensures c.tray_points.ensures
           c.add_terms.ensures,
     ))

@@ -10,8 +10,7 @@ use Rattle.restore.proofs.restore_block.Tie as tie
 pub restore_block_spec : {M : Type 1} → statement M
 restore_block_spec =
     tie.close (tie.spec
-    (λ c κs.
-    (
+    (λ c κs. (
       c.requires.0,
       room_few c.args.l c.args.w c.args.es.now c.args.sums.now c.args.found.now c.args.points.now
           c.args.coefs.now c.args.row.now c.args.cur.now c.requires.3.listed c.requires.4 c.requires.5,
