@@ -98,8 +98,11 @@ def difference(message):
 
 
 def function(text, path, line):
-    """The function of a file of src/ in which a line stands: the last that begins there or above."""
-    names = re.findall(r'^ *(?:pub )?(?:extern "C" )?fn (\w+)', '\n'.join(text.split('\n')[:line]), re.M)
+    """The function of a file of src/ in which a line stands: the last that begins there or above, its attributes with it."""
+    lines = text.split('\n')
+    while line < len(lines) and lines[line - 1].lstrip().startswith('#['):
+        line += 1
+    names = re.findall(r'^ *(?:pub )?(?:extern "C" )?fn (\w+)', '\n'.join(lines[:line]), re.M)
     module = re.sub(r'^src/|(/mod)?\.rt$', '', path)
     return '::'.join(([] if module in ('lib', 'main') else module.split('/')) + names[-1:])
 
