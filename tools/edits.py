@@ -7,7 +7,7 @@
                                     their own, and names of edits in PROMISES.md that are none, and fail if there is any: the first
                                     step of the gate, since an edit whose text has moved would otherwise fail only after all proofs
     tools/edits.py --logs [FILE]    read what was printed of all edits by `rt ci`: fail where an edit was not tried or not refused,
-                                    broke only the shape of a proof, was refused only by a limit of the prover, or where no fact is
+                                    broke only the shape of a proof, by rt's words was refused only by a limit of the prover, or where no fact is
                                     found; rows of the table that are not current are named
 
 FILE is what rt printed, target/log/ci if none is named: the gate keeps there what `rt ci` printed. It has one line for each edit,
