@@ -61,43 +61,43 @@
  *                                       field of 256      field of 257
  *     call                            stack     code    stack     code
  *     measure                           256      511      256      511
- *     test                            3,072   23,550    4,800    8,711
- *     store                          15,040   58,341   22,080   22,827
- *     recover                        14,912   60,245   21,952   25,606
- *     recover_correcting             15,296   60,965   22,336   26,326
- *     test_kept                      21,696   60,597   35,392   25,721
- *     share                           5,504   22,051    9,216   28,980
- *     share_add                       5,440   21,955    9,152   29,572
- *     share_many                      5,504   22,070    9,216   28,999
- *     share_add_many                  5,440   21,974    9,152   29,591
- *     repair                         14,016   48,798   25,792   36,383
- *     repair_many                    14,016   48,788   25,792   36,373
- *     repair_correcting              42,432   56,809   82,624   40,034
- *     card                           11,328   34,876   21,504   18,524
- *     card_test                      11,328   34,901   21,504   19,294
- *     card_repair                    13,056   46,206   24,704   30,950
+ *     test                            3,008   23,879    4,800    8,995
+ *     store                          15,040   58,869   22,080   23,051
+ *     recover                        14,912   60,773   21,952   26,486
+ *     recover_correcting             15,296   61,398   22,336   27,111
+ *     test_kept                      21,760   61,002   35,392   26,545
+ *     share                           5,504   22,019    9,216   28,964
+ *     share_add                       5,440   21,923    9,152   29,556
+ *     share_many                      5,504   22,038    9,216   28,983
+ *     share_add_many                  5,440   21,942    9,152   29,575
+ *     repair                         14,016   49,374   25,856   37,343
+ *     repair_many                    14,016   49,364   25,792   37,333
+ *     repair_correcting              42,496   57,054   82,624   41,179
+ *     card                           11,328   35,520   21,504   18,906
+ *     card_test                      11,328   36,211   21,504   20,309
+ *     card_repair                    13,056   47,441   24,704   32,660
  *     read_part                         256    1,199      256    1,199
- *     write_image                       448    3,600      448    4,305
- *     read_image                        384    3,503      448    3,935
- *     margin                            256    2,910      256    2,910
- *     states                            512    4,194      640    4,612
- *     gather                            576    5,551      704    6,196
- *     gather_rack                       704    6,906      832    6,875
+ *     write_image                       448    3,584      448    4,289
+ *     read_image                        384    3,439      448    3,887
+ *     margin                            256      510      256      510
+ *     states                            512    4,130      640    4,564
+ *     gather                            576    5,487      704    6,191
+ *     gather_rack                       704    5,991      832    6,565
  *     scrub_reset                       320      474      320      474
- *     scrub                           3,136   24,013    4,864   10,398
+ *     scrub                           3,072   24,349    4,864   10,702
  *     scrub_reset_in_place              320      485      320      485
- *     scrub_in_place                  3,136   24,020    4,864   10,405
- *     store_batch                    17,600   19,654   27,136   10,635
- *     share_batch                       896   17,920      512   23,152
- *     repair_batch                   11,584   38,646   21,760   27,108
- *     all calls                      42,432  162,847   82,624  127,761
+ *     scrub_in_place                  3,072   24,356    4,864   10,709
+ *     store_batch                    17,600   19,638   27,136   10,619
+ *     share_batch                       896   17,904      512   23,136
+ *     repair_batch                   11,584   39,344   21,760   27,626
+ *     all calls                      42,496  162,495   82,624  129,633
  *
- *     checksum                        2,240    4,954
- *     box_store                         256    6,719
- *     box_data                          384    7,353
- *     box_recover                       384    5,831
- *     box_share                         192      152
- *     box_repair                        192      458
+ *     checksum                        2,240    4,971
+ *     box_store                         256    6,703
+ *     box_data                          384    7,561
+ *     box_recover                       384    6,039
+ *     box_share                         192      135
+ *     box_repair                        192      503
  *
  * From trays to records. Which trays are good is no question for the caller: gesarumbo_gather takes
  * what stands at all places of a cabinet, anything at all, and gives the symbols of the trays that

@@ -8,8 +8,8 @@ What is made is laid out by `rt fmt` in a temporary folder and compared byte for
 belong (in a made crate, or among the boundary's made files) and is not made is named too, and removed where files are written.
 .gitattributes marks these places as generated, from the same list.
 
-A twin crate X257 has the code of X over 16-bit numbers, and the answers of its proofs (Invariants.antt and Answers.antt, or
-Proof.antt, in proofs/F/). Definitions and lemmas are not copied: they are stated in X over any field, and the twin cites them there.
+A twin crate X257 has the code of X over 16-bit numbers, and the answers of its proofs (Invariants.antt and Answers.antt
+in proofs/F/). Definitions and lemmas are not copied: they are stated in X over any field, and the twin cites them there.
 A place and a part of 16-bit numbers ask one fact more than those of bytes: its answer stands in the first field's proof in a comment
 that begins with `twin:`, which is opened here. Images and states stay bytes, and the edition of images is exchanged with the field.
 Where a crate calls one that has no twin, the twin calls the plain crate whose contract that one repeats (PLAIN).
@@ -25,13 +25,8 @@ ROOT = os.path.join(os.path.dirname(os.path.abspath(__file__)), '..', 'crates')
 
 # the crates that have a twin, and those of their functions that return a symbol
 TWINS = {
-    'kernel': ['at', 'gather_apart', 'gather_grid'],
-    'columns': [],
-    'syndrome': [],
     'solving': [],
     'restore': [],
-    'range': ['higher', 'highest', 'highest_apart', 'highest_of_four'],
-    'testing': [],
     'sums': ['digit_point'],
     'group': [],
     'multipliers': [],
@@ -41,7 +36,6 @@ TWINS = {
     'correcting': [],
     'share': [],
     'batch_share': [],
-    'seen': [],
     'repair': [],
     'batch_repair': [],
     'reading': [],
@@ -54,12 +48,11 @@ TWINS = {
     'batch_restore': [],
     'batch_store': [],
     'scrub': [],
-    'points': ['point_power', 'place_power'],
 }
 # crates without a twin, and those whose functions a twin calls in their place: the names and the contracts are the same
 PLAIN = {'rack_checks': 'syndrome', 'rack_solving': 'solving'}
 # crates that the other field has its own of, written by hand
-OWN = ['symbol', 'planes', 'image', 'batch_kernel']
+OWN = ['symbol', 'image']
 # what both fields take from the first field's crate: types, and of images the header and the grounds
 TAKEN = {
     'repair': ['Repaired', 'RepairNumbers'],
@@ -84,6 +77,7 @@ def symbols(text, returning):
     text = re.sub(r'(?<!states: &)(?<!states: &mut )(?<!image: &)(?<!images: &)\[u8\]', '[u16]', text)
     text = re.sub(r'(\d)u8\b', r'\1u16', text)
     text = re.sub(r': u8\b', ': u16', text)
+    text = re.sub(r'\bu8::', 'u16::', text)
     for crate, plain in PLAIN.items():
         text = re.sub(r'(?<![\w:])%s::' % crate, plain + '::', text)
     for f in returning:
@@ -96,7 +90,7 @@ def symbols(text, returning):
 
 def field(text):
     """The definitions of the other field, and the edition of its images."""
-    text = text.replace('gf256', 'gf257').replace('Rattle.symbol.', 'Rattle.symbol257.').replace('Rattle.batch_kernel.specs.Ready.', 'Rattle.batch_kernel257.specs.Ready.')
+    text = text.replace('gf256', 'gf257').replace('Rattle.symbol.', 'Rattle.symbol257.').replace('Rattle.batch_kernel.specs.Ready.', 'Rattle.batch_kernel.specs.Wide.')
     return re.sub(r'\bFIRST\b', 'SECOND', text).replace('edition1', 'edition2').replace('proper1', 'proper2')
 
 

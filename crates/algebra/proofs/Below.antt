@@ -3,7 +3,7 @@
 use mathlib.Core.Path.{◌≡◌, refl, sym, ◌∙◌, ap}
 use mathlib.Core.HLevel.{is_prop→PathP}
 use mathlib.Core.Logic.{⊎_elim}
-use Prim.Native.Nat.{ℕ, zero, ◌%◌, ◌<◌}
+use Prim.Native.Nat.{ℕ, ◌%◌, ◌<◌}
 use native.Mathlib.Nat.{mod-eq_of_lt, eq-zero-or-pos}
 use native.Mathlib.Decide.{ℕ_discrete}
 use lib.Dec.{T, T_prop, ltb, ltb→lt}

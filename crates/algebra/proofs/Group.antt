@@ -4,7 +4,6 @@ use mathlib.Core.Path.{◌≡◌, sym, ◌∙◌, ap, ap₂}
 use Prim.Native.Nat.{ℕ, ◌+◌, ◌-◌, ◌≤◌, ◌<◌}
 use native.Mathlib.Decide.{dec_lt}
 use native.Mathlib.Omega.{arith}
-use Rattle.algebra.specs.Field.{Laws}
 use Rattle.algebra.specs.Sum.{sum, pow}
 use Rattle.algebra.specs.Lagrange.{Distinct, check}
 use Rattle.algebra.specs.Shape.{Shape, Fits}

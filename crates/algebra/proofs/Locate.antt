@@ -8,7 +8,7 @@ use native.Mathlib.Omega.{arith}
 use Rattle.algebra.specs.Sum.{pow}
 use Rattle.algebra.specs.Erasure.{Places}
 use Rattle.algebra.specs.Shape.{Shape, Fits}
-use Rattle.algebra.specs.Points.{point, rack_sum}
+use Rattle.algebra.specs.Points.{rack_sum}
 use Rattle.algebra.specs.Layers.{digit, layer_of}
 use Rattle.algebra.specs.Cabinet.{Rising, Codeword, share_symbol, Helping, Solution}
 use Rattle.algebra.specs.Group.{free, group_point, group_word}

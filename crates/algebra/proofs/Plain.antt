@@ -1,13 +1,12 @@
 -- Plain numbers that stand for elements: their sums, differences, products and powers stand for those of the elements.
 -- Assumes nothing.
-use mathlib.Core.Path.{◌≡◌, refl, sym, ap, ◌∙◌}
+use mathlib.Core.Path.{◌≡◌, sym, ap, ◌∙◌}
 use Prim.Native.Nat.{ℕ, suc, ◌+◌, ◌*◌, ◌/◌, ◌%◌, ◌<◌}
 use native.Mathlib.Omega.{arith}
 use native.Mathlib.Nat.{div-add-mod}
 use Rattle.algebra.specs.Field.{Laws}
-use Rattle.algebra.specs.Coding.{Coded}
 use Rattle.algebra.specs.Sum.{pow}
-use Rattle.algebra.specs.Shape.{Field, FieldLaws, Root}
+use Rattle.algebra.specs.Shape.{Field}
 use Rattle.algebra.specs.Plain.{reduced, plus, minus, times, raised, root_power, Working}
 use Rattle.algebra.proofs.Coding.{elem_same as same_number}
 use Rattle.algebra.proofs.Pow.{pow_zero, pow_suc, pow_add, pow_mul, mul_pow, one_pow}

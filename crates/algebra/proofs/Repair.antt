@@ -7,7 +7,7 @@ use native.Mathlib.Decide.{dec_lt}
 use native.Mathlib.Omega.{arith}
 use Rattle.algebra.specs.Field.{Ops, Laws}
 use Rattle.algebra.specs.Sum.{sum, pow}
-use Rattle.algebra.specs.Erasure.{Alike, Places, Meets, zeros, recover}
+use Rattle.algebra.specs.Erasure.{Places, Meets, zeros, recover}
 use Rattle.algebra.specs.Shape.{Shape, Fits}
 use Rattle.algebra.specs.Points.{point, rack_check}
 use Rattle.algebra.specs.Cabinet.{Rising, Helping}

@@ -6,10 +6,9 @@ use Prim.Native.Nat.{ℕ, ◌+◌, ◌-◌, ◌%◌, ◌<◌}
 use native.Mathlib.Nat.{mod-lt}
 use native.Mathlib.Omega.{arith}
 use lib.ListN.{get_or}
-use Rattle.algebra.specs.Field.{Ops, Laws}
 use Rattle.algebra.specs.Sum.{pow}
 use Rattle.algebra.specs.Shape.{Field}
-use Rattle.algebra.specs.Plain.{reduced, root_power, PowersIn, LogsIn, Working}
+use Rattle.algebra.specs.Plain.{reduced, PowersIn, LogsIn, Working}
 use Rattle.algebra.proofs.Ring.{mul_zero, mul_comm, mul_cancel}
 use Rattle.algebra.proofs.Pow.{pow_add}
 use Rattle.algebra.proofs.Plain.{elem_zero, elem_reduced, elem_root_power, reduced_below, root_power_mod}
@@ -56,7 +55,3 @@ module _ {A : Type 0} {f : Field A} (W : Working f) where
       elem (get_or powers ((order - get_or logs x 0) % order) 0) ≡ ops.inv (elem a)
   inverse_at logs powers a x L P e d =
       inverse_some logs powers x L P (omega arith) (rw e (reduced_below W a)) ∙ ap ops.inv (ap elem e ∙ elem_reduced W a)
-
-  -- its logarithm
-  pub log_known : (logs : List ℕ) (a x : ℕ) → LogsIn f logs → x ≡ reduced f a → ¬ (x ≡ 0) → get_or logs x 0 < order
-  log_known logs a x L e d = L.below x (omega arith) (rw e (reduced_below W a))

@@ -1,7 +1,6 @@
 -- The checks summed over a group of layers as one system: its points and its word. For code and proofs; document 01's words are in Cabinet.antt.
 -- Assumes nothing.
 use Rattle.std.specs.Prelude.{ℕ, zero, suc, pred, ◌-◌, eqb, ltb}
-use Rattle.algebra.specs.Field.{Ops}
 use Rattle.algebra.specs.Sum.{sum, pow}
 use Rattle.algebra.specs.Shape.{Shape}
 use Rattle.algebra.specs.Points.{point}

@@ -1,7 +1,6 @@
 -- The formulas that solve: a group's host rack sums from its shares, and a word with erased trays. For code and proofs.
 -- Assumes nothing.
 use Rattle.std.specs.Prelude.{ℕ, ◌+◌, ◌-◌, ◌*◌}
-use Rattle.algebra.specs.Field.{Ops}
 use Rattle.algebra.specs.Sum.{pow}
 use Rattle.algebra.specs.Erasure.{fill, zeros, erased, recover}
 use Rattle.algebra.specs.Shape.{Shape}

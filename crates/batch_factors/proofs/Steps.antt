@@ -1,23 +1,22 @@
 -- The steps of the factors.
 -- Assumes nothing.
 use mathlib.Core.Path.{◌≡◌, refl, sym, ap, ap₂, ◌∙◌, subst}
-use mathlib.Core.List.{List, [], ◌∷◌}
-use Prim.Native.Nat.{ℕ, zero, suc, ◌+◌, ◌-◌, ◌*◌, ◌<◌, ◌≤◌}
+use mathlib.Core.List.{List, []}
+use Prim.Native.Nat.{ℕ, zero, suc, ◌+◌, ◌*◌, ◌<◌, ◌≤◌}
 use native.Mathlib.Decide.{ℕ_discrete, dec_lt}
 use native.Mathlib.Nat.{add-zero, zero-add}
 use native.Mathlib.Numerals.{add-one}
 use native.Mathlib.Omega.{arith}
 use mir.Val.{Fits}
 use mir.Syntax.{w64}
-use lib.Dec.{eqb}
 use lib.ListN.{length, get_or, set}
-use Rattle.algebra.specs.Field.{Ops, Laws}
-use Rattle.algebra.specs.Shape.{Field, FieldLaws}
+use Rattle.algebra.specs.Field.{Laws}
+use Rattle.algebra.specs.Shape.{Field}
 use Rattle.algebra.specs.Plain.{minus, times, Working}
-use Rattle.algebra.specs.Poly.{eval, scale, linear}
+use Rattle.algebra.specs.Poly.{eval, linear}
 use Rattle.algebra.specs.Lagrange.{basis}
 use Rattle.algebra.proofs.Cabinet.{choose_same, choose_other}
-use Rattle.algebra.proofs.Ring.{ring, mul_one, mul_zero, zero_mul, mul_assoc as ring-assoc, one_mul}
+use Rattle.algebra.proofs.Ring.{ring, mul_one, zero_mul, mul_assoc as ring-assoc, one_mul}
 use Rattle.algebra.proofs.Poly.{eval_nil, eval_cons, eval_scale, eval_linear}
 use Rattle.algebra.proofs.Lagrange.{basis_zero, basis_same, basis_other}
 use Rattle.algebra.proofs.Plain.{laws, elem_minus, elem_times}

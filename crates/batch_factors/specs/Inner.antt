@@ -1,7 +1,6 @@
 -- The factors of a layer, over any field: what the functions are told and give. Nothing here has to be believed.
 -- Assumes nothing.
 use Rattle.std.specs.Prelude.{◌≡◌, List, ℕ, zero, suc, ◌+◌, ◌*◌, ◌<◌, ◌≤◌, eqb, length, get_or}
-use Rattle.algebra.specs.Field.{Ops}
 use Rattle.algebra.specs.Shape.{Field}
 use Rattle.algebra.specs.Plain.{minus, times}
 use Rattle.algebra.specs.Poly.{eval}

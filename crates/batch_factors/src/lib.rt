@@ -8,7 +8,7 @@ ghost use Rattle.symbol.specs.Elem.{gf256};
 ghost use Rattle.kernel.specs.Inner.{Run, Standing};
 ghost use Rattle.batch_factors.specs.Inner.{step_at, others_at, product_at, row_at, Timed, Inverted, Divided, Solving, Factored};
 
-use batch_kernel::inverse;
+use batch_kernel::BatchSums;
 use symbol::plain::{MINUS_ONE, difference, product};
 
 // The most symbols that are worked out, in whole vectors.
@@ -19,10 +19,8 @@ fn times_step(g: &mut [u8], to: usize, len: usize, xs: &[u8], v: u8)
     requires { (to + len ≤ length g.old) × (len ≤ length xs.now) }
     ensures { Run (step_at gf256 g.old to xs.now v) g.old g.new to len }
 {
-    let mut j = 0usize;
-    while j < len {
+    for j in 0..len {
         g[to + j] = product(g[to + j], difference(xs[j], v));
-        j += 1;
     }
 }
 
@@ -41,10 +39,8 @@ fn times_others(g: &mut [u8], to: usize, len: usize, xs: &[u8], points: &[u8], s
     requires { (to + len ≤ length g.old) × (len ≤ length xs.now) × (s ≤ len) × (s ≤ length points.now) }
     ensures { Standing gf256 (product_at gf256 g.old to xs.now points.now s) g.old g.new to len }
 {
-    let mut q = 0usize;
-    while q < s {
+    for q in 0..s {
         times_point(g, to, len, xs, kernel::at(points, q), q);
-        q += 1;
     }
 }
 
@@ -53,11 +49,9 @@ fn invert(den: &mut [u8], s: usize)
     requires { s ≤ length den.old }
     ensures { Inverted gf256 den.old den.new s }
 {
-    let mut o = 0usize;
-    while o < s {
-        let v = inverse(kernel::at(den, o));
+    for o in 0..s {
+        let v = kernel::at(den, o).inverse();
         kernel::fill(den, o, 1, v);
-        o += 1;
     }
 }
 
@@ -104,10 +98,8 @@ fn factor_rows(
     requires { Solving wide n s g.old known.now points.now × (wide ≤ length den.now) × (wide ≤ length xs.old) × Divided gf256 points.now s den.now }
     ensures { Factored gf256 known.now points.now s wide n g.old g.new }
 {
-    let mut t = 0usize;
-    while t < n {
+    for t in 0..n {
         factor_row(g, t * wide, wide, kernel::at(known, t), points, s, den, xs);
-        t += 1;
     }
 }
 

@@ -9,7 +9,7 @@ ghost use Rattle.symbol257.specs.Elem.{gf257};
 ghost use Rattle.kernel.specs.Inner.{Run, Standing};
 ghost use Rattle.batch_factors.specs.Inner.{step_at, others_at, product_at, row_at, Timed, Inverted, Divided, Solving, Factored};
 
-use batch_kernel257::inverse;
+use batch_kernel::BatchSums;
 use symbol257::plain::{MINUS_ONE, difference, product};
 
 // The most symbols that are worked out, in whole vectors.
@@ -20,10 +20,8 @@ fn times_step(g: &mut [u16], to: usize, len: usize, xs: &[u16], v: u16)
     requires { (to + len ≤ length g.old) × (len ≤ length xs.now) }
     ensures { Run (step_at gf257 g.old to xs.now v) g.old g.new to len }
 {
-    let mut j = 0usize;
-    while j < len {
+    for j in 0..len {
         g[to + j] = product(g[to + j], difference(xs[j], v));
-        j += 1;
     }
 }
 
@@ -32,9 +30,9 @@ fn times_point(g: &mut [u16], to: usize, len: usize, xs: &[u16], v: u16, q: usiz
     requires { (to + len ≤ length g.old) × (len ≤ length xs.now) × (q < len) }
     ensures { Timed gf257 xs.now v q to len g.old g.new }
 {
-    let kept = kernel257::at(g, to + q);
+    let kept = kernel::at(g, to + q);
     times_step(g, to, len, xs, v);
-    kernel257::fill(g, to + q, 1, kept);
+    kernel::fill(g, to + q, 1, kept);
 }
 
 // A run times the differences with each of the first s points, but at each place the point of its own number.
@@ -42,10 +40,8 @@ fn times_others(g: &mut [u16], to: usize, len: usize, xs: &[u16], points: &[u16]
     requires { (to + len ≤ length g.old) × (len ≤ length xs.now) × (s ≤ len) × (s ≤ length points.now) }
     ensures { Standing gf257 (product_at gf257 g.old to xs.now points.now s) g.old g.new to len }
 {
-    let mut q = 0usize;
-    while q < s {
-        times_point(g, to, len, xs, kernel257::at(points, q), q);
-        q += 1;
+    for q in 0..s {
+        times_point(g, to, len, xs, kernel::at(points, q), q);
     }
 }
 
@@ -54,11 +50,9 @@ fn invert(den: &mut [u16], s: usize)
     requires { s ≤ length den.old }
     ensures { Inverted gf257 den.old den.new s }
 {
-    let mut o = 0usize;
-    while o < s {
-        let v = inverse(kernel257::at(den, o));
-        kernel257::fill(den, o, 1, v);
-        o += 1;
+    for o in 0..s {
+        let v = kernel::at(den, o).inverse();
+        kernel::fill(den, o, 1, v);
     }
 }
 
@@ -67,7 +61,7 @@ fn divisors(den: &mut [u16], wide: usize, points: &[u16], s: usize)
     requires { (wide ≤ length den.old) × (wide ≤ length points.now) × (s ≤ wide) }
     ensures { Divided gf257 points.now s den.new }
 {
-    kernel257::fill(den, 0, wide, MINUS_ONE);
+    kernel::fill(den, 0, wide, MINUS_ONE);
     times_others(den, 0, wide, points, points, s);
     invert(den, s);
 }
@@ -86,8 +80,8 @@ fn factor_row(
     requires { (to + wide ≤ length g.old) × (wide ≤ length den.now) × (wide ≤ length xs.old) × (s ≤ wide) × (s ≤ length points.now) }
     ensures { Standing gf257 (row_at gf257 den.now x points.now s) g.old g.new to wide }
 {
-    kernel257::copy(g, to, wide, den, 0);
-    kernel257::fill(xs, 0, wide, x);
+    kernel::copy(g, to, wide, den, 0);
+    kernel::fill(xs, 0, wide, x);
     times_others(g, to, wide, xs, points, s);
 }
 
@@ -105,19 +99,8 @@ fn factor_rows(
     requires { Solving wide n s g.old known.now points.now × (wide ≤ length den.now) × (wide ≤ length xs.old) × Divided gf257 points.now s den.now }
     ensures { Factored gf257 known.now points.now s wide n g.old g.new }
 {
-    let mut t = 0usize;
-    while t < n {
-        factor_row(
-            g,
-            t * wide,
-            wide,
-            kernel257::at(known, t),
-            points,
-            s,
-            den,
-            xs,
-        );
-        t += 1;
+    for t in 0..n {
+        factor_row(g, t * wide, wide, kernel::at(known, t), points, s, den, xs);
     }
 }
 

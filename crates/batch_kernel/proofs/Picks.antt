@@ -3,23 +3,19 @@
 use mathlib.Core.Path.{◌≡◌, refl, sym, ap, ap₂, ◌∙◌, subst}
 use mathlib.Core.List.{List}
 use Prim.Native.Nat.{ℕ, zero, suc, ◌+◌, ◌-◌, ◌*◌, ◌/◌, ◌%◌, ◌^◌, ◌<◌, ◌≤◌}
-use native.Mathlib.Nat.{add-mul, mul_assoc, mod-lt, div-one, div-lt_iff_lt-mul}
-use native.Mathlib.Decide.{dec_lt, ℕ_discrete}
+use native.Mathlib.Nat.{add-mul, mul_assoc, mod-lt, div-one}
+use native.Mathlib.Decide.{ℕ_discrete}
 use native.Mathlib.Omega.{arith}
 use mir.Val.{Fits}
-use mir.Syntax.{w8, w64}
+use mir.Syntax.{w8}
 use lib.Dec.{lit<}
-use lib.ListN.{length, get_or, set, length-set}
-use lib.Seq.{get_or-set_same, get_or-set_other}
-use Rattle.symbol.specs.Elem.{Elem, elem, ops, z, gf256}
+use lib.ListN.{length, get_or}
+use Rattle.symbol.specs.Elem.{elem, ops, z, gf256}
 use Rattle.symbol.proofs.Halves.{elem_half}
 use Rattle.kernel.proofs.Rows.{row_before}
 use Rattle.batch_kernel.specs.Ready.{climbed, weight_at, Column}
-use Rattle.batch_kernel.specs.Inner.{pick_of, pick_at, PickRoom, PickedRow, PickedFour, Prepared}
+use Rattle.batch_kernel.specs.Inner.{pick_of, pick_at, PickedRow, PickedFour, Prepared}
 use Rattle.batch_kernel.proofs.Weights.{climbed_congr}
-
-pub bit_is : (x k r : ℕ) → r ≡ x / 2 ^ k % 2 → (r ≡ x / 2 ^ k % 2) × (r < 2)
-bit_is x k r e = (e, subst (λ y. y < 2) (sym e) (mod-lt (x / 2 ^ k) (lit< tt)))
 
 pub pick_value : (x y v u k a b c d : ℕ) → a ≡ x / 2 ^ k % 2 → b ≡ y / 2 ^ k % 2 → c ≡ v / 2 ^ k % 2 → d ≡ u / 2 ^ k % 2 → a + 2 * b + 4 * c + 8 * d ≡ pick_of x y v u k
 unfolding pick_of
@@ -32,37 +28,7 @@ pub pick_at_is : (g : List ℕ) (at wide k r : ℕ) → r ≡ pick_of (get_or g 
 unfolding pick_at
 pick_at_is g at wide k r e = e
 
-module _ (g : List ℕ) (at wide k to : ℕ) (was : List ℕ) where
-  pub row_none : PickedRow g at wide k to 0 was was
-  row_none = record { long = refl; done = λ o h. absurd (omega arith); small = λ o h. absurd (omega arith); low = λ i h. refl }
-
-  pub row_more : (is : List ℕ) (o n v : ℕ) → o < n → to + n ≤ length was → PickedRow g at wide k to o was is →
-      v ≡ pick_at g (at + o) wide k → v < 16 → PickedRow g at wide k to (o + 1) was (set is (to + o) v)
-  row_more is o n v h room r e small = record {
-    long = length-set is (to + o) v ∙ r.long;
-    done = λ p l. go p l (ℕ_discrete p o);
-    small = λ p l. less p l (ℕ_discrete p o);
-    low = λ i l. get_or-set_other is (to + o) i v 0 (λ q. omega arith) ∙ r.low i l;
-  }
-    where
-      inside : to + o < length is
-      inside = let q = r.long in omega arith
-
-      go : (p : ℕ) → p < o + 1 → Dec (p ≡ o) → get_or (set is (to + o) v) (to + p) 0 ≡ pick_at g (at + p) wide k
-      go p l (yes q) = subst (λ (y : ℕ). get_or (set is (to + o) v) (to + y) 0 ≡ pick_at g (at + y) wide k) (sym q) (get_or-set_same is (to + o) v 0 inside ∙ e)
-      go p l (no q) = get_or-set_other is (to + o) (to + p) v 0 (λ w. q (omega arith)) ∙ r.done p (omega arith)
-
-      less : (p : ℕ) → p < o + 1 → Dec (p ≡ o) → get_or (set is (to + o) v) (to + p) 0 < 16
-      less p l (yes q) = subst (λ (y : ℕ). get_or (set is (to + o) v) (to + y) 0 < 16) (sym q) (subst (λ (y : ℕ). y < 16) (sym (get_or-set_same is (to + o) v 0 inside)) small)
-      less p l (no q) = subst (λ (y : ℕ). y < 16) (sym (get_or-set_other is (to + o) (to + p) v 0 (λ w. q (omega arith)))) (r.small p (omega arith))
-
-  pub row_end : (is : List ℕ) (o n : ℕ) → PickedRow g at wide k to o was is → o ≤ n → n ≤ o → PickedRow g at wide k to n was is
-  row_end is o n r h l = let e : o ≡ n = omega arith in subst (λ (x : ℕ). PickedRow g at wide k to x was is) e r
-
 module _ (g : List ℕ) (at wide to : ℕ) (was : List ℕ) where
-  pub four_none : PickedFour g at wide to 0 was was
-  four_none = record { long = refl; done = λ k o h l. absurd (omega arith); small = λ k o h l. absurd (omega arith); low = λ i h. refl }
-
   pub four_more : (is next : List ℕ) (k : ℕ) → PickedFour g at wide to k was is → PickedRow g at wide k (to + k * wide) wide is next → PickedFour g at wide to (k + 1) was next
   four_more is next k m r = record {
     long = r.long ∙ m.long;
@@ -79,16 +45,7 @@ module _ (g : List ℕ) (at wide to : ℕ) (was : List ℕ) where
       less p o h l (yes q) = subst (λ (y : ℕ). get_or next (to + y * wide + o) 0 < 16) (sym q) (r.small o l)
       less p o h l (no q) = subst (λ (y : ℕ). y < 16) (sym (r.low (to + p * wide + o) (let a = row_before p k wide (omega arith) in omega arith))) (m.small p o (omega arith) l)
 
-  pub four_end : (is : List ℕ) (k n : ℕ) → PickedFour g at wide to k was is → k ≤ n → n ≤ k → PickedFour g at wide to n was is
-  four_end is k n m h l = let e : k ≡ n = omega arith in subst (λ (x : ℕ). PickedFour g at wide to x was is) e m
-
-  pub four_room : (is : List ℕ) (k : ℕ) → PickRoom was (to + 8 * wide) g at wide → length is ≡ length was → k < 8 → PickRoom is (to + k * wide + wide) g at wide
-  four_room is k s e h = record { picks_long = let a = s.picks_long in let b = row_before k 8 wide h in omega arith; g_long = s.g_long }
-
 module _ (g : List ℕ) (wide : ℕ) (was : List ℕ) where
-  pub all_none : Prepared g wide 0 was was
-  all_none = record { long = refl; done = λ q k o h. absurd (omega arith); small = λ q k o h. absurd (omega arith) }
-
   pub all_more : (is next : List ℕ) (q : ℕ) → Prepared g wide q was is → PickedFour g (q * (4 * wide)) wide (q * (8 * wide)) 8 is next → Prepared g wide (q + 1) was next
   all_more is next q m r = record {
     long = r.long ∙ m.long;
@@ -107,42 +64,9 @@ module _ (g : List ℕ) (wide : ℕ) (was : List ℕ) where
       less p k o h hk l (yes e) = subst (λ (y : ℕ). get_or next (y * (8 * wide) + k * wide + o) 0 < 16) (sym e) (r.small k o hk l)
       less p k o h hk l (no d) = subst (λ (y : ℕ). y < 16) (sym (r.low (p * (8 * wide) + k * wide + o) (before p k o h d hk l))) (m.small p k o (omega arith) hk l)
 
-  pub all_end : (is : List ℕ) (q n : ℕ) → Prepared g wide q was is → q ≤ n → n ≤ q → Prepared g wide n was is
-  all_end is q n m h l = let e : q ≡ n = omega arith in subst (λ (x : ℕ). Prepared g wide x was is) e m
-
-  pub all_room : (is : List ℕ) (q n : ℕ) → n * (8 * wide) ≤ length was → n * (4 * wide) ≤ length g → length is ≡ length was → q < n → PickRoom is (q * (8 * wide) + 8 * wide) g (q * (4 * wide)) wide
-  all_room is q n a b e h = record {
-    picks_long = let r = row_before q n (8 * wide) h in omega arith;
-    g_long = let r = row_before q n (4 * wide) h in omega arith;
-  }
-
--- ---- numbers
-module _ (picks : List ℕ) (end : ℕ) (g : List ℕ) (at wide : ℕ) (s : PickRoom picks end g at wide) (o : ℕ) (h : o < wide) where
-  pub reads_in : at + o + 3 * wide < length g
-  reads_in = let a = s.g_long in omega arith
-
-module _ (n wide q : ℕ) (h : q < n) where
-  pub eight_rows_fit : (picks : List ℕ) → n * (8 * wide) ≤ length picks → Fits w64 (length picks) → Fits w64 (8 * wide)
-  eight_rows_fit picks a f = let b = row_before q n (8 * wide) h in omega arith
-
-  pub eight_start_fits : (picks : List ℕ) → n * (8 * wide) ≤ length picks → Fits w64 (length picks) → Fits w64 (q * (8 * wide))
-  eight_start_fits picks a f = let b = row_before q n (8 * wide) h in omega arith
-
-  pub four_rows_fit : (g : List ℕ) → n * (4 * wide) ≤ length g → Fits w64 (length g) → Fits w64 (4 * wide)
-  four_rows_fit g a f = let b = row_before q n (4 * wide) h in omega arith
-
-  pub four_start_fits : (g : List ℕ) → n * (4 * wide) ≤ length g → Fits w64 (length g) → Fits w64 (q * (4 * wide))
-  four_start_fits g a f = let b = row_before q n (4 * wide) h in omega arith
-
-pub step_fits : (picks : List ℕ) (k to : ℕ) (g : List ℕ) (at wide : ℕ) → PickRoom picks (to + 8 * wide) g at wide → k < 8 → Fits w64 (length picks) → Fits w64 (k * wide)
-step_fits picks k to g at wide s h f = let a = s.picks_long in let b = row_before k 8 wide h in omega arith
-
-pub to_fits : (picks : List ℕ) (k to : ℕ) (g : List ℕ) (at wide : ℕ) → PickRoom picks (to + 8 * wide) g at wide → k < 8 → Fits w64 (length picks) → Fits w64 (to + k * wide)
-to_fits picks k to g at wide s h f = let a = s.picks_long in let b = row_before k 8 wide h in omega arith
-
 -- ---- what is made ready weighs as the factors do
 -- the value of a byte's bits is the byte
-byte_climbed : (y n : ℕ) → y < 256 → n < 8 → climbed (λ k. elem (y / 2 ^ k % 2)) n ≡ elem (y / 2 ^ (7 - n))
+byte_climbed : (y n : ℕ) → y < 256 → n < 8 → climbed gf256 (λ k. elem (y / 2 ^ k % 2)) n ≡ elem (y / 2 ^ (7 - n))
 unfolding climbed
 byte_climbed y zero h l = let e : y / 128 % 2 ≡ y / 128 = omega arith in ap elem e
 byte_climbed y (suc n) h l =
@@ -197,7 +121,7 @@ module _ (g : List ℕ) (wide n : ℕ) (was is : List ℕ) (s : Prepared g wide 
       here : (i : ℕ) → i ≡ t * wide + o → bit i ≡ get_or g (t * wide + o) 0 / 2 ^ k % 2
       here i e = ap (λ (y : ℕ). get_or g y 0 / 2 ^ k % 2) e
 
-  pub weight_prepared : ((i : ℕ) → Fits w8 (get_or g i 0)) → (t o : ℕ) → t < n * 4 → o < wide → weight_at is wide t o ≡ elem (get_or g (t * wide + o) 0)
+  pub weight_prepared : ((i : ℕ) → Fits w8 (get_or g i 0)) → (t o : ℕ) → t < n * 4 → o < wide → weight_at gf256 is wide t o ≡ elem (get_or g (t * wide + o) 0)
   unfolding weight_at
   weight_prepared bytes t o h ho =
       climbed_congr _ _ 7 (omega arith) (λ k hk. ap elem (bits_at t k o h hk ho))

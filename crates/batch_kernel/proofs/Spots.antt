@@ -2,14 +2,12 @@
 -- Assumes nothing.
 use mathlib.Core.Path.{◌≡◌, refl, sym, ap, ap₂, ◌∙◌, subst}
 use mathlib.Core.List.{List}
-use Prim.Native.Nat.{ℕ, zero, suc, ◌+◌, ◌-◌, ◌*◌, ◌/◌, ◌%◌, ◌<◌, ◌≤◌}
+use Prim.Native.Nat.{ℕ, ◌+◌, ◌-◌, ◌*◌, ◌/◌, ◌%◌, ◌<◌, ◌≤◌}
 use native.Mathlib.Decide.{dec_lt, ℕ_discrete}
 use native.Mathlib.Omega.{arith}
 use lib.ListN.{length, get_or, set, length-set}
 use lib.Seq.{get_or-set_same, get_or-set_other}
-use Rattle.algebra.specs.Field.{Ops, Laws}
-use Rattle.algebra.specs.Coding.{Coding}
-use Rattle.algebra.specs.Shape.{Field, FieldLaws}
+use Rattle.algebra.specs.Shape.{Field}
 use Rattle.algebra.specs.Plain.{plus, Working}
 use Rattle.algebra.proofs.Ring.{add_zero as plus-zero}
 use Rattle.algebra.proofs.Plain.{laws, elem_plus, elem_zero}
@@ -84,9 +82,6 @@ module _ {A : Type 0} {f : Field A} (W : Working f) where
       g = sum_of f (f.coding.elem a) (f.coding.elem b) (f.coding.elem c) (f.coding.elem d)
 
 module _ {A : Type 0} (f : Field A) (src : List ℕ) (p0 p1 p2 p3 to : ℕ) (was : List ℕ) where
-  pub tabled_none : Tabled f src p0 p1 p2 p3 to 0 was was
-  tabled_none = record { long = refl; done = λ s j h l. absurd (omega arith); low = λ i h. refl }
-
   pub tabled_more : (is next : List ℕ) (j w : ℕ) → j < w → w ≤ 128 → Tabled f src p0 p1 p2 p3 to j was is →
       Spots f (sum_of f (f.coding.elem (get_or src (p0 + j) 0)) (f.coding.elem (get_or src (p1 + j) 0)) (f.coding.elem (get_or src (p2 + j) 0)) (f.coding.elem (get_or src (p3 + j) 0))) is next (to + j) 16 →
       Tabled f src p0 p1 p2 p3 to (j + 1) was next
@@ -103,6 +98,3 @@ module _ {A : Type 0} (f : Field A) (src : List ℕ) (p0 p1 p2 p3 to : ℕ) (was
           sum_of f (f.coding.elem (get_or src (p0 + y) 0)) (f.coding.elem (get_or src (p1 + y) 0)) (f.coding.elem (get_or src (p2 + y) 0)) (f.coding.elem (get_or src (p3 + y) 0)) s) (sym q)
           (let spot : to + s * 128 + j ≡ to + j + s * 128 = omega arith in ap (λ (y : ℕ). f.coding.elem (get_or next y 0)) spot ∙ r.done s k)
       go s i k l (no q) = ap f.coding.elem (r.other (to + s * 128 + i) (λ v p e. omega arith)) ∙ t.done s i k (omega arith)
-
-  pub tabled_end : (is : List ℕ) (j w : ℕ) → Tabled f src p0 p1 p2 p3 to j was is → j ≤ w → w ≤ j → Tabled f src p0 p1 p2 p3 to w was is
-  tabled_end is j w t h l = let e : j ≡ w = omega arith in subst (λ (x : ℕ). Tabled f src p0 p1 p2 p3 to x was is) e t

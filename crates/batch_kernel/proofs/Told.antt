@@ -1,8 +1,8 @@
 -- What the public functions are told, and what the factors made ready say.
 -- Assumes nothing.
-use mathlib.Core.Path.{◌≡◌, refl, sym, ap, ◌∙◌, subst}
+use mathlib.Core.Path.{◌≡◌, sym, ap, subst}
 use mathlib.Core.List.{List}
-use Prim.Native.Nat.{ℕ, ◌+◌, ◌*◌, ◌/◌, ◌<◌, ◌≤◌}
+use Prim.Native.Nat.{ℕ, ◌+◌, ◌*◌, ◌/◌, ◌≤◌}
 use native.Mathlib.Nat.{mul_assoc, add-zero, add_assoc}
 use native.Mathlib.Omega.{arith}
 use mir.Val.{Fits}
@@ -32,13 +32,6 @@ fours n wide a h =
     let b : n * (2 * (8 * wide)) ≡ n * (16 * wide) = ap (λ (y : ℕ). n * y) d in
     omega arith
 
-pub fours_of : (n wide a : ℕ) → n * (8 * wide) ≤ a → n * 2 * (4 * wide) ≤ a
-fours_of n wide a h =
-    let e : n * 2 * (4 * wide) ≡ n * (2 * (4 * wide)) = mul_assoc n 2 (4 * wide) in
-    let d : 2 * (4 * wide) ≡ 8 * wide = omega arith in
-    let b : n * (2 * (4 * wide)) ≡ n * (8 * wide) = ap (λ (y : ℕ). n * y) d in
-    omega arith
-
 module _ (g : List ℕ) (wide n : ℕ) (was is : List ℕ) (s : Prepared g wide (n * 2) was is) where
   pub ready : n * (16 * wide) ≤ length was → Ready is wide n
   ready h = record {
@@ -47,5 +40,5 @@ module _ (g : List ℕ) (wide n : ℕ) (was is : List ℕ) (s : Prepared g wide 
         (column_prepared g wide (n * 2) was is s (fours n wide (length was) h) q o 0 (omega arith) (omega arith));
   }
 
-  pub weighs : ((i : ℕ) → Fits w8 (get_or g i 0)) → Weighs gf256 (weight_at is wide) g wide n
+  pub weighs : ((i : ℕ) → Fits w8 (get_or g i 0)) → Weighs gf256 (weight_at gf256 is wide) g wide n
   weighs bytes = record { at = λ t o h ho. weight_prepared g wide (n * 2) was is s bytes t o (omega arith) ho }

@@ -3,29 +3,22 @@
 use mathlib.Core.Path.{◌≡◌, refl, sym, ap, ap₂, ◌∙◌, subst}
 use mathlib.Core.List.{List}
 use Prim.Native.Nat.{ℕ, zero, suc, ◌+◌, ◌-◌, ◌*◌, ◌/◌, ◌%◌, ◌^◌, ◌<◌, ◌≤◌}
-use native.Mathlib.Nat.{zero-add, add-zero, zero-mul, add-mul, mul_assoc, mod-lt, div-eq_of_lt, div-one}
-use native.Mathlib.Decide.{dec_lt, ℕ_discrete}
+use native.Mathlib.Nat.{zero-add, add-mul}
+use native.Mathlib.Decide.{ℕ_discrete}
 use native.Mathlib.Omega.{arith}
-use mir.Val.{Fits}
-use mir.Syntax.{w8, w64}
-use lib.Dec.{lit<}
-use lib.ListN.{length, get_or, set, length-set}
-use lib.Seq.{get_or-set_same, get_or-set_other}
-use Rattle.algebra.specs.Field.{Ops, Laws}
+use lib.ListN.{length, get_or}
 use Rattle.algebra.specs.Sum.{sum}
-use Rattle.algebra.specs.Coding.{Coding}
-use Rattle.algebra.specs.Shape.{Field, FieldLaws}
+use Rattle.algebra.specs.Shape.{Field}
 use Rattle.algebra.specs.Plain.{plus, Working}
 use Rattle.algebra.proofs.Ring.{ring, add_zero as plus-zero, zero_add as zero-plus, mul_zero, mul_one}
-use Rattle.algebra.proofs.Sum.{sum_congr, sum_add, sum_mul_right, sum_split, sum_zero, sum_suc}
+use Rattle.algebra.proofs.Sum.{sum_congr, sum_add, sum_mul_right, sum_split, sum_zero}
 use Rattle.algebra.proofs.Plain.{elem_plus, plus_below}
-use Rattle.symbol.specs.Arithmetic.{◌⊗◌, mulz}
+use Rattle.symbol.specs.Arithmetic.{mulz}
 use Rattle.symbol.specs.Elem.{Elem, elem, ops, z, gf256}
 use Rattle.symbol.proofs.Elem.{laws, elem_zero, elem_one, elem_⊗}
 use Rattle.symbol.proofs.Halves.{twice_times}
 use Rattle.symbol.proofs.Working.{working}
 use Rattle.kernel.specs.Inner.{Run, Standing, filled, added}
-use Rattle.kernel.proofs.Rows.{row_before}
 use Rattle.batch_kernel.specs.Ready.{climbed, weight_at, Column}
 use Rattle.batch_kernel.specs.Inner.{term_at, two_of, sum_of, rung_at, ladder_at, climbed_at, Tabled, RowsAdded, EightAdded, Summed, Summing}
 
@@ -53,21 +46,6 @@ ladder_is tab picks at wide j a7 a6 a5 a4 a3 a2 a1 a0 e7 e6 e5 e4 e3 e2 e1 e0 = 
     up : (k a b : ℕ) (x : Elem) → elem a ≡ x → elem b ≡ ops.add (ops.mul (elem a) z) (rung_at gf256 tab picks at wide j k) → elem b ≡ ops.add (ops.mul x z) (rung_at gf256 tab picks at wide j k)
     up k a b x ea eb = eb ∙ ap (λ y. ops.add (ops.mul y z) (rung_at gf256 tab picks at wide j k)) ea
 
-pub climb_more : (g : ℕ → Elem) (was is : List ℕ) (j w v : ℕ) → j < w → w ≤ length was → Standing gf256 g was is 0 j → elem v ≡ g j → Standing gf256 g was (set is j v) 0 (j + 1)
-climb_more g was is j w v h l s e = record {
-  long = length-set is j v ∙ s.long;
-  done = λ i k. go i k (ℕ_discrete i j);
-  low = λ i k. absurd (omega arith);
-  high = λ i k. get_or-set_other is j i v 0 (λ q. omega arith) ∙ s.high i (omega arith);
-}
-  where
-    inside : j < length is
-    inside = let q = s.long in omega arith
-
-    go : (i : ℕ) → i < j + 1 → Dec (i ≡ j) → elem (get_or (set is j v) (0 + i) 0) ≡ g i
-    go i k (yes q) = subst (λ (y : ℕ). elem (get_or (set is j v) (0 + y) 0) ≡ g y) (sym q) (ap (λ (y : ℕ). elem (get_or (set is j v) y 0)) (zero-add j) ∙ ap elem (get_or-set_same is j v 0 inside) ∙ e)
-    go i k (no q) = ap elem (get_or-set_other is j (0 + i) v 0 (λ p. q (omega arith))) ∙ s.done i (omega arith)
-
 pub row_added : (tab picks : List ℕ) (at wide : ℕ) (c0 cur acc is : List ℕ) (to w : ℕ) → Standing gf256 (ladder_at tab picks at wide) c0 cur 0 w → Run (added gf256 acc to cur 0) acc is to w →
     Run (climbed_at tab picks at wide acc to) acc is to w
 unfolding added climbed_at plus
@@ -80,9 +58,6 @@ row_added tab picks at wide c0 cur acc is to w s r = record {
 
 -- ---- the output rows
 module _ (tab picks : List ℕ) (at wide w : ℕ) (was : List ℕ) where
-  pub rows_none : RowsAdded tab picks at wide w was was 0
-  rows_none = record { long = refl; done = λ o j h l. absurd (omega arith); rest = λ i h. refl }
-
   pub rows_more : (is next : List ℕ) (o : ℕ) → w ≤ 128 → RowsAdded tab picks at wide w was is o → Run (climbed_at tab picks (at + o) wide is (o * 128)) is next (o * 128) w →
       RowsAdded tab picks at wide w was next (o + 1)
   unfolding climbed_at
@@ -97,9 +72,6 @@ module _ (tab picks : List ℕ) (at wide w : ℕ) (was : List ℕ) where
           subst (λ (y : ℕ). get_or next (y * 128 + j) 0 ≡ gf256.coding.val (ops.add (elem (get_or was (y * 128 + j) 0)) (ladder_at tab picks (at + y) wide j))) (sym q)
           (r.done j l ∙ ap (λ (y : ℕ). gf256.coding.val (ops.add (elem y) (ladder_at tab picks (at + o) wide j))) (m.rest (o * 128 + j) (omega arith)))
       go p j h l (no q) = r.low (p * 128 + j) (omega arith) ∙ m.done p j (omega arith) l
-
-  pub rows_end : (is : List ℕ) (o rows : ℕ) → RowsAdded tab picks at wide w was is o → o ≤ rows → rows ≤ o → RowsAdded tab picks at wide w was is rows
-  rows_end is o rows m h l = let e : o ≡ rows = omega arith in subst (λ (x : ℕ). RowsAdded tab picks at wide w was is x) e m
 
 -- ---- bits
 -- some of two, by two bits
@@ -132,19 +104,19 @@ sum_bits x p h =
     order a b c d = let L = laws in simp (ring, L)
 
 -- the value of bits is linear
-climbed_sum : (x : ℕ → Elem) (b : ℕ → ℕ → Elem) (m n : ℕ) → climbed (λ k. sum ops m (λ i. ops.mul (x i) (b i k))) n ≡ sum ops m (λ i. ops.mul (x i) (climbed (b i) n))
+climbed_sum : (x : ℕ → Elem) (b : ℕ → ℕ → Elem) (m n : ℕ) → climbed gf256 (λ k. sum ops m (λ i. ops.mul (x i) (b i k))) n ≡ sum ops m (λ i. ops.mul (x i) (climbed gf256 (b i) n))
 unfolding climbed
 climbed_sum x b m zero = refl
 climbed_sum x b m (suc n) =
     ap (λ y. ops.add (ops.mul y z) (sum ops m (λ i. ops.mul (x i) (b i (6 - n))))) (climbed_sum x b m n)
-    ∙ ap (λ y. ops.add y (sum ops m (λ i. ops.mul (x i) (b i (6 - n))))) (sym (sum_mul_right ops laws m z (λ i. ops.mul (x i) (climbed (b i) n))))
-    ∙ sym (sum_add ops laws m (λ i. ops.mul (ops.mul (x i) (climbed (b i) n)) z) (λ i. ops.mul (x i) (b i (6 - n))))
-    ∙ sum_congr ops m _ _ (λ i h. join (x i) (climbed (b i) n) z (b i (6 - n)))
+    ∙ ap (λ y. ops.add y (sum ops m (λ i. ops.mul (x i) (b i (6 - n))))) (sym (sum_mul_right ops laws m z (λ i. ops.mul (x i) (climbed gf256 (b i) n))))
+    ∙ sym (sum_add ops laws m (λ i. ops.mul (ops.mul (x i) (climbed gf256 (b i) n)) z) (λ i. ops.mul (x i) (b i (6 - n))))
+    ∙ sum_congr ops m _ _ (λ i h. join (x i) (climbed gf256 (b i) n) z (b i (6 - n)))
   where
     join : (a c y d : Elem) → ops.add (ops.mul (ops.mul a c) y) (ops.mul a d) ≡ ops.mul a (ops.add (ops.mul c y) d)
     join a c y d = let L = laws in simp (ring, L)
 
-pub climbed_congr : (r s : ℕ → Elem) (n : ℕ) → n < 8 → ((k : ℕ) → k < 8 → r k ≡ s k) → climbed r n ≡ climbed s n
+pub climbed_congr : (r s : ℕ → Elem) (n : ℕ) → n < 8 → ((k : ℕ) → k < 8 → r k ≡ s k) → climbed gf256 r n ≡ climbed gf256 s n
 unfolding climbed
 climbed_congr r s zero h e = e 7 (omega arith)
 climbed_congr r s (suc n) h e = ap₂ (λ x y. ops.add (ops.mul x z) y) (climbed_congr r s n (omega arith) e) (e (6 - n) (omega arith))
@@ -237,7 +209,7 @@ module _ (src at picks : List ℕ) (wide first w q o j : ℕ) (tab mid is : List
           let v : i ≡ (4 + i) % 4 = omega arith in
           ap₂ (λ (y e : ℕ). get_or picks (q * 16 * wide + first + o + y * wide) 0 / 2 ^ e % 2) u v
 
-  weight_is : (i : ℕ) → climbed (b i) 7 ≡ weight_at picks wide (q * 8 + i) (first + o)
+  weight_is : (i : ℕ) → climbed gf256 (b i) 7 ≡ weight_at gf256 picks wide (q * 8 + i) (first + o)
   unfolding weight_at b place
   weight_is i = climbed_congr _ _ 7 (omega arith) (λ k h. ap₂ (λ (y e : ℕ). elem (get_or picks y 0 / 2 ^ e % 2)) (spot k) down)
     where
@@ -251,7 +223,7 @@ module _ (src at picks : List ℕ) (wide first w q o j : ℕ) (tab mid is : List
           let s : (q * 16 + (i / 4 * 8 + k)) * wide ≡ q * 16 * wide + (i / 4 * 8 + k) * wide = add-mul (q * 16) (i / 4 * 8 + k) wide in
           omega arith
 
-  pub eight_sum : ladder_at is picks (q * 16 * wide + first + o) wide j ≡ sum ops 8 (λ i. term_at gf256 (weight_at picks wide) src at (first + o) j (q * 8 + i))
+  pub eight_sum : ladder_at is picks (q * 16 * wide + first + o) wide j ≡ sum ops 8 (λ i. term_at gf256 (weight_at gf256 picks wide) src at (first + o) j (q * 8 + i))
   unfolding ladder_at term_at x
   eight_sum =
       climbed_congr _ _ 7 (omega arith) rung_sum ∙ climbed_sum x b 8 7
@@ -260,7 +232,7 @@ module _ (src at picks : List ℕ) (wide first w q o j : ℕ) (tab mid is : List
 pub eight_done : (src at picks : List ℕ) (wide first w rows q : ℕ) (tab mid last acc is a0 : List ℕ) → Summing rows w src at picks wide first acc a0 → q < length at / 8 →
     Tabled gf256 src (get_or at (q * 8) 0) (get_or at (q * 8 + 1) 0) (get_or at (q * 8 + 2) 0) (get_or at (q * 8 + 3) 0) 0 w tab mid →
     Tabled gf256 src (get_or at (q * 8 + 4) 0) (get_or at (q * 8 + 4 + 1) 0) (get_or at (q * 8 + 4 + 2) 0) (get_or at (q * 8 + 4 + 3) 0) 2048 w mid last →
-    RowsAdded last picks (q * 16 * wide + first) wide w acc is rows → EightAdded gf256 (weight_at picks wide) src at first w rows q acc is
+    RowsAdded last picks (q * 16 * wide + first) wide w acc is rows → EightAdded gf256 (weight_at gf256 picks wide) src at first w rows q acc is
 eight_done src at picks wide first w rows q tab mid last acc is a0 s hq low high r = record {
   long = r.long;
   done = λ o j ho hj. r.done o j ho hj ∙ ap (λ y. gf256.coding.val (ops.add (elem (get_or acc (o * 128 + j) 0)) y))
@@ -291,110 +263,3 @@ module _ {A : Type 0} {f : Field A} (W : Working f) (weight : ℕ → ℕ → A)
     where
       next_rows : n * 8 + 8 ≡ (n + 1) * 8
       next_rows = omega arith
-
-  pub sums_end : (mid is : List ℕ) (n m : ℕ) → Run (filled 0) was mid 0 (rows * 128) → Summed f weight src at first w rows n mid is → n ≤ m → m ≤ n → Summed f weight src at first w rows m was is
-  sums_end mid is n m r s h l =
-      let e : n ≡ m = omega arith in
-      subst (λ (x : ℕ). Summed f weight src at first w rows x was is) e (record { long = s.long ∙ r.long; done = s.done })
-
--- ---- numbers
-module _ (picks : List ℕ) (at wide : ℕ) (c : Column picks at wide) (k : ℕ) (h : k < 8) where
-  pub low_in : at + k * wide < length picks
-  low_in = c.inside k (omega arith)
-
-  pub high_in : at + (8 + k) * wide < length picks
-  high_in = c.inside (8 + k) (omega arith)
-
-  pub low_fits : Fits w64 (length picks) → Fits w64 (at + k * wide)
-  low_fits f = let a = c.inside k (omega arith) in omega arith
-
-  pub low_step_fits : Fits w64 (length picks) → Fits w64 (k * wide)
-  low_step_fits f = let a = c.inside k (omega arith) in omega arith
-
-  pub high_fits : Fits w64 (length picks) → Fits w64 (at + (8 + k) * wide)
-  high_fits f = let a = c.inside (8 + k) (omega arith) in omega arith
-
-  pub high_step_fits : Fits w64 (length picks) → Fits w64 ((8 + k) * wide)
-  high_step_fits f = let a = c.inside (8 + k) (omega arith) in omega arith
-
-  pub low_small : get_or picks (at + k * wide) 0 < 16
-  low_small = c.small k (omega arith)
-
-  pub high_small : get_or picks (at + (8 + k) * wide) 0 < 16
-  high_small = c.small (8 + k) (omega arith)
-
-  module _ (tab : List ℕ) (j r : ℕ) (l : j < 128) where
-    pub tab_low : 4096 ≤ length tab → r ≡ get_or picks (at + k * wide) 0 * 128 + j → r < length tab
-    tab_low a e = let b = c.small k (omega arith) in omega arith
-
-    pub tab_high : 4096 ≤ length tab → r ≡ get_or picks (at + (8 + k) * wide) 0 * 128 + j → 2048 + r < length tab
-    tab_high a e = let b = c.small (8 + k) (omega arith) in omega arith
-
-    pub tab_high_fits : r ≡ get_or picks (at + (8 + k) * wide) 0 * 128 + j → Fits w64 (2048 + r)
-    tab_high_fits e = let b = c.small (8 + k) (omega arith) in omega arith
-
-module _ (picks : List ℕ) (at wide rows : ℕ) (columns : (o : ℕ) → o < rows → Column picks (at + o) wide) (o : ℕ) (h : o < rows) where
-  pub row_column : Column picks (at + o) wide
-  row_column = columns o h
-
-  pub row_at_fits : Fits w64 (length picks) → Fits w64 (at + o)
-  row_at_fits f = let a = (columns o h).inside 0 (omega arith) in let b = zero-mul wide in omega arith
-
-module _ (src at : List ℕ) (q w : ℕ) (h : (i : ℕ) → i < 4 → get_or at (q + i) 0 + w ≤ length src) where
-  pub first_in : get_or at q 0 + w ≤ length src
-  first_in = subst (λ (y : ℕ). get_or at y 0 + w ≤ length src) (add-zero q) (h 0 (omega arith))
-
-  pub second_in : get_or at (q + 1) 0 + w ≤ length src
-  second_in = h 1 (omega arith)
-
-  pub third_in : get_or at (q + 2) 0 + w ≤ length src
-  third_in = h 2 (omega arith)
-
-  pub fourth_in : get_or at (q + 3) 0 + w ≤ length src
-  fourth_in = h 3 (omega arith)
-
-module _ (rows w : ℕ) (src at picks : List ℕ) (wide first : ℕ) (acc tab : List ℕ) (s : Summing rows w src at picks wide first acc tab) where
-  pub summing_narrow : w ≤ 128
-  summing_narrow = s.narrow
-
-  pub summing_room : (is : List ℕ) → length is ≡ length acc → rows * 128 ≤ length is
-  summing_room is e = let a = s.room in omega arith
-
-  pub summing_sums : (mid is : List ℕ) → length is ≡ length mid → length mid ≡ length tab → 4096 ≤ length is
-  summing_sums mid is e d = let a = s.sums in omega arith
-
-  pub summing_low : 0 + 2048 ≤ length tab
-  summing_low = let a = s.sums in omega arith
-
-  pub summing_high : (is : List ℕ) → length is ≡ length tab → 2048 + 2048 ≤ length is
-  summing_high is e = let a = s.sums in omega arith
-
-  module _ (q : ℕ) (h : q < length at / 8) where
-    pub low_list : q * 8 + 4 ≤ length at
-    low_list = omega arith
-
-    pub high_list : q * 8 + 4 + 4 ≤ length at
-    high_list = omega arith
-
-    pub low_places : (i : ℕ) → i < 4 → get_or at (q * 8 + i) 0 + w ≤ length src
-    low_places i l = s.places (q * 8 + i) (omega arith)
-
-    pub high_places : (i : ℕ) → i < 4 → get_or at (q * 8 + 4 + i) 0 + w ≤ length src
-    high_places i l = s.places (q * 8 + 4 + i) (omega arith)
-
-    pub summing_columns : (o : ℕ) → o < rows → Column picks (q * 16 * wide + first + o) wide
-    summing_columns o l = s.columns q o h l
-
-    picks_in : q * 16 * wide + 16 * wide ≤ length picks
-    picks_in = let a = row_before q (length at / 8) (16 * wide) h in let b = mul_assoc q 16 wide in let c = s.picks_long in omega arith
-
-    pub picks_fits : Fits w64 (length picks) → Fits w64 (q * 16 * wide)
-    picks_fits f = let a = picks_in in omega arith
-
-    pub picks_first_fits : Fits w64 (length picks) → Fits w64 (q * 16 * wide + first)
-    picks_first_fits f = let a = picks_in in let b = s.few in omega arith
-
-pub summing_still : (rows w : ℕ) (src at picks : List ℕ) (wide first : ℕ) (acc tab mid acc' tab' : List ℕ) → Summing rows w src at picks wide first acc tab → Run (filled 0) acc mid 0 (rows * 128) →
-    length acc' ≡ length mid → length tab' ≡ length tab → Summing rows w src at picks wide first acc' tab'
-summing_still rows w src at picks wide first acc tab mid acc' tab' s r a b =
-    record { narrow = s.narrow; room = rw (a ∙ r.long) s.room; sums = rw b s.sums; places = s.places; few = s.few; picks_long = s.picks_long; columns = s.columns }

@@ -1,18 +1,20 @@
 -- Sums of rows, each times a factor: what the functions are told and give. Nothing here has to be believed.
 -- Assumes nothing.
-use Rattle.std.specs.Prelude.{◌≡◌, List, ℕ, zero, suc, ◌+◌, ◌-◌, ◌*◌, ◌/◌, ◌%◌, ◌^◌, ◌<◌, ◌≤◌, length, get_or}
-use Rattle.algebra.specs.Field.{Ops}
+use Rattle.std.specs.Prelude.{◌≡◌, List, ℕ, zero, suc, ◌+◌, ◌*◌, ◌/◌, ◌%◌, ◌^◌, ◌<◌, ◌≤◌, length, get_or}
 use Rattle.algebra.specs.Sum.{sum}
-use Rattle.algebra.specs.Coding.{Coding}
 use Rattle.algebra.specs.Shape.{Field}
-use Rattle.batch_kernel.specs.Ready.{climbed, weight_at, Column}
-use Rattle.symbol.specs.Elem.{Elem, elem, ops, z, gf256}
+use Rattle.batch_kernel.specs.Ready.{climbed, Column}
+use Rattle.symbol.specs.Elem.{Elem, elem, ops, gf256}
 
 -- ---- over any field
 module _ {A : Type 0} (f : Field A) where
   -- what input row t gives to output row o, in column j, with the weights of its factors
   unfoldable pub term_at : (ℕ → ℕ → A) → List ℕ → List ℕ → ℕ → ℕ → ℕ → A
   term_at weight src at o j t = f.ops.mul (f.coding.elem (get_or src (get_or at t 0 + j) 0)) (weight t o)
+
+  -- column j of output row o after n input rows
+  unfoldable pub row_of : (ℕ → ℕ → A) → List ℕ → List ℕ → ℕ → ℕ → ℕ → ℕ
+  row_of weight src at o n j = f.coding.val (sum f.ops n (term_at weight src at o j))
 
   -- the output rows from the number first on, after n times eight input rows
   pub record Summed (weight : ℕ → ℕ → A) (src at : List ℕ) (first w rows n : ℕ) (was is : List ℕ) : Type 0 where
@@ -59,7 +61,7 @@ module _ {A : Type 0} (f : Field A) where
     pub at : (t o : ℕ) → t < n * 8 → o < wide → weight t o ≡ f.coding.elem (get_or g (t * wide + o) 0)
 
 -- rows of a list and room for the output rows
-pub record Laid (rows w : ℕ) (src at : List ℕ) (wide first : ℕ) (acc : List ℕ) : Type 0 where
+pub record Laid {X : Type 0} (rows w : ℕ) (src : List X) (at : List ℕ) (wide first : ℕ) (acc : List X) : Type 0 where
   pub narrow : w ≤ 128
   pub room : rows * 128 ≤ length acc
   pub places : (t : ℕ) → t < length at → get_or at t 0 + w ≤ length src
@@ -67,7 +69,7 @@ pub record Laid (rows w : ℕ) (src at : List ℕ) (wide first : ℕ) (acc : Lis
 
 -- ---- in the first field, by bits
 unfoldable pub ladder_at : List ℕ → List ℕ → ℕ → ℕ → ℕ → Elem
-ladder_at tab picks at wide j = climbed (rung_at gf256 tab picks at wide j) 7
+ladder_at tab picks at wide j = climbed gf256 (rung_at gf256 tab picks at wide j) 7
 
 -- a run plus the sum of eight rows
 unfoldable pub climbed_at : List ℕ → List ℕ → ℕ → ℕ → List ℕ → ℕ → ℕ → ℕ
@@ -118,3 +120,12 @@ pub record Prepared (g : List ℕ) (wide n : ℕ) (was is : List ℕ) : Type 0 w
   pub long : length is ≡ length was
   pub done : (q k o : ℕ) → q < n → k < 8 → o < wide → get_or is (q * (8 * wide) + k * wide + o) 0 ≡ pick_at g (q * (4 * wide) + o) wide k
   pub small : (q k o : ℕ) → q < n → k < 8 → o < wide → get_or is (q * (8 * wide) + k * wide + o) 0 < 16
+
+-- ---- in the second field, row after row
+-- n times eight input rows, and room for an output row
+pub record Adding (n to w : ℕ) (src at picks : List ℕ) (wide o : ℕ) (acc : List ℕ) : Type 0 where
+  pub room : to + w ≤ length acc
+  pub count : n * 8 ≤ length at
+  pub places : (t : ℕ) → t < length at → get_or at t 0 + w ≤ length src
+  pub factors : n * (8 * wide) ≤ length picks
+  pub inside : o < wide

@@ -1,2 +1,3 @@
 pub mod Ready
+pub mod Wide
 pub mod Inner

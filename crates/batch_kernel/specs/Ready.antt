@@ -1,17 +1,16 @@
--- The factors made ready for the sums: what the numbers of a buffer say of the factors. Nothing here has to be believed.
+-- The factors of bytes made ready for the sums: what the numbers of a buffer say of the factors. Nothing here has to be believed.
 -- Assumes nothing.
 use Rattle.std.specs.Prelude.{List, ℕ, zero, suc, ◌+◌, ◌-◌, ◌*◌, ◌/◌, ◌%◌, ◌^◌, ◌<◌, ◌≤◌, length, get_or}
-use Rattle.algebra.specs.Field.{Ops}
-use Rattle.symbol.specs.Elem.{Elem, elem, ops, z}
+use Rattle.algebra.specs.Shape.{Field}
 
 -- the value of eight bits, from the highest down: after n more than the highest
-unfoldable pub climbed : (ℕ → Elem) → ℕ → Elem
-climbed r zero = r 7
-climbed r (suc n) = ops.add (ops.mul (climbed r n) z) (r (6 - n))
+unfoldable pub climbed : {A : Type 0} → Field A → (ℕ → A) → ℕ → A
+climbed f r zero = r 7
+climbed f r (suc n) = f.ops.add (f.ops.mul (climbed f r n) f.root) (r (6 - n))
 
 -- the factor of input row t in output row o: its bits stand in the numbers of the sums of its four rows
-unfoldable pub weight_at : List ℕ → ℕ → ℕ → ℕ → Elem
-weight_at picks wide t o = climbed (λ k. elem (get_or picks ((t / 4 * 8 + k) * wide + o) 0 / 2 ^ (t % 4) % 2)) 7
+unfoldable pub weight_at : {A : Type 0} → Field A → List ℕ → ℕ → ℕ → ℕ → A
+weight_at f picks wide t o = climbed f (λ k. f.coding.elem (get_or picks ((t / 4 * 8 + k) * wide + o) 0 / 2 ^ (t % 4) % 2)) 7
 
 -- sixteen numbers of sums, for one output row
 pub record Column (picks : List ℕ) (at wide : ℕ) : Type 0 where

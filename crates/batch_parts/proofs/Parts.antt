@@ -2,14 +2,13 @@
 -- Assumes nothing.
 use mathlib.Core.Path.{◌≡◌, refl, sym, ap, ◌∙◌, subst}
 use mathlib.Core.List.{List}
-use Prim.Native.Nat.{ℕ, ◌+◌, ◌*◌, ◌/◌, ◌%◌, ◌<◌, ◌≤◌}
+use Prim.Native.Nat.{ℕ, ◌+◌, ◌*◌, ◌/◌, ◌%◌, ◌<◌}
 use native.Mathlib.Nat.{mul-div_cancel, mul-one, mul-zero, add-zero, mod-lt, div-add-mod', div-lt_iff_lt-mul}
 use native.Mathlib.Decide.{dec_lt}
 use native.Mathlib.Omega.{arith}
 use lib.ListN.{length, get_or}
-use Rattle.lists.specs.Lists.{table}
 use Rattle.lists.proofs.Numbers.{cell_in}
-use Rattle.lists.proofs.Tables.{table_length, table_at, table_same, is_table}
+use Rattle.lists.proofs.Tables.{table_length, table_at, is_table}
 use Rattle.algebra.specs.Coding.{Coding, InRange}
 use Rattle.batch_parts.specs.Parts.{part}
 

@@ -12,11 +12,11 @@ use Rattle.layout.specs.declared.Layout.{Layout}
 use Rattle.layout.specs.Layout.{layers, groups, traffic, AdmissibleWith}
 use Rattle.rule.specs.Rule.{Helpers}
 use Rattle.rule.specs.Lost.{lost_place, SoundAlike}
-use Rattle.repair.specs.Calls.{Calls, none, done}
+use Rattle.repair.specs.Calls.{Calls}
 use Rattle.repair.specs.One.{OthersAlike}
 use Rattle.repair.proofs.Single.{cutting_one}
 use Rattle.batch_parts.specs.Parts.{part}
-use Rattle.batch_repair.specs.BatchCalls.{BatchCalls, none, done, refused, CutBatch}
+use Rattle.batch_repair.specs.BatchCalls.{BatchCalls, refused, CutBatch}
 
 module _ {A : Type 0} (f : Field A) (l : Layout) (many x : ℕ) (helpers shares host start : List ℕ) where
   all_groups : groups l ≡ groups l - 0

@@ -2,14 +2,12 @@
 -- Assumes nothing.
 use mathlib.Core.Path.{◌≡◌, refl, sym, ap, ap₂, ◌∙◌, subst}
 use mathlib.Core.List.{List, [], ◌∷◌}
-use Prim.Native.Nat.{ℕ, ◌+◌, ◌-◌, ◌*◌, ◌/◌, ◌%◌, ◌<◌, ◌≤◌, min}
+use Prim.Native.Nat.{ℕ, ◌+◌, ◌-◌, ◌*◌, ◌/◌, ◌<◌, ◌≤◌, min}
 use native.Mathlib.Nat.{one-mul, mul_comm, mul-le-mul_left}
 use native.Mathlib.Omega.{arith}
 use lib.ListN.{length, get_or}
 use borrow.Author.Tests.{leb-true}
 use Rattle.lists.proofs.Numbers.{cell_in, mul_below}
-use Rattle.algebra.specs.Field.{Ops}
-use Rattle.algebra.specs.Sum.{sum}
 use Rattle.algebra.specs.Erasure.{choose}
 use Rattle.algebra.specs.Shape.{Field}
 use Rattle.algebra.specs.Plain.{Working}
@@ -18,7 +16,7 @@ use Rattle.algebra.proofs.Layers.{digit_below, layer_group, layer_back}
 use Rattle.algebra.proofs.Sum.{sum_congr}
 use Rattle.kernel.specs.Inner.{cell}
 use Rattle.layout.specs.declared.Layout.{Layout}
-use Rattle.layout.specs.Layout.{digits, layers, groups, traffic, tray_limit, Cabinet}
+use Rattle.layout.specs.Layout.{digits, layers, groups, tray_limit, Cabinet}
 use Rattle.layout.proofs.Facts.{bounds, rack_in}
 use Rattle.layout.proofs.Numbers.{whole_low, digits_small}
 use Rattle.codeword.specs.Codeword.{symbol_at, Solvable}

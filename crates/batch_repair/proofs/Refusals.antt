@@ -1,16 +1,15 @@
 -- The grounds for refusing, one by one, and what holds where none applies.
 -- Assumes nothing.
-use mathlib.Core.Path.{◌≡◌, refl, sym, ap, ap₂, ◌∙◌, subst}
-use mathlib.Core.Bool.{Bool, true, false, not, ◌&&◌, false≢true}
+use mathlib.Core.Path.{◌≡◌, sym, ap, ◌∙◌}
+use mathlib.Core.Bool.{Bool, true, false, not, ◌&&◌}
 use mathlib.Core.List.{List, [], ◌∷◌}
-use Prim.Native.Nat.{ℕ, ◌+◌, ◌-◌, ◌*◌, ◌/◌, ◌<◌, ◌≤◌, min}
-use native.Mathlib.Nat.{one-mul}
+use Prim.Native.Nat.{ℕ, ◌-◌, ◌*◌, ◌/◌, ◌<◌, ◌≤◌, min}
 use native.Mathlib.Omega.{arith}
 use lib.Dec.{eqb, leb, ltb}
-use lib.ListN.{length, get_or}
-use borrow.Author.Tests.{eq-eqb, lt-ltb, le-leb, lt-leb, eqb-true, ltb-true, leb-true, not-true, not-false}
-use Rattle.lists.specs.Lists.{all, unless, all_below, strictly_rising, absent}
-use Rattle.lists.proofs.Bools.{both, and_true, not_both, passed, told_false, told_true, all_holds, not_true_false}
+use lib.ListN.{length}
+use borrow.Author.Tests.{eq-eqb, lt-ltb, le-leb, lt-leb, eqb-true, ltb-true, leb-true}
+use Rattle.lists.specs.Lists.{unless, all_below, strictly_rising, absent}
+use Rattle.lists.proofs.Bools.{both, passed, told_false, told_true, all_holds}
 use Rattle.lists.proofs.Numbered.{below_all, rising_all, absent_all}
 use Rattle.algebra.specs.Shape.{Field}
 use Rattle.algebra.specs.Plain.{Working}
@@ -71,62 +70,35 @@ after a b c rest r e z =
     let third = passed c 6 0 (omega arith) second.1 in
     simp (first.0, second.0, third.0)
 
-module _ {A : Type 0} (f : Field A) (l : Layout) (many x : ℕ) (helpers shares host : List ℕ) (spare first budget : ℕ) (a : Bool) (ea : a ≡ admissible_with f.order 0 l) where
-  abbrev seen : Bool
-  seen = batch_symbols f l many x shares host first budget
+-- what the tests that were passed leave: the helpers' grounds, and the first group
+module _ {A : Type 0} (f : Field A) (l : Layout) (many x : ℕ) (helpers shares host : List ℕ) (spare first budget : ℕ)
+    (a : Bool) (ea : a ≡ admissible_with f.order 0 l) (na : not a ≡ false)
+    (b : Bool) (eb : b ≡ right_lengths l many (length shares) (length host) spare) (nb : not b ≡ false)
+    (n : ℕ) (en : n ≡ trays l) (hx : x < n) (c : Bool) (ec : c ≡ all_below helpers l.racks) (nc : not c ≡ false)
+    (e : Bool) (ee : e ≡ batch_symbols f l many x shares host first budget) (ne : not e ≡ false)
+    (r : ℕ) (er : r ≡ helpers_ground l x helpers) where
+  inside : ltb x (trays l) ≡ true
+  inside = let z : x < trays l = omega arith in lt-ltb x (trays l) z
 
-  pub return_1 : not a ≡ true → 1 ≡ repair_batch_refusal f l many x helpers shares host spare first budget
+  past : unless (strictly_rising helpers) 4 (unless (eqb (length helpers) l.helpers) 5 (unless (absent helpers (x / l.size)) 6 (unless (leb first (groups l)) 7 0)))
+      ≡ repair_batch_refusal f l many x helpers shares host spare first budget
   unfolding repair_batch_refusal
-  return_1 n = simp (told_false ea n)
+  past = simp (told_true ea na, told_true eb nb, inside, told_true ec nc, told_true ee ne)
 
-  module _ (na : not a ≡ false) (b : Bool) (eb : b ≡ right_lengths l many (length shares) (length host) spare) where
-    pub return_2 : not b ≡ true → 2 ≡ repair_batch_refusal f l many x helpers shares host spare first budget
-    unfolding repair_batch_refusal
-    return_2 n = simp (told_true ea na, told_false eb n)
+  pub return_6 : ¬ (r ≡ 0) → r ≡ repair_batch_refusal f l many x helpers shares host spare first budget
+  unfolding helpers_ground
+  return_6 d = before (strictly_rising helpers) (eqb (length helpers) l.helpers) (absent helpers (x / l.size)) (unless (leb first (groups l)) 7 0) r er d ∙ past
 
-    module _ (nb : not b ≡ false) (n : ℕ) (en : n ≡ trays l) where
-      ground_3 : (x < trays l → all_below helpers l.racks ≡ true → seen ≡ true → ⊥) → 3 ≡ repair_batch_refusal f l many x helpers shares host spare first budget
-      unfolding repair_batch_refusal
-      ground_3 k = simp (
-        told_true ea na,
-        told_true eb nb,
-        not_both (ltb x (trays l) && all_below helpers l.racks) seen (λ p q. let two = both (ltb x (trays l)) (all_below helpers l.racks) p in k (ltb-true _ _ two.0) two.1 q),
-      )
+  module _ (z : r ≡ 0) (g : ℕ) (eg : g ≡ groups l) where
+    rest : unless (leb first (groups l)) 7 0 ≡ repair_batch_refusal f l many x helpers shares host spare first budget
+    unfolding helpers_ground
+    rest = after (strictly_rising helpers) (eqb (length helpers) l.helpers) (absent helpers (x / l.size)) (unless (leb first (groups l)) 7 0) r er z ∙ past
 
-      pub return_3 : n ≤ x → 3 ≡ repair_batch_refusal f l many x helpers shares host spare first budget
-      return_3 k = ground_3 (λ p q r. omega arith)
+    pub return_7 : g < first → 7 ≡ repair_batch_refusal f l many x helpers shares host spare first budget
+    return_7 k = let y : groups l < first = omega arith in sym (simp (lt-leb first (groups l) y)) ∙ rest
 
-      module _ (hx : x < n) (c : Bool) (ec : c ≡ all_below helpers l.racks) where
-        pub return_4 : not c ≡ true → 3 ≡ repair_batch_refusal f l many x helpers shares host spare first budget
-        return_4 k = ground_3 (λ p q r. false≢true (sym (told_false ec k) ∙ q))
-
-        module _ (nc : not c ≡ false) (e : Bool) (ee : e ≡ batch_symbols f l many x shares host first budget) where
-          pub return_5 : not e ≡ true → 3 ≡ repair_batch_refusal f l many x helpers shares host spare first budget
-          return_5 k = ground_3 (λ p q r. false≢true (sym (told_false ee k) ∙ r))
-
-          module _ (ne : not e ≡ false) (r : ℕ) (er : r ≡ helpers_ground l x helpers) where
-            inside : ltb x (trays l) ≡ true
-            inside = let z : x < trays l = omega arith in lt-ltb x (trays l) z
-
-            past : unless (strictly_rising helpers) 4 (unless (eqb (length helpers) l.helpers) 5 (unless (absent helpers (x / l.size)) 6 (unless (leb first (groups l)) 7 0)))
-                ≡ repair_batch_refusal f l many x helpers shares host spare first budget
-            unfolding repair_batch_refusal
-            past = simp (told_true ea na, told_true eb nb, inside, told_true ec nc, told_true ee ne)
-
-            pub return_6 : ¬ (r ≡ 0) → r ≡ repair_batch_refusal f l many x helpers shares host spare first budget
-            unfolding helpers_ground
-            return_6 d = before (strictly_rising helpers) (eqb (length helpers) l.helpers) (absent helpers (x / l.size)) (unless (leb first (groups l)) 7 0) r er d ∙ past
-
-            module _ (z : r ≡ 0) (g : ℕ) (eg : g ≡ groups l) where
-              rest : unless (leb first (groups l)) 7 0 ≡ repair_batch_refusal f l many x helpers shares host spare first budget
-              unfolding helpers_ground
-              rest = after (strictly_rising helpers) (eqb (length helpers) l.helpers) (absent helpers (x / l.size)) (unless (leb first (groups l)) 7 0) r er z ∙ past
-
-              pub return_7 : g < first → 7 ≡ repair_batch_refusal f l many x helpers shares host spare first budget
-              return_7 k = let y : groups l < first = omega arith in sym (simp (lt-leb first (groups l) y)) ∙ rest
-
-              pub return_8 : first ≤ g → 0 ≡ repair_batch_refusal f l many x helpers shares host spare first budget
-              return_8 k = let y : first ≤ groups l = omega arith in sym (simp (le-leb first (groups l) y)) ∙ rest
+    pub return_8 : first ≤ g → 0 ≡ repair_batch_refusal f l many x helpers shares host spare first budget
+    return_8 k = let y : first ≤ groups l = omega arith in sym (simp (le-leb first (groups l) y)) ∙ rest
 
 -- where none applies
 module _ {A : Type 0} {f : Field A} (W : Working f) (l : Layout) (many x : ℕ) (helpers shares host old : List ℕ) (first budget : ℕ)

@@ -1,10 +1,9 @@
 -- Rows of many codewords: the sums by multipliers, less a rack's sound trays, layer after layer.
 -- Assumes nothing.
 use mathlib.Core.Path.{◌≡◌, refl, sym, ap, ap₂, ◌∙◌, subst}
-use mathlib.Core.Bool.{true, false}
 use mathlib.Core.List.{List}
-use Prim.Native.Nat.{ℕ, ◌+◌, ◌-◌, ◌*◌, ◌/◌, ◌%◌, ◌<◌, ◌≤◌}
-use native.Mathlib.Nat.{add-zero, add-mul, add_comm, mul_assoc, mul-le-mul_right, le_of_lt}
+use Prim.Native.Nat.{ℕ, ◌+◌, ◌*◌, ◌/◌, ◌%◌, ◌<◌, ◌≤◌}
+use native.Mathlib.Nat.{add-mul, add_comm, mul_assoc, mul-le-mul_right, le_of_lt}
 use native.Mathlib.Decide.{ℕ_discrete}
 use native.Mathlib.Omega.{arith}
 use lib.Dec.{eqb}
@@ -15,7 +14,7 @@ use Rattle.algebra.specs.Field.{Laws}
 use Rattle.algebra.specs.Sum.{sum}
 use Rattle.algebra.specs.Erasure.{choose}
 use Rattle.algebra.specs.Shape.{Field}
-use Rattle.algebra.specs.Plain.{plus, minus, times, Working}
+use Rattle.algebra.specs.Plain.{plus, minus, Working}
 use Rattle.algebra.specs.Layers.{digit, layer_of}
 use Rattle.algebra.proofs.Ring.{ring, mul_comm as times-comm}
 use Rattle.algebra.proofs.Layers.{layer_digit}
@@ -29,7 +28,7 @@ use Rattle.layout.specs.Layout.{digits, layers, groups}
 use Rattle.layout.proofs.Facts.{bounds, rack_in}
 use Rattle.layout.proofs.Numbers.{whole_low}
 use Rattle.card.specs.Card.{multiplier, card_sum}
-use Rattle.batch_repair.specs.Inner.{Wide, Adding, Layering, lessened, Lessening, sound_row, less_rack, card_row, repaired_at, LayerRepaired, GroupRepaired}
+use Rattle.batch_repair.specs.Inner.{Adding, Layering, lessened, Lessening, sound_row, less_rack, card_row, repaired_at, LayerRepaired, GroupRepaired}
 
 -- a run worked out again
 run_again : (F G H : ℕ → ℕ) (was is new : List ℕ) (to len : ℕ) → Run F was is to len → Run G is new to len → ((j : ℕ) → j < len → G j ≡ H j) → Run H was new to len

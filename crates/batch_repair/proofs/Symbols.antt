@@ -11,21 +11,21 @@ use lib.Arith.{digits_div}
 use lib.ListN.{length, get_or}
 use Rattle.lists.specs.Lists.{all, absent}
 use Rattle.lists.proofs.Bools.{both, and_true, told_false, told_true, not_true_false, all_true, all_holds, all_same, all_false}
-use Rattle.lists.proofs.Numbers.{cell_in, mul_below}
+use Rattle.lists.proofs.Numbers.{cell_in}
 use Rattle.algebra.specs.Shape.{Field}
 use Rattle.layout.specs.declared.Layout.{Layout}
-use Rattle.layout.specs.Layout.{trays, digits, layers, groups, traffic, Cabinet}
+use Rattle.layout.specs.Layout.{digits, layers, groups}
 use Rattle.kernel.proofs.Rows.{row_before}
 use Rattle.layout.proofs.Facts.{bounds, rack_in}
 use Rattle.layout.proofs.Numbers.{whole_low}
-use Rattle.range.specs.Range.{symbols_from, symbol_rows}
+use Rattle.range.specs.Range.{symbol_rows}
 use Rattle.range.proofs.Symbols.{symbols_true, rows_true, rows_all}
 use Rattle.seen.specs.Seen.{sound_symbols, piece_symbols}
 use Rattle.seen.specs.Inner.{block_layer, group_symbols, tray_symbols, Places}
 use Rattle.seen.specs.Inner as seen
 use Rattle.seen.proofs.Groups.{same_test, groups_all, groups_true}
 use Rattle.seen.proofs.Trays.{places_told, tray_sound}
-use Rattle.seen.proofs.Piece.{piece_told, piece_left}
+use Rattle.seen.proofs.Piece.{piece_left}
 use Rattle.batch_parts.specs.Parts.{part}
 use Rattle.batch_parts.proofs.Parts.{part_long, part_at}
 use Rattle.batch_share.proofs.Batches.{place_is, run_place}
@@ -191,10 +191,10 @@ module _ {A : Type 0} (f : Field A) (l : Layout) (many x : ℕ) (host : List ℕ
       let b : g * layers l ≤ l.size * layers l = mul-le-mul_right (layers l) (le_of_lt hg) in
       rw (ap (λ (y : ℕ). g * (y * many)) et ∙ sym (mul_assoc g (layers l) many), t.host_long) (mul-le-mul_right many b)
 
-  pub hosts_false : (g : ℕ) (r : Bool) → g < l.size → r ≡ all (λ q. sound_symbols f l (x ∷ []) (x / l.size) (part many q host) first count g) many → not r ≡ true →
+  pub hosts_false : (g : ℕ) (r : Bool) → g < l.size → r ≡ all (λ q. sound_symbols f l (x ∷ []) (x / l.size) (part many q host) first count g) many → r ≡ false →
       false ≡ host_seen f l many x host first count
   unfolding host_seen
-  hosts_false g r hg e n = all_false _ l.size g hg (λ z. false≢true (sym (told_false e n) ∙ z))
+  hosts_false g r hg e n = all_false _ l.size g hg (λ z. false≢true (sym n ∙ e ∙ z))
 
   pub hosts_true : (g : ℕ) → l.size ≤ g → ((i : ℕ) → i < g → all (λ q. sound_symbols f l (x ∷ []) (x / l.size) (part many q host) first count i) many ≡ true) →
       true ≡ host_seen f l many x host first count

@@ -26,8 +26,7 @@ fn hosts_symbols(l: Layout, many: usize, x: u32, host: &[u8], first: usize, coun
     let total = layout::layer_count(l) as usize * many;
     let s = layout::digit_count(l) as usize;
     let unit = blocks::block_width(l, h) * many;
-    let mut g = 0u32;
-    while g < u {
+    for g in 0..u {
         if !seen::tray_symbols(
             &lost,
             h * u + g,
@@ -40,7 +39,6 @@ fn hosts_symbols(l: Layout, many: usize, x: u32, host: &[u8], first: usize, coun
         ) {
             return false;
         }
-        g += 1;
     }
     true
 }
@@ -142,10 +140,8 @@ fn subtract(out: &mut [u8], to: usize, len: usize, src: &[u8], from: usize)
     requires { (to + len ≤ length out.old) × (from + len ≤ length src.now) }
     ensures { Run (lessened gf256 out.old to src.now from) out.old out.new to len }
 {
-    let mut j = 0usize;
-    while j < len {
+    for j in 0..len {
         out[to + j] = difference(out[to + j], src[from + j]);
-        j += 1;
     }
 }
 
@@ -175,10 +171,8 @@ fn subtract_rack(
     requires { Lessening gf256 out.old to len host.now from far u }
     ensures { Run (less_rack gf256 out.old to host.now from far lost u) out.old out.new to len }
 {
-    let mut g = 0u32;
-    while g < u {
+    for g in 0..u {
         subtract_sound(out, to, len, host, from + g as usize * far, g, lost);
-        g += 1;
     }
 }
 
@@ -197,11 +191,9 @@ fn add_rows(
     requires { Adding out.old to len card.now at d shares.now from far }
     ensures { Run (card_row gf256 card.now at shares.now from far d) out.old out.new to len }
 {
-    let mut k = 0usize;
-    while k < d {
+    for k in 0..d {
         let v = kernel::at(card, at + k);
         kernel::add_multiple(out, to, len, shares, from + k * far, v);
-        k += 1;
     }
 }
 
@@ -255,10 +247,8 @@ fn repair_layers(
     ensures { GroupRepaired gf256 l many x card.now shares.now host.now p (digits l) spare.old spare.new }
 {
     let s = layout::digit_count(l);
-    let mut b = 0u32;
-    while b < s {
+    for b in 0..s {
         repair_layer(l, many, x, card, shares, host, p, b, spare);
-        b += 1;
     }
 }
 
@@ -297,10 +287,8 @@ fn repair_groups(
     requires { Told gf256 l many x helpers.now shares.now host.now first count spare.old }
     ensures { BatchPiece gf256 l many x helpers.now shares.now host.now first count spare.old spare.new }
 {
-    let mut k = 0u32;
-    while k < count {
+    for k in 0..count {
         repair_group(l, many, x, helpers, shares, host, first + k, spare);
-        k += 1;
     }
 }
 

@@ -27,9 +27,8 @@ fn hosts_symbols(l: Layout, many: usize, x: u32, host: &[u16], first: usize, cou
     let total = layout::layer_count(l) as usize * many;
     let s = layout::digit_count(l) as usize;
     let unit = blocks::block_width(l, h) * many;
-    let mut g = 0u32;
-    while g < u {
-        if !seen257::tray_symbols(
+    for g in 0..u {
+        if !seen::tray_symbols(
             &lost,
             h * u + g,
             host,
@@ -41,7 +40,6 @@ fn hosts_symbols(l: Layout, many: usize, x: u32, host: &[u16], first: usize, cou
         ) {
             return false;
         }
-        g += 1;
     }
     true
 }
@@ -68,7 +66,7 @@ fn batch_symbols(
         return true;
     }
     let count = lists::smaller(budget, total as u64 - first);
-    if !range257::rows_are_symbols(
+    if !range::rows_are_symbols(
         shares,
         d,
         total as usize * many,
@@ -143,10 +141,8 @@ fn subtract(out: &mut [u16], to: usize, len: usize, src: &[u16], from: usize)
     requires { (to + len ≤ length out.old) × (from + len ≤ length src.now) }
     ensures { Run (lessened gf257 out.old to src.now from) out.old out.new to len }
 {
-    let mut j = 0usize;
-    while j < len {
+    for j in 0..len {
         out[to + j] = difference(out[to + j], src[from + j]);
-        j += 1;
     }
 }
 
@@ -184,10 +180,8 @@ fn subtract_rack(
     requires { Lessening gf257 out.old to len host.now from far u }
     ensures { Run (less_rack gf257 out.old to host.now from far lost u) out.old out.new to len }
 {
-    let mut g = 0u32;
-    while g < u {
+    for g in 0..u {
         subtract_sound(out, to, len, host, from + g as usize * far, g, lost);
-        g += 1;
     }
 }
 
@@ -206,11 +200,9 @@ fn add_rows(
     requires { Adding out.old to len card.now at d shares.now from far }
     ensures { Run (card_row gf257 card.now at shares.now from far d) out.old out.new to len }
 {
-    let mut k = 0usize;
-    while k < d {
-        let v = kernel257::at(card, at + k);
-        kernel257::add_multiple(out, to, len, shares, from + k * far, v);
-        k += 1;
+    for k in 0..d {
+        let v = kernel::at(card, at + k);
+        kernel::add_multiple(out, to, len, shares, from + k * far, v);
     }
 }
 
@@ -234,7 +226,7 @@ fn repair_layer(
     let groups = layout::group_count(l) as usize * many;
     let total = layout::layer_count(l) as usize * many;
     let to = layout::layer_of(l, x / u, p, b) as usize * many;
-    kernel257::fill(spare, to, many, 0);
+    kernel::fill(spare, to, many, 0);
     add_rows(
         spare,
         to,
@@ -264,10 +256,8 @@ fn repair_layers(
     ensures { GroupRepaired gf257 l many x card.now shares.now host.now p (digits l) spare.old spare.new }
 {
     let s = layout::digit_count(l);
-    let mut b = 0u32;
-    while b < s {
+    for b in 0..s {
         repair_layer(l, many, x, card, shares, host, p, b, spare);
-        b += 1;
     }
 }
 
@@ -306,10 +296,8 @@ fn repair_groups(
     requires { Told gf257 l many x helpers.now shares.now host.now first count spare.old }
     ensures { BatchPiece gf257 l many x helpers.now shares.now host.now first count spare.old spare.new }
 {
-    let mut k = 0u32;
-    while k < count {
+    for k in 0..count {
         repair_group(l, many, x, helpers, shares, host, first + k, spare);
-        k += 1;
     }
 }
 

@@ -22,7 +22,7 @@ use Rattle.algebra.proofs.Skip.{skip_low, sum_skip}
 use Rattle.algebra.proofs.Free.{free_below, free_other}
 use Rattle.algebra.proofs.Repair.{rising_places}
 use Rattle.layout.specs.declared.Layout.{Layout}
-use Rattle.layout.specs.Layout.{trays, checks, layers, tray_limit, Cabinet}
+use Rattle.layout.specs.Layout.{trays, layers, tray_limit, Cabinet}
 use Rattle.batch_restore.specs.Inner.{Complement, Lists, Job, Restoring}
 
 -- ---- one after the other

@@ -2,22 +2,20 @@
 -- Assumes nothing.
 use mathlib.Core.Path.{◌≡◌, refl, sym, ap, ap₂, ◌∙◌, subst}
 use mathlib.Core.List.{List}
-use Prim.Native.Nat.{ℕ, zero, suc, ◌+◌, ◌-◌, ◌*◌, ◌<◌, ◌≤◌}
-use native.Mathlib.Nat.{add_assoc, add-mul, mul_assoc, mul-le-mul_right}
+use Prim.Native.Nat.{ℕ, ◌+◌, ◌*◌, ◌<◌, ◌≤◌}
+use native.Mathlib.Nat.{add-mul, mul_assoc, mul-le-mul_right}
 use native.Mathlib.Decide.{ℕ_discrete, dec_lt}
 use native.Mathlib.Omega.{arith}
 use mir.Val.{Fits}
 use mir.Syntax.{w64}
 use lib.ListN.{length, get_or, get_or-eq_default}
 use Rattle.lists.proofs.Numbers.{cell_in, cell_same}
-use Rattle.algebra.specs.Field.{Ops, Laws}
-use Rattle.algebra.specs.Sum.{sum}
 use Rattle.algebra.specs.Poly.{eval}
 use Rattle.algebra.specs.Lagrange.{basis}
 use Rattle.algebra.specs.Erasure.{fill, zeros, Places, Alike, erased, recover}
 use Rattle.algebra.specs.Cabinet.{layer_point}
 use Rattle.algebra.specs.Repair.{restored}
-use Rattle.algebra.specs.Shape.{Field, FieldLaws}
+use Rattle.algebra.specs.Shape.{Field}
 use Rattle.algebra.specs.Plain.{Working}
 use Rattle.algebra.proofs.Erasure.{fill_at, fill_outside, fill_same, erased_congr}
 use Rattle.algebra.proofs.Plain.{laws}
@@ -32,7 +30,7 @@ use Rattle.restore.specs.Inner.{restored_at, erased_at, RestoredTo}
 use Rattle.batch_parts.specs.Parts.{part}
 use Rattle.batch_parts.proofs.Parts.{part_long, part_at}
 use Rattle.batch_factors.proofs.Sums.{erased_sum}
-use Rattle.batch_restore.specs.Inner.{lanes_of, Complement, Lists, Job, weight_of, LayerWeights, sum_at, Outputs, Trays, Wide, BlockTo, LayerTo, BatchTo, Restored}
+use Rattle.batch_restore.specs.Inner.{lanes_of, Complement, Lists, Job, weight_of, LayerWeights, sum_at, Trays, Wide, BlockTo, LayerTo, BatchTo, Restored}
 
 pub place_is : (x total i m q : ℕ) → (x * total + i) * m + q ≡ x * (total * m) + (i * m + q)
 place_is x total i m q =

@@ -7,16 +7,16 @@ use native.Mathlib.Nat.{add_assoc, add-zero, zero-add, add-mul, mul-add, mul_ass
 use native.Mathlib.Decide.{ℕ_discrete, dec_lt}
 use native.Mathlib.Omega.{arith}
 use mir.Val.{Fits}
-use mir.Syntax.{w32, w64}
+use mir.Syntax.{w64}
 use lib.Dec.{eqb}
 use lib.ListN.{length, get_or, set, length-set, take, drop, replicate}
 use lib.Seq.{get_or-set_same, get_or-set_other, length-take-le, length_front, take_at}
 use Rattle.lists.proofs.Numbers.{cell_same, mul_below}
-use Rattle.algebra.specs.Field.{Ops, Laws}
+use Rattle.algebra.specs.Field.{Ops}
 use Rattle.algebra.specs.Sum.{sum, pow}
 use Rattle.algebra.specs.Poly.{eval}
 use Rattle.algebra.specs.Lagrange.{factor, basis}
-use Rattle.algebra.specs.Shape.{Field, FieldLaws}
+use Rattle.algebra.specs.Shape.{Field}
 use Rattle.algebra.specs.Plain.{Working}
 use Rattle.algebra.proofs.Lagrange.{basis_zero, basis_suc}
 use Rattle.algebra.proofs.Plain.{laws}
@@ -24,9 +24,9 @@ use Rattle.algebra.proofs.Ring.{add_zero as plus-zero, mul_zero}
 use Rattle.algebra.proofs.Pow.{pow_one}
 use Rattle.algebra.proofs.Sum.{sum_congr, sum_split, sum_is_zero}
 use Rattle.kernel.specs.Inner.{Run, filled, copied}
-use Rattle.kernel.proofs.Rows.{row_before, row_end}
+use Rattle.kernel.proofs.Rows.{row_before}
 use Rattle.layout.specs.declared.Layout.{Layout}
-use Rattle.layout.specs.Layout.{trays, layers, tray_limit, Cabinet}
+use Rattle.layout.specs.Layout.{trays, tray_limit, Cabinet}
 use Rattle.codeword.specs.Codeword.{point_at}
 use Rattle.batch_factors.specs.Inner.{factor_at, Solving, Factored}
 use Rattle.batch_kernel.specs.Inner.{term_at, Summed, Weighs, Laid}
@@ -47,16 +47,6 @@ module _ (l : Layout) (list p : List ℕ) (s : Pointing l list p) where
 
   pub pointing_in : (t : ℕ) → t < length list → get_or list t 0 < trays l
   pointing_in t h = s.inside t h
-
-module _ (ks : List ℕ) (gap i t : ℕ) (e : i ≡ min t (length ks - 1)) (some : 0 < length ks) (h : (t : ℕ) → t < length ks → get_or ks t 0 * gap + gap < 18446744073709551616) where
-  pub place_fits : Fits w64 (get_or ks i 0 * gap)
-  place_fits = let a = h i (omega arith) in record { fits = omega arith }
-
-  pub place_to_fits : (first : ℕ) → first ≤ gap → Fits w64 (get_or ks i 0 * gap + first)
-  place_to_fits first k = let a = h i (omega arith) in record { fits = omega arith }
-
-pub cast_fits : (x : ℕ) → Fits w32 x → Fits w64 x
-cast_fits x f = omega arith
 
 -- ---- points
 module _ {A : Type 0} {f : Field A} (W : Working f) (l : Layout) (j : ℕ) (list was : List ℕ) where
@@ -364,12 +354,6 @@ outputs_still es gap c d s e = record { inside = λ o h. let a = s.inside o h in
 module _ (es : List ℕ) (gap : ℕ) (c : List ℕ) (s : Outputs es gap c) (o : ℕ) (h : o < length es) where
   pub put_in : (first w : ℕ) (is : List ℕ) → first + w ≤ gap → length is ≡ length c → get_or es o 0 * gap + first + w ≤ length is
   put_in first w is a e = let b = s.inside o h in omega arith
-
-  pub put_fits : Fits w64 (length c) → Fits w64 (get_or es o 0 * gap)
-  put_fits b = let a = s.inside o h in omega arith
-
-  pub put_to_fits : (first w : ℕ) → first + w ≤ gap → Fits w64 (length c) → Fits w64 (get_or es o 0 * gap + first)
-  put_to_fits first w k b = let a = s.inside o h in omega arith
 
   pub put_from : (acc : List ℕ) (w : ℕ) → w ≤ 128 → length es * 128 ≤ length acc → o * 128 + w ≤ length acc
   put_from acc w a b = omega arith

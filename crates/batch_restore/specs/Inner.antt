@@ -1,7 +1,6 @@
 -- Erased trays of many codewords, over any field: what the functions of this crate are told and give. Nothing here has to be believed.
 -- Assumes nothing.
 use Rattle.std.specs.Prelude.{◌≡◌, List, ℕ, ◌+◌, ◌-◌, ◌*◌, ◌/◌, ◌<◌, ◌≤◌, min, length, get_or}
-use Rattle.algebra.specs.Field.{Ops}
 use Rattle.algebra.specs.Sum.{sum}
 use Rattle.algebra.specs.Poly.{eval}
 use Rattle.algebra.specs.Lagrange.{basis}

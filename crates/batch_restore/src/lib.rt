@@ -12,6 +12,7 @@ ghost use Rattle.batch_kernel.specs.Ready.{weight_at, Ready};
 ghost use Rattle.batch_restore.specs.Inner.{lanes_of, eights_of, Complement, Lists, Job, ListPoints, Pointing, LayerWeights, Padded, Placed, Sums, BlockSums};
 ghost use Rattle.batch_restore.specs.Inner.{Outputs, Trays, Wide, PutRows, BlockTo, LayerTo, BatchTo, Restoring, Restored};
 
+use batch_kernel::BatchSums;
 use layout::Layout;
 
 // The most trays, in whole vectors.
@@ -58,10 +59,8 @@ fn other(es: &[u32], i: u32) -> u32
     ensures { result ≡ free (λ k. get_or es.now k 0) (length es.now) i }
 {
     let mut x = i;
-    let mut d = 0usize;
-    while d < es.len() {
-        x = skipped(es[d], x);
-        d += 1;
+    for q in es {
+        x = skipped(*q, x);
     }
     x
 }
@@ -71,10 +70,8 @@ pub fn others(ks: &mut [u32], es: &[u32])
     requires { (length es.now ≤ tray_limit) × (length ks.old ≤ tray_limit) }
     ensures { ks.new ≡ table (free (λ k. get_or es.now k 0) (length es.now)) (length ks.old) }
 {
-    let mut i = 0usize;
-    while i < ks.len() {
-        ks[i] = other(es, i as u32);
-        i += 1;
+    for (i, k) in ks.iter_mut().enumerate() {
+        *k = other(es, i as u32);
     }
 }
 
@@ -83,11 +80,9 @@ fn list_points(p: &mut [u8], l: Layout, j: u32, list: &[u32])
     requires { Pointing l list.now p.old }
     ensures { ListPoints gf256 l j list.now (length list.now) p.old p.new }
 {
-    let mut t = 0usize;
-    while t < list.len() {
-        let v = points::point_power(l, list[t], j, 1);
+    for (t, x) in list.iter().enumerate() {
+        let v = points::point_power(l, *x, j, 1);
         kernel::fill(p, t, 1, v);
-        t += 1;
     }
 }
 
@@ -105,7 +100,7 @@ fn layer_factors(
 )
     requires { Lists l es.now ks.now × (wide ≡ lanes_of (length es.now)) × (length picks.old ≡ 3072) × (length p.old ≡ 64) × (length points.old ≡ 64) × (length g.old ≡ 1536) }
     ensures ready { Ready picks.new wide (eights_of (length ks.now)) }
-    ensures layer_weights { LayerWeights gf256 l j es.now ks.now (weight_at picks.new wide) }
+    ensures layer_weights { LayerWeights gf256 l j es.now ks.now (weight_at gf256 picks.new wide) }
 {
     let n = ks.len();
     let count = eights(n);
@@ -113,14 +108,14 @@ fn layer_factors(
     list_points(points, l, j, es);
     kernel::fill(g, n * wide, (count * 8 - n) * wide, 0);
     batch_factors::factors(g, wide, p, n, points, es.len());
-    batch_kernel::prepare(picks, g, wide, count);
+    u8::prepare(picks, g, wide, count);
 }
 
 // The factors of layer j made ready.
 pub fn factors(picks: &mut [u8], l: Layout, j: u32, es: &[u32], ks: &[u32], wide: usize)
     requires { Lists l es.now ks.now × (wide ≡ lanes_of (length es.now)) × (length picks.old ≡ 3072) }
     ensures ready { Ready picks.new wide (eights_of (length ks.now)) }
-    ensures layer_weights { LayerWeights gf256 l j es.now ks.now (weight_at picks.new wide) }
+    ensures layer_weights { LayerWeights gf256 l j es.now ks.now (weight_at gf256 picks.new wide) }
 {
     let mut p = [0u8; TRAYS];
     let mut points = [0u8; TRAYS];
@@ -133,11 +128,9 @@ fn places(at: &mut [usize], ks: &[u32], gap: usize, first: usize)
     requires { (0 < length ks.now) × (length ks.now ≤ tray_limit) × (length at.old ≤ 64) × (first ≤ gap) × ((t : ℕ) → t < length ks.now → get_or ks.now t 0 * gap + gap < 18446744073709551616) }
     ensures { Placed ks.now gap first (length at.old) at.old at.new }
 {
-    let mut t = 0usize;
-    while t < at.len() {
+    for (t, place) in at.iter_mut().enumerate() {
         let i = lists::smaller(t as u64, (ks.len() - 1) as u64) as usize;
-        at[t] = ks[i] as usize * gap + first;
-        t += 1;
+        *place = ks[i] as usize * gap + first;
     }
 }
 
@@ -155,13 +148,13 @@ pub fn sum_block(
     row: usize,
 )
     requires { Sums rows w src.now ks.now gap first wide row acc.old × Ready picks.now wide (eights_of (length ks.now))
-        × Padded gf256 (weight_at picks.now wide) ks.now (row + rows) }
-    ensures { BlockSums gf256 (weight_at picks.now wide) src.now ks.now gap first w row rows acc.old acc.new }
+        × Padded gf256 (weight_at gf256 picks.now wide) ks.now (row + rows) }
+    ensures { BlockSums gf256 (weight_at gf256 picks.now wide) src.now ks.now gap first w row rows acc.old acc.new }
 {
     let n = eights(ks.len()) * 8;
     let mut at = [0usize; TRAYS];
     places(&mut at[..n], ks, gap, first);
-    batch_kernel::sum_rows(acc, rows, w, src, &at[..n], picks, wide, row);
+    u8::sum_rows(acc, rows, w, src, &at[..n], picks, wide, row);
 }
 
 // Writes the rows of a block.
@@ -169,10 +162,8 @@ fn put_rows(c: &mut [u8], es: &[u32], gap: usize, first: usize, w: usize, acc: &
     requires { Outputs es.now gap c.old × (w ≤ 128) × (first + w ≤ gap) × (length es.now * 128 ≤ length acc.now) }
     ensures { PutRows es.now gap first w acc.now c.old c.new (length es.now) }
 {
-    let mut o = 0usize;
-    while o < es.len() {
-        kernel::copy(c, es[o] as usize * gap + first, w, acc, o * 128);
-        o += 1;
+    for (o, x) in es.iter().enumerate() {
+        kernel::copy(c, *x as usize * gap + first, w, acc, o * 128);
     }
 }
 
@@ -189,8 +180,8 @@ fn block(
     acc: &mut [u8],
 )
     requires { Trays es.now ks.now gap c.old × Wide es.now wide acc.old × (w ≤ 128) × (first + w ≤ gap) × Ready picks.now wide (eights_of (length ks.now))
-        × Padded gf256 (weight_at picks.now wide) ks.now (length es.now) }
-    ensures { BlockTo gf256 (weight_at picks.now wide) es.now ks.now gap first w c.old c.new }
+        × Padded gf256 (weight_at gf256 picks.now wide) ks.now (length es.now) }
+    ensures { BlockTo gf256 (weight_at gf256 picks.now wide) es.now ks.now gap first w c.old c.new }
 {
     sum_block(acc, es.len(), w, c, ks, gap, first, picks, wide, 0);
     put_rows(c, es, gap, first, w, acc);
@@ -209,10 +200,11 @@ fn blocks(
     acc: &mut [u8],
 )
     requires { Trays es.now ks.now gap c.old × Wide es.now wide acc.old × (first + m ≤ gap) × Ready picks.now wide (eights_of (length ks.now))
-        × Padded gf256 (weight_at picks.now wide) ks.now (length es.now) }
-    ensures { BlockTo gf256 (weight_at picks.now wide) es.now ks.now gap first m c.old c.new }
+        × Padded gf256 (weight_at gf256 picks.now wide) ks.now (length es.now) }
+    ensures { BlockTo gf256 (weight_at gf256 picks.now wide) es.now ks.now gap first m c.old c.new }
 {
     let mut b = 0usize;
+    // Stays a `while`: the last block is as narrow as what is left, and its width is the step.
     while b < m {
         let w = lists::smaller(128, (m - b) as u64) as usize;
         block(c, es, ks, gap, first + b, w, picks, wide, acc);
@@ -254,10 +246,8 @@ fn all_layers(
     requires { Job l total m es.now ks.now c.old × Complement gf256 (trays l) es.now ks.now × (length picks.old ≡ 3072) × (length acc.old ≡ 7680) }
     ensures { BatchTo gf256 l total m es.now c.old total c.new }
 {
-    let mut j = 0u32;
-    while j < total {
+    for j in 0..total {
         layer(c, l, j, total as usize, m, es, ks, picks, acc);
-        j += 1;
     }
 }
 

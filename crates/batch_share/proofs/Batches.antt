@@ -3,13 +3,11 @@
 use mathlib.Core.Path.{◌≡◌, refl, sym, ap, ap₂, ◌∙◌, subst}
 use mathlib.Core.List.{List}
 use Prim.Native.Nat.{ℕ, ◌+◌, ◌-◌, ◌*◌, ◌/◌, ◌%◌, ◌<◌, ◌≤◌}
-use native.Mathlib.Nat.{one-mul, zero-add, add-zero, add-mul, mul_assoc, mul_comm, mul-pos, mul-le-mul_right, mod-lt, div-add-mod', div-lt_iff_lt-mul, not-suc-le-zero}
+use native.Mathlib.Nat.{one-mul, zero-add, add-zero, add-mul, mul_assoc, mul-pos, mul-le-mul_right, mod-lt, div-add-mod', div-lt_iff_lt-mul, not-suc-le-zero}
 use native.Mathlib.Decide.{dec_lt}
 use native.Mathlib.Omega.{arith}
 use lib.ListN.{length, get_or, get_or-eq_default}
 use Rattle.lists.proofs.Numbers.{cell_in}
-use Rattle.algebra.specs.Field.{Ops}
-use Rattle.algebra.specs.Sum.{sum}
 use Rattle.algebra.proofs.Sum.{sum_congr}
 use Rattle.algebra.specs.Coding.{InRange}
 use Rattle.algebra.specs.Shape.{Field}

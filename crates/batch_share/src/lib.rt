@@ -76,6 +76,7 @@ fn gather(l: Layout, h: u32, many: usize, rack: &[u8], out: &mut [u8])
     let r = share::runs_of(l, n, h);
     kernel::fill(out, 0, out.len(), 0);
     let mut g = 0u32;
+    // Stays a `while`: a step is the number of trays that are added at once, which `share::at_once` chooses.
     while g < u {
         let m = share::at_once(u - g);
         feed(l, h, r, many, rack, g, m, out);

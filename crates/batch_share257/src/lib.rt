@@ -37,7 +37,7 @@ fn refusal(l: Layout, many: usize, host: u32, helper: u32, rack: &[u16], room: u
     if b <= helper {
         return 3;
     }
-    if !range257::are_symbols(rack, 0, rack.len()) {
+    if !range::are_symbols(rack, 0, rack.len()) {
         return 3;
     }
     if host == helper {
@@ -75,8 +75,9 @@ fn gather(l: Layout, h: u32, many: usize, rack: &[u16], out: &mut [u16])
     let u = l.size;
     let n = share257::counts_of(l);
     let r = share257::runs_of(l, n, h);
-    kernel257::fill(out, 0, out.len(), 0);
+    kernel::fill(out, 0, out.len(), 0);
     let mut g = 0u32;
+    // Stays a `while`: a step is the number of trays that are added at once, which `share257::at_once` chooses.
     while g < u {
         let m = share257::at_once(u - g);
         feed(l, h, r, many, rack, g, m, out);

@@ -1,6 +1,6 @@
 -- What storing many codewords leaves, and the answers.
 -- Assumes nothing.
-use mathlib.Core.Path.{◌≡◌, refl, sym, ap, ◌∙◌, subst}
+use mathlib.Core.Path.{◌≡◌, refl, sym, ◌∙◌, subst}
 use mathlib.Core.Bool.{true}
 use mathlib.Core.List.{List}
 use Prim.Native.Nat.{ℕ, ◌+◌, ◌*◌, ◌<◌, ◌≤◌}
@@ -8,15 +8,14 @@ use native.Mathlib.Nat.{zero-add, mul-le-mul_right}
 use native.Mathlib.Omega.{arith}
 use borrow.Author.Tests.{lt-ltb}
 use lib.ListN.{length, get_or}
-use Rattle.lists.specs.Lists.{table}
 use Rattle.lists.proofs.Bools.{all_true}
-use Rattle.lists.proofs.Tables.{table_length, table_at}
-use Rattle.algebra.specs.Coding.{Coding, InRange}
+use Rattle.lists.proofs.Tables.{table_at}
+use Rattle.algebra.specs.Coding.{InRange}
 use Rattle.algebra.specs.Shape.{Field}
 use Rattle.algebra.specs.Plain.{Working}
 use Rattle.kernel.specs.Inner.{Run, copied}
 use Rattle.layout.specs.declared.Layout.{Layout}
-use Rattle.layout.specs.Layout.{trays, checks, layers, Cabinet, Admissible}
+use Rattle.layout.specs.Layout.{trays, checks, layers}
 use Rattle.layout.proofs.Facts.{facts_admissible, dimension_in}
 use Rattle.range.specs.Range.{symbols_from}
 use Rattle.store.specs.Store.{Begins, StoreAnswer}

@@ -1,19 +1,19 @@
 -- The grounds for refusing to store many codewords.
 -- Assumes nothing.
-use mathlib.Core.Path.{◌≡◌, refl, sym, ap, ap₂, ◌∙◌, subst}
-use mathlib.Core.Bool.{Bool, true, false, not, ◌&&◌, false≢true}
+use mathlib.Core.Path.{◌≡◌, sym, subst}
+use mathlib.Core.Bool.{◌&&◌}
 use mathlib.Core.List.{List}
-use Prim.Native.Nat.{ℕ, ◌+◌, ◌*◌, ◌<◌, ◌≤◌}
+use Prim.Native.Nat.{ℕ, ◌*◌, ◌<◌, ◌≤◌}
 use native.Mathlib.Nat.{zero-add, mul-le-mul_right, one-le-mul}
 use native.Mathlib.Omega.{arith}
-use borrow.Author.Tests.{eq-eqb, eqb-true, not-true, not-false}
+use borrow.Author.Tests.{eqb-true}
 use mir.Val.{Fits}
 use mir.Syntax.{w64}
 use lib.Dec.{eqb}
 use lib.ListN.{length, get_or}
 use Rattle.lists.proofs.Numbers.{mul_below}
-use Rattle.lists.proofs.Bools.{both, not_both, passed, told_false, told_true}
-use Rattle.algebra.specs.Coding.{Coding, InRange}
+use Rattle.lists.proofs.Bools.{both, passed}
+use Rattle.algebra.specs.Coding.{InRange}
 use Rattle.algebra.specs.Shape.{Field}
 use Rattle.algebra.specs.Plain.{Working}
 use Rattle.layout.specs.declared.Layout.{Layout}
@@ -24,64 +24,23 @@ use Rattle.range.specs.Range.{symbols_from}
 use Rattle.range.proofs.Symbols.{symbols_all}
 use Rattle.batch_store.specs.Store.{batch_store_refusal}
 
-module _ {A : Type 0} (f : Field A) (l : Layout) (m : ℕ) (given : List ℕ) (room : ℕ) where
-  pub facts : (b : Bool) → b ≡ admissible f.order l → not b ≡ false → Cabinet l
-  facts b e n = (admissible_facts f.order l (sym e ∙ not-false b n)).cabinet
+-- the products of the lengths' numbers fit, and are not 0
+module _ (l : Layout) (a : Cabinet l) (total : ℕ) (et : total ≡ layers l) where
+  low : 0 < layers l
+  low = run_pos l a l.racks
 
-  module _ (b : Bool) (e : b ≡ admissible f.order l) (n : not b ≡ false) (total : ℕ) (et : total ≡ layers l) where
-    a : Cabinet l
-    a = facts b e n
+  pub data_fits : Fits w64 (l.dimension * total)
+  data_fits = let d = dimension_in l a in let h = a.layers_high in let t = a.trays_high in record { fits = mul_below tray_limit layer_limit (omega arith) (omega arith) tt }
 
-    low : 0 < layers l
-    low = run_pos l a l.racks
+  pub data_some : 0 < l.dimension * total
+  data_some = let e : 1 ≤ l.dimension * total = one-le-mul (let d = a.dimension_low in let s = a.size_low in omega arith) (subst (λ (y : ℕ). 1 ≤ y) (sym et) low) in omega arith
 
-    pub data_fits : Fits w64 (l.dimension * total)
-    data_fits = let d = dimension_in l a in let h = a.layers_high in let t = a.trays_high in record { fits = mul_below tray_limit layer_limit (omega arith) (omega arith) tt }
+  module _ (count : ℕ) (ec : count ≡ trays l) where
+    pub room_fits : Fits w64 (count * total)
+    room_fits = let h = a.layers_high in let t = a.trays_high in record { fits = mul_below tray_limit layer_limit (omega arith) (omega arith) tt }
 
-    pub data_some : 0 < l.dimension * total
-    data_some = let e : 1 ≤ l.dimension * total = one-le-mul (let d = a.dimension_low in let s = a.size_low in omega arith) (subst (λ (y : ℕ). 1 ≤ y) (sym et) low) in omega arith
-
-    module _ (count : ℕ) (ec : count ≡ trays l) where
-      pub room_fits : Fits w64 (count * total)
-      room_fits = let h = a.layers_high in let t = a.trays_high in record { fits = mul_below tray_limit layer_limit (omega arith) (omega arith) tt }
-
-      pub room_some : 0 < count * total
-      room_some = let e : 1 ≤ count * total = one-le-mul (let d = a.dimension_low in let s = a.size_low in let x = dimension_in l a in omega arith) (subst (λ (y : ℕ). 1 ≤ y) (sym et) low) in omega arith
-
-  pub ground_1 : (b : Bool) → b ≡ admissible f.order l → not b ≡ true → 1 ≡ batch_store_refusal f l m given room
-  unfolding batch_store_refusal
-  ground_1 b e n = simp (sym e ∙ not-true b n)
-
-  module _ (b : Bool) (e : b ≡ admissible f.order l) (n : not b ≡ false) (total : ℕ) (et : total ≡ layers l) where
-    ok : admissible f.order l ≡ true
-    ok = sym e ∙ not-false b n
-
-    second : (length given ≡ l.dimension * layers l * m → room ≡ trays l * layers l * m → ⊥) → 2 ≡ batch_store_refusal f l m given room
-    unfolding batch_store_refusal
-    second k = simp (ok, not_both _ _ (λ p q. k (eqb-true _ _ p) (eqb-true _ _ q)))
-
-    module _ (d : Bool) (ed : d ≡ eqb (length given) (l.dimension * total * m)) where
-      data_is : d ≡ eqb (length given) (l.dimension * layers l * m)
-      data_is = ed ∙ ap (λ (y : ℕ). eqb (length given) (l.dimension * y * m)) et
-
-      pub ground_2_data : not d ≡ true → 2 ≡ batch_store_refusal f l m given room
-      ground_2_data nd = second (λ p q. false≢true (sym (told_false data_is nd) ∙ eq-eqb _ _ p))
-
-      module _ (nd : not d ≡ false) (trayCount : ℕ) (en : trayCount ≡ trays l) (r : Bool) (er : r ≡ eqb room (trayCount * total * m)) where
-        room_is : r ≡ eqb room (trays l * layers l * m)
-        room_is = er ∙ ap₂ (λ (x y : ℕ). eqb room (x * y * m)) en et
-
-        pub ground_2_room : not r ≡ true → 2 ≡ batch_store_refusal f l m given room
-        ground_2_room nr = second (λ p q. false≢true (sym (told_false room_is nr) ∙ eq-eqb _ _ q))
-
-        module _ (nr : not r ≡ false) (y : Bool) (ey : y ≡ symbols_from f given 0 (length given)) where
-          pub ground_3 : not y ≡ true → 3 ≡ batch_store_refusal f l m given room
-          unfolding batch_store_refusal
-          ground_3 k = simp (ok, told_true data_is nd, told_true room_is nr, told_false ey k)
-
-          pub ground_0 : not y ≡ false → 0 ≡ batch_store_refusal f l m given room
-          unfolding batch_store_refusal
-          ground_0 k = simp (ok, told_true data_is nd, told_true room_is nr, told_true ey k)
+    pub room_some : 0 < count * total
+    room_some = let e : 1 ≤ count * total = one-le-mul (let d = a.dimension_low in let s = a.size_low in let x = dimension_in l a in omega arith) (subst (λ (y : ℕ). 1 ≤ y) (sym et) low) in omega arith
 
 -- what holds where there is no ground
 pub record Storable {A : Type 0} (f : Field A) (l : Layout) (m : ℕ) (given : List ℕ) (room : ℕ) : Type 0 where

@@ -44,10 +44,8 @@ fn trays_from(first: u32, list: &mut [u32])
     requires { (first ≤ tray_limit) × (length list.old ≤ tray_limit) }
     ensures { list.new ≡ table (λ i. first + i) (length list.old) }
 {
-    let mut i = 0usize;
-    while i < list.len() {
-        list[i] = first + i as u32;
-        i += 1;
+    for (i, tray) in list.iter_mut().enumerate() {
+        *tray = first + i as u32;
     }
 }
 

@@ -34,7 +34,7 @@ fn refusal(l: Layout, many: usize, given: &[u16], room: usize) -> u8
     if !batch_parts::is_times(room, layout::tray_count(l) as usize * total, many) {
         return 2;
     }
-    if !range257::are_symbols(given, 0, given.len()) {
+    if !range::are_symbols(given, 0, given.len()) {
         return 3;
     }
     0
@@ -45,10 +45,8 @@ fn trays_from(first: u32, list: &mut [u32])
     requires { (first ≤ tray_limit) × (length list.old ≤ tray_limit) }
     ensures { list.new ≡ table (λ i. first + i) (length list.old) }
 {
-    let mut i = 0usize;
-    while i < list.len() {
-        list[i] = first + i as u32;
-        i += 1;
+    for (i, tray) in list.iter_mut().enumerate() {
+        *tray = first + i as u32;
     }
 }
 
@@ -77,7 +75,7 @@ fn put_data(given: &[u16], out: &mut [u16])
     requires { length given.now ≤ length out.old }
     ensures { Run (copied given.now 0) out.old out.new 0 (length given.now) }
 {
-    kernel257::copy(out, 0, given.len(), given, 0);
+    kernel::copy(out, 0, given.len(), given, 0);
 }
 
 // Writes the codewords of so many data, or refuses and writes nothing.

@@ -19,7 +19,7 @@ use Rattle.algebra.specs.Sum.{sum, pow}
 use Rattle.algebra.proofs.Ring.{ring}
 use Rattle.algebra.proofs.Sum.{sum_congr, sum_split, sum_is_zero}
 use Rattle.nibble.specs.Elem.{Elem, elem, ops}
-use Rattle.nibble.proofs.Elem.{laws, elem_val, elem_same, elem_zero}
+use Rattle.nibble.proofs.Elem.{laws, elem_same, elem_zero}
 use Rattle.box_words.specs.Box.{trays, dimension, racks, size, helpers, point, value, Data, word_of, Word}
 use Rattle.box_words.proofs.Words.{word_at, word_symbol}
 use Rattle.box_repair.specs.Share.{rack_of, Through, Top}

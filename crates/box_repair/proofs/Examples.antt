@@ -8,7 +8,7 @@ use Rattle.lists.specs.Lists.{table, all, all_below}
 use Rattle.algebra.specs.Sum.{sum, pow}
 use Rattle.symbol.specs.Arithmetic.{◌⊕◌}
 use Rattle.nibble.specs.Arithmetic.{muly, shift_add, ◌⊗◌, power, ypow}
-use Rattle.nibble.specs.Elem.{elem, ops}
+use Rattle.nibble.specs.Elem.{ops}
 use Rattle.box_words.specs.Box.{points, point, value, word_of}
 use Rattle.box_words.specs.Store.{store_refusal}
 use Rattle.box_repair.specs.Examples.{AllHold, examples}

@@ -1,14 +1,14 @@
 -- The grounds of the calls of repair cards, one by one, and what holds where none applies.
 -- Assumes nothing.
-use mathlib.Core.Path.{◌≡◌, refl, sym, ap, ◌∙◌}
+use mathlib.Core.Path.{◌≡◌, ap, ◌∙◌}
 use mathlib.Core.Bool.{Bool, true, false, not, ◌&&◌}
 use mathlib.Core.List.{List}
 use Prim.Native.Nat.{ℕ, ◌/◌, ◌<◌, ◌≤◌}
 use native.Mathlib.Omega.{arith}
 use lib.Dec.{eqb, ltb}
-use lib.ListN.{length, get_or}
+use lib.ListN.{length}
 use borrow.Author.Tests.{eq-eqb, ne_eqb, lt-ltb, le-ltb, eqb-true, ltb-true}
-use Rattle.lists.specs.Lists.{unless, all_below, strictly_rising, absent}
+use Rattle.lists.specs.Lists.{all_below, strictly_rising, absent}
 use Rattle.lists.proofs.Bools.{both, passed, told_false, told_true}
 use Rattle.lists.proofs.Numbered.{below_all, rising_all, absent_all}
 use Rattle.algebra.specs.Shape.{Field}

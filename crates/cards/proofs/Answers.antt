@@ -3,19 +3,18 @@
 use mathlib.Core.Path.{◌≡◌, refl, sym, ap, subst, ◌∙◌}
 use mathlib.Core.Bool.{Bool, true, false, not}
 use mathlib.Core.List.{List, [], ◌∷◌}
-use Prim.Native.Nat.{ℕ, ◌+◌, ◌-◌, ◌*◌, ◌/◌, ◌<◌, ◌≤◌}
+use Prim.Native.Nat.{ℕ, ◌+◌, ◌-◌, ◌*◌, ◌/◌, ◌<◌}
 use native.Mathlib.Nat.{one-mul, mul-one}
 use native.Mathlib.Omega.{arith}
 use mir.Val.{Fits}
-use mir.Syntax.{w32, w64}
+use mir.Syntax.{w32}
 use lib.Dec.{eqb}
 use lib.ListN.{length, get_or}
 use borrow.Author.Tests.{not-true, not-false, eqb-true}
-use Rattle.lists.proofs.Numbers.{mul_below}
 use Rattle.algebra.specs.Shape.{Field}
 use Rattle.algebra.specs.Plain.{Working}
 use Rattle.layout.specs.declared.Layout.{Layout}
-use Rattle.layout.specs.Layout.{trays, digits, groups, layers, traffic, tray_limit, layer_limit, Cabinet, AdmissibleWith}
+use Rattle.layout.specs.Layout.{trays, digits, groups, layers, traffic, Cabinet, AdmissibleWith}
 use Rattle.layout.proofs.Facts.{bounds}
 use Rattle.layout.proofs.Numbers.{whole_low}
 use Rattle.codeword.proofs.Usable.{solvable}
@@ -28,18 +27,14 @@ use Rattle.card.specs.Card.{Right}
 use Rattle.card.proofs.Right.{agrees_right, right_agrees, ruled_carded}
 use Rattle.card.proofs.Grounds.{Passed, passed_all}
 use Rattle.multipliers.specs.Inner.{Grouped, Multipliers}
-use Rattle.cards.specs.Cards.{print_ground, test_ground, repair_ground, PrintAnswer, Judged, TestAnswer, CardDone, CardRefused}
+use Rattle.cards.specs.Cards.{print_ground, test_ground, repair_ground, PrintAnswer, TestAnswer, CardDone, CardRefused}
 use Rattle.cards.specs.Inner.{Verdict, CardRepairing}
 use Rattle.cards.proofs.Compare.{agreeing_of, range_of}
-use Rattle.cards.proofs.Grounds.{grouped_of, Repairable, repairable_so, judged_earlier, judged_wrong, judged_right}
+use Rattle.cards.proofs.Grounds.{grouped_of, Repairable, repairable_so, judged_wrong, judged_right}
 
 -- a group below L/s is a 32-bit number
 group_small : (l : Layout) (group : ℕ) → Cabinet l → group < groups l → Fits w32 group
 group_small l group a h = let b = bounds l a in record { fits = omega arith }
-
--- and what is still to come fits its number
-pub report_fits : (l : Layout) (group m : ℕ) → Cabinet l → m ≡ groups l → Fits w64 (l.helpers * (m - group - 1))
-report_fits l group m a em = let b = bounds l a in record { fits = mul_below tray_limit layer_limit (omega (arith, a.helpers_high)) (omega arith) tt }
 
 module _ {A : Type 0} {f : Field A} (W : Working f) (l : Layout) where
   module _ (adm : AdmissibleWith f.order 0 l) (x : ℕ) (helpers card : List ℕ) (p : ℕ) (help : Helpers l x helpers) (inside : p < groups l) (r : Bool)
@@ -52,10 +47,6 @@ module _ {A : Type 0} {f : Field A} (W : Working f) (l : Layout) where
 
   -- ---- printing, where the tray n is the number x
   module _ (x n : ℕ) (helpers : List ℕ) (group : ℕ) (old : List ℕ) (en : n ≡ x) (e : ℕ) (q : e ≡ print_ground f l n helpers group (length old)) where
-    pub print_earlier : ¬ (e ≡ 0) → PrintAnswer f l x helpers group old old e
-    print_earlier d = subst (λ y. PrintAnswer f l y helpers group old old e) en
-        (record { reason = q; kept = λ h. refl; printed = λ z. absurd (d z); right = λ z. absurd (d z) })
-
     module _ (z : e ≡ 0) where
       printable : Passed f l n helpers group (eqb (length old) (digits l * l.helpers)) true
       unfolding print_ground
@@ -87,9 +78,6 @@ module _ {A : Type 0} {f : Field A} (W : Working f) (l : Layout) where
 
   -- ---- the test
   module _ (x n : ℕ) (helpers card : List ℕ) (group : ℕ) (en : n ≡ x) (e : ℕ) (q : e ≡ test_ground f l n helpers group card) where
-    pub test_earlier : ¬ (e ≡ 0) → TestAnswer f l x helpers card group e
-    test_earlier d = subst (λ y. TestAnswer f l y helpers card group e) en (judged_earlier _ e q d)
-
     module _ (z : e ≡ 0) where
       fit : Passed f l n helpers group (eqb (length card) (digits l * l.helpers)) (symbols_from f card 0 (length card))
       unfolding test_ground
@@ -115,9 +103,6 @@ module _ {A : Type 0} {f : Field A} (W : Working f) (l : Layout) where
 
   -- ---- the repair
   module _ (x n : ℕ) (helpers card shares host : List ℕ) (group : ℕ) (old : List ℕ) (en : n ≡ x) (e : ℕ) (q : e ≡ repair_ground f l n helpers group card shares host (length old)) where
-    pub repair_earlier : ¬ (e ≡ 0) → CardRefused f l x helpers card shares host group old old e
-    repair_earlier d = subst (λ y. CardRefused f l y helpers card shares host group old old e) en (record { refused = judged_earlier _ e q d; reason = omega arith; kept = refl })
-
     module _ (z : e ≡ 0) where
       made : Repairable f l n helpers group card shares host (length old)
       made = repairable_so f l n helpers group card shares host (length old) e q z
@@ -127,6 +112,12 @@ module _ {A : Type 0} {f : Field A} (W : Working f) (l : Layout) where
 
       pub repair_group : Fits w32 group
       repair_group = group_small l group made.adm.admissible.cabinet made.inside
+
+      pub repair_cabinet : Cabinet l
+      repair_cabinet = made.adm.admissible.cabinet
+
+      pub repair_inside : group < groups l
+      repair_inside = made.inside
 
       pub repair_given : Grouped l (n / l.size) group helpers × (length card ≡ digits l * l.helpers) × (symbols_from f card 0 (length card) ≡ true)
       repair_given = (grouped_of l n helpers group made.adm made.help made.inside, made.card_long, made.card_symbols)

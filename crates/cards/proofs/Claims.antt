@@ -28,7 +28,7 @@ use Rattle.repair.specs.declared.Repaired.TheVariants.{Done, Refused}
 use Rattle.repair.specs.Repair.{RepairAnswer}
 use Rattle.repair.proofs.Refusals.{repairable as repairing}
 use Rattle.repair.proofs.Unique.{repaired_unique}
-use Rattle.card.specs.Card.{Card, Right}
+use Rattle.card.specs.Card.{Right}
 use Rattle.card.specs.Grounds.{card_ground}
 use Rattle.card.proofs.Grounds.{Passed, passed_all}
 use Rattle.card.proofs.Right.{one_card}

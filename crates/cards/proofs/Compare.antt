@@ -1,17 +1,16 @@
 -- A card's numbers against the right multipliers, and these as a card.
 -- Assumes nothing.
-use mathlib.Core.Path.{◌≡◌, refl, sym, ap, subst, ◌∙◌}
-use mathlib.Core.Bool.{Bool, true, false, false≢true}
+use mathlib.Core.Path.{◌≡◌, sym, ap, subst, ◌∙◌}
+use mathlib.Core.Bool.{Bool, true, false≢true}
 use mathlib.Core.List.{List}
 use Prim.Native.Nat.{ℕ, ◌+◌, ◌*◌, ◌/◌, ◌%◌, ◌<◌, ◌≤◌}
 use native.Mathlib.Nat.{le_trans, mul-le-mul_right, mod-lt, zero-add, div-add-mod', div-lt_iff_lt-mul}
 use native.Mathlib.Omega.{arith}
-use lib.Dec.{eqb}
-use lib.ListN.{length, get_or}
+use lib.ListN.{length, get_or, take}
+use Rattle.std.proofs.Common.{length-take-le, get_or-take, ext_get_or, Decides}
+use Rattle.std.proofs.lemmas.Bool.Decides.{same_from_decides}
 use borrow.Author.Tests.{eq-eqb, eqb-true}
-use borrow.Author.Count.{below_more}
-use Rattle.lists.specs.Lists.{all}
-use Rattle.lists.proofs.Bools.{all_holds, all_true, all_false}
+use Rattle.lists.proofs.Bools.{all_holds, all_true}
 use Rattle.lists.proofs.Numbers.{cell_in}
 use Rattle.algebra.specs.Coding.{InRange}
 use Rattle.algebra.specs.Shape.{Field}
@@ -19,7 +18,7 @@ use Rattle.algebra.specs.Plain.{Working}
 use Rattle.algebra.proofs.Coding.{elem_same}
 use Rattle.kernel.specs.Inner.{Run, copied, cell}
 use Rattle.layout.specs.declared.Layout.{Layout}
-use Rattle.layout.specs.Layout.{digits, parity_racks}
+use Rattle.layout.specs.Layout.{digits}
 use Rattle.layout.proofs.Numbers.{whole_low}
 use Rattle.blocks.specs.Inner.{room_limit}
 use Rattle.range.specs.Range.{symbols_from}
@@ -32,20 +31,32 @@ use Rattle.cards.specs.Inner.{same_numbers, Agreeing, Verdict}
 
 -- ---- number by number
 module _ (a b : List ℕ) where
-  pub same_more : (i v w : ℕ) → ((k : ℕ) → k < i → get_or a k 0 ≡ get_or b k 0) → v ≡ get_or a i 0 → w ≡ get_or b i 0 → v ≡ w → (k : ℕ) → k < i + 1 → get_or a k 0 ≡ get_or b k 0
-  same_more i v w h ev ew e = below_more _ i h (sym ev ∙ e ∙ ew)
-
-  pub same_stop : (i len v w : ℕ) → i < len → v ≡ get_or a i 0 → w ≡ get_or b i 0 → ¬ (v ≡ w) → false ≡ same_numbers a b len
-  unfolding same_numbers
-  same_stop i len v w h ev ew d = all_false _ len i h (λ t. d (ev ∙ eqb-true _ _ t ∙ sym ew))
-
-  pub same_all : (i len : ℕ) → ((k : ℕ) → k < i → get_or a k 0 ≡ get_or b k 0) → len ≤ i → true ≡ same_numbers a b len
+  same_all : (i len : ℕ) → ((k : ℕ) → k < i → get_or a k 0 ≡ get_or b k 0) → len ≤ i → true ≡ same_numbers a b len
   unfolding same_numbers
   same_all i len h q = sym (all_true _ len (λ k l. eq-eqb _ _ (h k (omega arith))))
 
   same_holds : (len : ℕ) → same_numbers a b len ≡ true → (k : ℕ) → k < len → get_or a k 0 ≡ get_or b k 0
   unfolding same_numbers
   same_holds len t k h = eqb-true _ _ (all_holds _ len t k h)
+
+  -- as `==` on their first parts tells it
+  pub alike_told : (len : ℕ) (r : Bool) → len ≤ length a → len ≤ length b → Decides r (take len a ≡ take len b) → r ≡ same_numbers a b len
+  alike_told len r ha hb d =
+      same_from_decides r (same_numbers a b len) d (
+        λ t. ext_get_or 0 (take len a) (take len b) long (λ k h.
+            let q : k < len = omega (arith, first_long) in
+            number k (same_holds len t k q) q),
+        λ e. sym (same_all len len (λ k h. sym (get_or-take len a k 0 h) ∙ ap (λ s. get_or s k 0) e ∙ get_or-take len b k 0 h) (omega arith)),
+      )
+    where
+      first_long : length (take len a) ≡ len
+      first_long = length-take-le len a ha
+
+      long : length (take len a) ≡ length (take len b)
+      long = first_long ∙ sym (length-take-le len b hb)
+
+      number : (k : ℕ) → get_or a k 0 ≡ get_or b k 0 → k < len → get_or (take len a) k 0 ≡ get_or (take len b) k 0
+      number k e h = get_or-take len a k 0 h ∙ e ∙ sym (get_or-take len b k 0 h)
 
 module _ {A : Type 0} {f : Field A} (W : Working f) (l : Layout) (h p : ℕ) (helpers : List ℕ) (g : Grouped l h p helpers) where
   open f.coding use {elem, size}

@@ -4,27 +4,24 @@ use mathlib.Core.Path.{◌≡◌, refl, sym, ap, ◌∙◌}
 use mathlib.Core.Bool.{Bool, true, false, not, ◌&&◌, false≢true}
 use mathlib.Core.Logic.{inl, inr}
 use mathlib.Core.List.{List, [], ◌∷◌}
-use Prim.Native.Nat.{ℕ, ◌+◌, ◌*◌, ◌/◌, ◌<◌, ◌≤◌}
+use Prim.Native.Nat.{ℕ, ◌*◌, ◌/◌, ◌<◌}
 use native.Mathlib.Omega.{arith}
-use mir.Val.{Fits}
-use mir.Syntax.{w32, w64}
 use lib.Dec.{eqb}
 use lib.ListN.{length, get_or}
 use borrow.Author.Tests.{eq-eqb, ne_eqb, eqb-true}
 use Rattle.lists.specs.Lists.{all_below}
 use Rattle.lists.proofs.Bools.{both, and_true, not_both, told_true, told_false}
 use Rattle.lists.proofs.Numbered.{below_true}
-use Rattle.lists.proofs.Numbers.{mul_below}
 use Rattle.algebra.specs.Shape.{Field}
 use Rattle.layout.specs.declared.Layout.{Layout}
-use Rattle.layout.specs.Layout.{trays, digits, layers, groups, traffic, tray_limit, layer_limit, admissible_with, Cabinet, AdmissibleWith}
-use Rattle.layout.proofs.Facts.{bounds, rack_in, with_facts, with_so}
+use Rattle.layout.specs.Layout.{trays, digits, layers, groups, traffic, admissible_with, Cabinet, AdmissibleWith}
+use Rattle.layout.proofs.Facts.{rack_in, with_facts, with_so}
 use Rattle.range.specs.Range.{symbols_from}
 use Rattle.rule.specs.Rule.{Helpers}
 use Rattle.rule.proofs.Single.{zero_is}
 use Rattle.seen.specs.Seen.{piece_symbols}
-use Rattle.card.specs.Grounds.{in_layout, helpers_ground, card_ground}
-use Rattle.card.proofs.Grounds.{ground_1, ground_2, ground_3, ground_seen, ground_rest, inside_tray, Passed, passed_all}
+use Rattle.card.specs.Grounds.{in_layout, helpers_ground}
+use Rattle.card.proofs.Grounds.{ground_1, ground_2, ground_3, ground_seen, ground_rest, inside_tray, passed_all}
 use Rattle.multipliers.specs.Inner.{Grouped}
 use Rattle.cards.specs.Cards.{print_ground, test_ground, repair_ground, Judged}
 use Rattle.cards.specs.Inner.{Looking}
@@ -48,15 +45,6 @@ grouped_of l x helpers group a h g = record {
 module _ (N : ℕ) (l : Layout) (b : Bool) (e : b ≡ admissible_with N 0 l) (h : not b ≡ false) where
   pub cabinet_so : Cabinet l
   cabinet_so = (with_so N 0 l b e h).admissible.cabinet
-
-  pub multipliers_fit : (s : ℕ) → s ≡ digits l → Fits w64 (s * l.helpers)
-  multipliers_fit s es = let q = bounds l cabinet_so in record { fits = mul_below tray_limit tray_limit (omega arith) (omega (arith, cabinet_so.helpers_high)) tt }
-
-  pub shares_fit : (g : ℕ) → g ≡ groups l → Fits w64 (l.helpers * g)
-  shares_fit g eg = let q = bounds l cabinet_so in record { fits = mul_below tray_limit layer_limit (omega (arith, cabinet_so.helpers_high)) (omega arith) tt }
-
-  pub host_fits : (n : ℕ) → n ≡ layers l → Fits w64 (l.size * n)
-  host_fits n en = let q = bounds l cabinet_so in record { fits = mul_below tray_limit layer_limit (omega arith) (omega (arith, cabinet_so.layers_high)) tt }
 
 -- ---- printing
 module _ {A : Type 0} (f : Field A) (l : Layout) (x : ℕ) (helpers : List ℕ) (group card : ℕ) (b : Bool) (e : b ≡ admissible_with f.order 0 l) where
@@ -242,9 +230,6 @@ one_below l x h = sym (below_true (x ∷ []) (trays l) (λ i k. go i k))
 
 -- ---- the answers
 module _ {right : Type 0} (before : ℕ) where
-  pub judged_earlier : (e : ℕ) → e ≡ before → ¬ (e ≡ 0) → Judged before right e
-  judged_earlier e q d = record { earlier = λ h. q; last = λ z. absurd (d (q ∙ z)) }
-
   pub judged_wrong : before ≡ 0 → ¬ right → Judged before right 15
   judged_wrong z w = record { earlier = λ h. absurd (omega arith); last = λ y. inr (refl, w) }
 

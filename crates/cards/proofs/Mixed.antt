@@ -1,8 +1,8 @@
 -- In a list of repairs over one spare a card's repair of group G may stand for the piece that does group G alone: the cutting claim holds for lists of both.
 -- Assumes nothing.
-use mathlib.Core.Path.{◌≡◌, sym, subst}
+use mathlib.Core.Path.{sym, subst}
 use mathlib.Core.List.{List, [], ◌∷◌}
-use Prim.Native.Nat.{ℕ, ◌*◌, ◌<◌}
+use Prim.Native.Nat.{ℕ, ◌<◌}
 use native.Mathlib.Nat.{one-mul}
 use native.Mathlib.Omega.{arith}
 use Rattle.algebra.specs.Shape.{Field}
@@ -11,10 +11,10 @@ use Rattle.layout.specs.declared.Layout.{Layout}
 use Rattle.layout.specs.Layout.{layers, traffic, AdmissibleWith}
 use Rattle.rule.specs.Rule.{Helpers}
 use Rattle.rule.specs.Lost.{lost_place, SoundAlike}
-use Rattle.repair.specs.Calls.{Calls, none, done, refused}
+use Rattle.repair.specs.Calls.{Calls, done, refused}
 use Rattle.repair.specs.One.{OthersAlike, CutOne}
 use Rattle.repair.proofs.Single.{cutting_one}
-use Rattle.cards.specs.CardCalls.{CardCalls, none, piece, card, refused_piece, refused_card}
+use Rattle.cards.specs.CardCalls.{CardCalls, piece, card, refused_piece, refused_card}
 
 module _ {A : Type 0} (f : Field A) (l : Layout) (x : ℕ) (helpers shares host start : List ℕ) where
   sound : (host' : List ℕ) → ((j : ℕ) → j < layers l → OthersAlike f l x j host host') → (j : ℕ) → j < layers l → SoundAlike f l (x ∷ []) j host host'

@@ -3,12 +3,10 @@
 use mathlib.Core.Path.{◌≡◌, sym, ap, ap₂, subst, fun_ext, ◌∙◌}
 use mathlib.Core.List.{List, [], ◌∷◌}
 use Prim.Native.Nat.{ℕ, ◌+◌, ◌*◌, ◌/◌, ◌<◌, ◌≤◌}
-use native.Mathlib.Nat.{one-mul, mul-one, add-zero, pow-zero, div-le_self}
+use native.Mathlib.Nat.{one-mul, add-zero}
 use native.Mathlib.Decide.{ℕ_discrete}
 use native.Mathlib.Omega.{arith}
 use lib.ListN.{length, get_or}
-use Rattle.lists.proofs.Numbers.{cell_in}
-use Rattle.algebra.specs.Sum.{sum}
 use Rattle.algebra.specs.Shape.{Field}
 use Rattle.algebra.specs.Plain.{minus, times, Working}
 use Rattle.algebra.specs.Layers.{digit, layer_of}
@@ -18,7 +16,7 @@ use Rattle.algebra.proofs.Ring.{ring}
 use Rattle.algebra.proofs.Sum.{sum_zero, sum_add_one}
 use Rattle.kernel.specs.Inner.{Run, filled, cell}
 use Rattle.layout.specs.declared.Layout.{Layout}
-use Rattle.layout.specs.Layout.{digits, layers, groups, parity_racks, tray_limit, layer_limit}
+use Rattle.layout.specs.Layout.{digits, layers, groups, parity_racks}
 use Rattle.layout.proofs.Facts.{bounds, rack_in}
 use Rattle.layout.proofs.Numbers.{digits_small, whole_low}
 use Rattle.codeword.specs.Codeword.{shape_of, Solvable}
@@ -33,31 +31,8 @@ use Rattle.group.proofs.Repair.{repaired_piece}
 use Rattle.card.specs.Card.{multiplier, card_sum}
 use Rattle.card.proofs.Right.{right_sums}
 use Rattle.multipliers.proofs.Sides.{block_of}
-use Rattle.cards.specs.Inner.{Carding, part_sum, SumsBelow, CardRepairing}
+use Rattle.cards.specs.Inner.{part_sum, SumsBelow, CardRepairing}
 use Rattle.cards.proofs.Grounds.{grouped_of}
-
-module _ (l : Layout) (card shares : List ℕ) (p : ℕ) (g : Carding l card shares p) where
-  -- the place of a multiplier, and that of a share symbol
-  pub helpers_limit : l.helpers ≤ layer_limit
-  helpers_limit = let q = bounds l g.adm in omega (arith, g.adm.helpers_high)
-
-  pub digit_limit : (b : ℕ) → b < digits l → b < tray_limit
-  digit_limit b h = omega (arith, digits_small l g.adm)
-
-  pub multiplier_in : (b k r : ℕ) → b < digits l → k < l.helpers → r ≡ b * l.helpers + k → r < length card
-  multiplier_in b k r hb hk e = rw (e, g.card_long) (cell_in (digits l) l.helpers b k hb hk)
-
-  pub groups_limit : (n : ℕ) → n ≡ groups l → n ≤ layer_limit
-  groups_limit n e = let q = bounds l g.adm in omega arith
-
-  pub helper_limit : (k : ℕ) → k < l.helpers → k < tray_limit
-  helper_limit k h = let q = bounds l g.adm in omega (arith, g.adm.helpers_high)
-
-  pub group_limit : (n : ℕ) → n ≡ groups l → p < n
-  group_limit n e = omega (arith, g.inside)
-
-  pub share_in : (k n r : ℕ) → k < l.helpers → n ≡ groups l → r ≡ k * n + p → r < length shares
-  share_in k n r hk en e = rw (e ∙ ap (λ y. k * y + p) en, g.shares_long) (cell_in l.helpers (groups l) k p hk g.inside)
 
 module _ {A : Type 0} {f : Field A} (W : Working f) where
   open f use {ops}
@@ -160,12 +135,6 @@ module _ {A : Type 0} {f : Field A} (W : Working f) where
 
     pub spare_there : length spare ≡ 1 * layers l
     spare_there = g.spare_long ∙ sym (one-mul (layers l))
-
-    pub digits_there : digits l ≤ 256
-    digits_there = omega (arith, digits_small l g.adm.admissible.cabinet)
-
-    pub size_there : 0 < l.size
-    size_there = (bounds l g.adm.admissible.cabinet).size_low
 
 -- the arrays
 pub rows : Workspace 1 1 row_of row_of row_of row_of row_of row_of

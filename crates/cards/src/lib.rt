@@ -25,14 +25,7 @@ fn alike(a: &[u8], b: &[u8], len: usize) -> bool
     requires { (len ≤ length a.now) × (len ≤ length b.now) }
     ensures { result ≡ same_numbers a.now b.now len }
 {
-    let mut i = 0usize;
-    while i < len {
-        if kernel::at(a, i) != kernel::at(b, i) {
-            return false;
-        }
-        i += 1;
-    }
-    true
+    a[..len] == b[..len]
 }
 
 // Whether a card's numbers are the right multipliers.
@@ -183,11 +176,9 @@ fn card_sum(l: Layout, card: &[u8], shares: &[u8], p: u32, b: u32) -> u8
     let d = l.helpers;
     let n = layout::group_count(l);
     let mut v = 0u8;
-    let mut k = 0u32;
-    while k < d {
+    for k in 0..d {
         let m = kernel::at(card, codeword::cell(d, b, k));
         v = difference(v, product(m, kernel::at(shares, codeword::cell(n, k, p))));
-        k += 1;
     }
     v
 }
@@ -198,11 +189,9 @@ fn card_sums(sums: &mut [u8], l: Layout, card: &[u8], shares: &[u8], p: u32)
     ensures { SumsBelow gf256 l card.now shares.now p (digits l) sums.new }
 {
     let s = layout::digit_count(l);
-    let mut b = 0u32;
-    while b < s {
+    for b in 0..s {
         let v = card_sum(l, card, shares, p, b);
         kernel::fill(sums, b as usize, 1, v);
-        b += 1;
     }
 }
 

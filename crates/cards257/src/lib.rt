@@ -26,14 +26,7 @@ fn alike(a: &[u16], b: &[u16], len: usize) -> bool
     requires { (len ≤ length a.now) × (len ≤ length b.now) }
     ensures { result ≡ same_numbers a.now b.now len }
 {
-    let mut i = 0usize;
-    while i < len {
-        if kernel257::at(a, i) != kernel257::at(b, i) {
-            return false;
-        }
-        i += 1;
-    }
-    true
+    a[..len] == b[..len]
 }
 
 // Whether a card's numbers are the right multipliers.
@@ -54,7 +47,7 @@ fn print_card(card: &mut [u16], l: Layout, h: u32, p: u32, helpers: &[u32])
     let n = card.len();
     let mut found = [0u16; blocks::ROOM];
     multipliers257::right_multipliers(&mut found, l, h, p, helpers);
-    kernel257::copy(card, 0, n, &found, 0);
+    kernel::copy(card, 0, n, &found, 0);
 }
 
 // The first ground of printing, 0 for none.
@@ -88,7 +81,7 @@ fn test_ground(l: Layout, x: u32, helpers: &[u32], card: &[u16], group: u64) -> 
     if !card::in_layout(l, x, helpers, group) {
         return 3;
     }
-    if !range257::are_symbols(card, 0, card.len()) {
+    if !range::are_symbols(card, 0, card.len()) {
         return 3;
     }
     card::helpers_ground(l, x, helpers)
@@ -100,7 +93,7 @@ fn group_symbols(l: Layout, x: u32, shares: &[u16], host: &[u16], group: u64) ->
     ensures { result ≡ piece_symbols gf257 l (x ∷ []) shares.now host.now group 1 }
 {
     let lost = [x];
-    seen257::piece_symbols(l, &lost, shares, host, group, 1)
+    seen::piece_symbols(l, &lost, shares, host, group, 1)
 }
 
 // The first ground of a repair before the last, 0 for none.
@@ -137,7 +130,7 @@ fn repair_ground(
     if !card::in_layout(l, x, helpers, group) {
         return 3;
     }
-    if !range257::are_symbols(card, 0, card.len()) {
+    if !range::are_symbols(card, 0, card.len()) {
         return 3;
     }
     if !group_symbols(l, x, shares, host, group) {
@@ -184,14 +177,9 @@ fn card_sum(l: Layout, card: &[u16], shares: &[u16], p: u32, b: u32) -> u16
     let d = l.helpers;
     let n = layout::group_count(l);
     let mut v = 0u16;
-    let mut k = 0u32;
-    while k < d {
-        let m = kernel257::at(card, codeword::cell(d, b, k));
-        v = difference(
-            v,
-            product(m, kernel257::at(shares, codeword::cell(n, k, p))),
-        );
-        k += 1;
+    for k in 0..d {
+        let m = kernel::at(card, codeword::cell(d, b, k));
+        v = difference(v, product(m, kernel::at(shares, codeword::cell(n, k, p))));
     }
     v
 }
@@ -202,11 +190,9 @@ fn card_sums(sums: &mut [u16], l: Layout, card: &[u16], shares: &[u16], p: u32)
     ensures { SumsBelow gf257 l card.now shares.now p (digits l) sums.new }
 {
     let s = layout::digit_count(l);
-    let mut b = 0u32;
-    while b < s {
+    for b in 0..s {
         let v = card_sum(l, card, shares, p, b);
-        kernel257::fill(sums, b as usize, 1, v);
-        b += 1;
+        kernel::fill(sums, b as usize, 1, v);
     }
 }
 

@@ -3,13 +3,13 @@
 use mathlib.Core.Path.{◌≡◌, ap₂, ◌∙◌}
 use mathlib.Core.Bool.{Bool}
 use mathlib.Core.List.{List}
-use Prim.Native.Nat.{ℕ, ◌+◌, ◌*◌, ◌/◌, ◌%◌, ◌<◌, ◌≤◌}
+use Prim.Native.Nat.{ℕ, ◌+◌, ◌*◌, ◌/◌, ◌%◌, ◌<◌}
 use native.Mathlib.Omega.{arith}
 use lib.Dec.{T, eqb, eqb→eq}
 use lib.ListN.{length, get_or}
 use Rattle.lists.proofs.Computed.{every, at}
 use Rattle.checksum.specs.Checksum.{steps}
-use Rattle.checksum.specs.Inner.{Table, Tables}
+use Rattle.checksum.specs.Inner.{Tables}
 
 -- entry i of row q is what 4 q + 4 steps make of i
 abbrev pub right : ℕ → ℕ → Bool

@@ -1,17 +1,12 @@
 -- Steps add up and are linear; four of them halve a number with four zeros below four times, eight one with eight zeros.
 -- Assumes nothing.
-use mathlib.Core.Path.{◌≡◌, refl, sym, ap, ap₂, ◌∙◌}
-use mathlib.Core.List.{List, [], ◌∷◌, ◌++◌}
-use Prim.Native.Nat.{ℕ, zero, suc, ◌+◌, ◌*◌, ◌/◌, ◌%◌, ◌<◌, ◌≤◌}
-use native.Mathlib.Nat.{div-add-mod', zero-mul, zero-add, suc-add, mod-lt}
-use native.Mathlib.Numerals.{add-one}
+use mathlib.Core.Path.{◌≡◌, refl, ap, ap₂, ◌∙◌}
+use Prim.Native.Nat.{ℕ, zero, suc, ◌+◌, ◌*◌, ◌/◌, ◌%◌}
+use native.Mathlib.Nat.{zero-mul, zero-add, suc-add}
 use native.Mathlib.Omega.{arith}
-use lib.Bits.{xor_shifted, xor_lt}
-use lib.ListN.{length, get_or, take}
-use lib.Seq.{take-suc}
 use Rattle.symbol.specs.Arithmetic.{◌⊕◌}
-use Rattle.symbol.proofs.Xor.{⊕-comm, ⊕-assoc, ⊕-zero, ⊕-half, ⊕-bit, ⊕-swap, ⊕-left-comm}
-use Rattle.checksum.specs.Checksum.{reversed, step, steps, fed}
+use Rattle.symbol.proofs.Xor.{⊕-zero, ⊕-half, ⊕-bit, ⊕-swap}
+use Rattle.checksum.specs.Checksum.{reversed, step, steps}
 
 step_⊕ : (a b : ℕ) → step (a ⊕ b) ≡ step a ⊕ step b
 unfolding step

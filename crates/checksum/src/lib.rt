@@ -28,16 +28,14 @@ fn one(t: &[u64], r: u64, b: u8) -> u64
     entry(t, 0, r, b) ^ (r >> 8)
 }
 
-// The bytes from a place on fed, one after the other.
-fn by_ones(t: &[u64], start: u64, bytes: &[u8], from: usize) -> u64
-    requires { Table t.now 0 × (from ≤ length bytes.now) }
-    ensures { result ≡ fed start (drop from bytes.now) }
+// The bytes fed, one after the other.
+fn by_ones(t: &[u64], start: u64, bytes: &[u8]) -> u64
+    requires { Table t.now 0 }
+    ensures { result ≡ fed start bytes.now }
 {
     let mut r = start;
-    let mut i = from;
-    while i < bytes.len() {
-        r = one(t, r, bytes[i]);
-        i += 1;
+    for byte in bytes {
+        r = one(t, r, *byte);
     }
     r
 }
@@ -61,11 +59,12 @@ fn by_eights(t: &[u64], start: u64, bytes: &[u8]) -> u64
 {
     let mut r = start;
     let mut i = 0;
+    // No plainer: the place goes on by eight, and the rest begins where the loop ends.
     while 8 <= bytes.len() - i {
         r = eight(t, r, bytes, i);
         i += 8;
     }
-    by_ones(t, r, bytes, i)
+    by_ones(t, r, &bytes[i..])
 }
 
 // The checksum of bytes that follow those of which start is the checksum; of the first ones start is 0.

@@ -6,7 +6,7 @@ use Prim.Native.Nat.{ℕ, ◌*◌, ◌/◌, ◌%◌, ◌<◌}
 use native.Mathlib.Nat.{mod-lt, div-add-mod', div-lt_iff_lt-mul}
 use lib.ListN.{length, get_or}
 use lib.Seq.{ext_get_or}
-use Rattle.algebra.specs.Coding.{Coded, InRange}
+use Rattle.algebra.specs.Coding.{InRange}
 use Rattle.algebra.specs.Lagrange.{Distinct}
 use Rattle.algebra.specs.Shape.{Field}
 use Rattle.algebra.specs.Cabinet.{Codeword as Word}

@@ -1,7 +1,7 @@
 -- Every layout that is admissible for a field is usable over it, and with E = 0 solvable.
 -- Assumes nothing.
 use native.Mathlib.Omega.{arith}
-use Rattle.algebra.specs.Shape.{Field, FieldLaws}
+use Rattle.algebra.specs.Shape.{Field}
 use Rattle.algebra.specs.Plain.{Working}
 use Rattle.layout.specs.declared.Layout.{Layout}
 use Rattle.layout.specs.Layout.{Admissible, AdmissibleWith}

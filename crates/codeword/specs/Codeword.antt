@@ -1,10 +1,10 @@
 -- Codewords of document 01, over any field: a buffer of n·L numbers that lies tray after tray, c(x, j) at x·L + j.
 -- Assumes nothing.
 use Rattle.std.specs.Prelude.{◌≡◌, List, ℕ, ◌+◌, ◌-◌, ◌*◌, ◌%◌, ◌^◌, ◌<◌, ◌≤◌, length, get_or}
-use Rattle.algebra.specs.Coding.{Coding, InRange}
+use Rattle.algebra.specs.Coding.{InRange}
 use Rattle.algebra.specs.Lagrange.{check}
 use Rattle.algebra.specs.Shape.{Field, FieldLaws, Shape, Fits}
-use Rattle.algebra.specs.Cabinet.{layer_point, Codeword as Word}
+use Rattle.algebra.specs.Cabinet.{layer_point}
 use Rattle.layout.specs.declared.Layout.{Layout}
 use Rattle.layout.specs.Layout.{trays, checks, digits, layers, groups, parity_racks}
 

@@ -4,7 +4,6 @@ use Rattle.std.specs.Prelude.{◌≡◌, List, ℕ, ◌+◌, ◌*◌, ◌/◌, �
 use Rattle.algebra.specs.Layers.{digit}
 use Rattle.algebra.specs.Shape.{Field}
 use Rattle.layout.specs.declared.Layout.{Layout}
-use Rattle.layout.specs.declared.Layer.{Layer}
 use Rattle.layout.specs.Layout.{trays, checks, digits, layers, Cabinet}
 use Rattle.codeword.specs.declared.Tested.{Tested}
 use Rattle.codeword.specs.declared.Tested.TheVariants.{Sound, Bad, Refused}

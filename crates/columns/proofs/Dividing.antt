@@ -3,14 +3,11 @@
 use mathlib.Core.Path.{◌≡◌, sym, ap, ap₂, ◌∙◌, subst}
 use mathlib.Core.List.{List}
 use Prim.Native.Nat.{ℕ, ◌+◌, ◌-◌, ◌*◌, ◌<◌, ◌≤◌}
-use native.Mathlib.Nat.{add-mul, add_assoc, zero-add, mul-le-mul_right, le-mul_of_pos_right}
+use native.Mathlib.Nat.{add-mul, add_assoc, zero-add, mul-le-mul_right}
 use native.Mathlib.Numerals.{add-one}
 use native.Mathlib.Decide.{ℕ_discrete, dec_lt}
 use native.Mathlib.Omega.{arith}
-use mir.Val.{Fits}
-use mir.Syntax.{w64}
 use lib.ListN.{length, get_or, set}
-use Rattle.algebra.specs.Field.{Ops}
 use Rattle.algebra.specs.Poly.{coeff}
 use Rattle.algebra.proofs.Ring.{neg_mul}
 use Rattle.algebra.specs.Shape.{Field}
@@ -18,8 +15,8 @@ use Rattle.algebra.specs.Plain.{plus, minus, times, Working}
 use Rattle.algebra.proofs.Plain.{elem_one, elem_plus, elem_minus, elem_times}
 use Rattle.kernel.specs.Inner.{cell, Run, Standing, filled, parted, inverted}
 use Rattle.kernel.proofs.Runs.{run_more}
-use Rattle.kernel.proofs.Rows.{row_before, row_in, cell_other}
-use Rattle.columns.specs.Inner.{column, differences, grown, locator, turned, Columns, Locator, Turned, Divisors, Quotient, divided, scaled, scaled_by, negated}
+use Rattle.kernel.proofs.Rows.{row_before, cell_other}
+use Rattle.columns.specs.Inner.{column, grown, locator, turned, Locator, Turned, Divisors, Quotient, divided, scaled, scaled_by, negated}
 use Rattle.columns.proofs.Quotients.{quotient_step, quotient_top, turned_all, turned_first, turned_after, turned_round}
 
 -- ---- some rows written
@@ -180,74 +177,9 @@ module _ {A : Type 0} {f : Field A} (W : Working f) where
         go k c a h l (yes e) = subst (λ x. cell f v is x c ≡ coeff ops (grown f ops.one (column f v points c) i m) x) (sym e) (here c l)
         go k c a h l (no d) = cell_other f _ was is (t - 1) v r k c l d ∙ q.at k c (omega arith) h l
 
-    pub quotient_end : (t : ℕ) (out : List ℕ) → Quotient f v m points i t out → t ≤ 0 → Quotient f v m points i 0 out
-    quotient_end t out q h = let e : t ≡ 0 = omega arith in subst (λ n. Quotient f v m points i n out) e q
-
--- ---- places
-module _ (v m : ℕ) (points out : List ℕ) (s : Columns v m points out) where
-  both : (k : ℕ) (xs : List ℕ) → k < m → m * v ≤ length xs → (m - k) * v + k * v ≤ length xs
-  both k xs h l =
-      let e : (m - k + k) * v ≤ m * v = mul-le-mul_right v (let q : m - k + k ≤ m = omega arith in q) in
-      let d = add-mul (m - k) k v in
-      omega arith
-
-  pub all_in : 0 + m * v ≤ length out
-  all_in = let l = s.out_long in omega arith
-
-  pub ahead_in : (k : ℕ) → k < m → 0 + (m - k) * v ≤ length out
-  ahead_in k h = let e = both k out h s.out_long in omega arith
-
-  pub behind_in : (k : ℕ) (next : List ℕ) → k < m → length next ≡ length out → (m - k) * v + k * v ≤ length next
-  behind_in k next h e = rw e (both k out h s.out_long)
-
-  pub points_ahead : (k : ℕ) → k < m → k * v + (m - k) * v ≤ length points
-  points_ahead k h = let e = both k points h s.points_long in omega arith
-
-  pub points_first : (k : ℕ) → k < m → 0 + (m - k) * v ≤ length points
-  points_first k h = let e = both k points h s.points_long in omega arith
-
-  pub points_behind : (k : ℕ) → k < m → (m - k) * v + k * v ≤ length points
-  points_behind k h = both k points h s.points_long
-
-  pub points_begin : (k : ℕ) → k < m → 0 + k * v ≤ length points
-  points_begin k h = let e = both k points h s.points_long in omega arith
-
-  row_fits : (x : ℕ) → x ≤ m → Fits w64 (length out) → Fits w64 (x * v)
-  row_fits x h f = let e = mul-le-mul_right v h in let l = s.out_long in omega arith
-
-  pub whole_fits : Fits w64 (length out) → Fits w64 (m * v)
-  whole_fits f = row_fits m (omega arith) f
-
-  pub step_fits : (k : ℕ) → k < m → Fits w64 (length out) → Fits w64 (k * v)
-  step_fits k h f = row_fits k (omega arith) f
-
-  pub ahead_fits : (k : ℕ) → k < m → Fits w64 (length out) → Fits w64 ((m - k) * v)
-  ahead_fits k h f = row_fits (m - k) (omega arith) f
-
-  -- the quotient's
-  pub top_fits : (i : ℕ) → i < m → Fits w64 (length out) → Fits w64 ((m - 1) * v)
-  top_fits i h f = row_fits (m - 1) (omega arith) f
-
-  pub top_in : (i : ℕ) → i < m → (m - 1) * v + v ≤ length out
-  top_in i h = row_in out m v (m - 1) s.out_long (omega arith)
-
-  pub down_fits : (t : ℕ) → t < m → Fits w64 (length out) → Fits w64 ((t - 1) * v)
-  down_fits t h f = row_fits (t - 1) (omega arith) f
-
-  rows_few : m ≤ length out
-  rows_few = let e = le-mul_of_pos_right m s.columns_low in let l = s.out_long in omega arith
-
-  pub from_few : (t : ℕ) → t < m → 0 < t → Fits w64 (length out) → Fits w64 (t - 1 + 1)
-  from_few t h l f = let e = rows_few in omega arith
-
-  pub from_fits : (t : ℕ) → t < m → 0 < t → Fits w64 (length out) → Fits w64 ((t - 1 + 1) * v)
-  from_fits t h l f = row_fits (t - 1 + 1) (omega arith) f
-
-  pub next_after : (t : ℕ) → 0 < t → (t - 1) * v + v ≤ (t - 1 + 1) * v
-  next_after t l = row_before (t - 1) (t - 1 + 1) v (omega arith)
-
-  pub next_in : (t : ℕ) (now : List ℕ) → t < m → 0 < t → length now ≡ length out → (t - 1 + 1) * v + v ≤ length now
-  next_in t now h l e = rw e (row_in out m v (t - 1 + 1) s.out_long (omega arith))
-
-pub product_in : (v m t : ℕ) (product : List ℕ) → m * v ≤ length product → t < m → 0 < t → (t - 1 + 1) * v + v ≤ length product
-product_in v m t product l h g = row_in product m v (t - 1 + 1) l (omega arith)
+-- ---- rows up to one and from it on
+pub two_runs : (v m k : ℕ) → k < m → (m - k) * v + k * v ≤ m * v
+two_runs v m k h =
+    let e : (m - k + k) * v ≤ m * v = mul-le-mul_right v (let q : m - k + k ≤ m = omega arith in q) in
+    let d = add-mul (m - k) k v in
+    omega arith

@@ -1,7 +1,6 @@
 -- The product of (X - q) / (point - q), with one inverse of the product of all differences.
 -- Assumes nothing.
 use mathlib.Core.Path.{◌≡◌, refl, sym, ap, ap₂, ◌∙◌}
-use mathlib.Core.Bool.{Bool}
 use mathlib.Core.List.{List, [], ◌∷◌}
 use Prim.Native.Nat.{ℕ, zero, suc, ◌+◌, ◌≤◌}
 use native.Mathlib.Numerals.{add-one}
@@ -9,11 +8,11 @@ use native.Mathlib.Decide.{ℕ_discrete}
 use native.Mathlib.Omega.{arith}
 use lib.Dec.{eqb}
 use lib.ListN.{length}
-use Rattle.algebra.specs.Field.{Ops, Laws}
+use Rattle.algebra.specs.Field.{Laws}
 use Rattle.algebra.specs.Poly.{coeff, scale, carried, linear}
 use Rattle.algebra.specs.Lagrange.{basis}
 use Rattle.algebra.specs.Erasure.{choose}
-use Rattle.algebra.proofs.Ring.{ring, mul_zero, zero_mul, mul_one, one_mul, mul_comm, mul_assoc, mul_neg, neg_mul, neg_neg}
+use Rattle.algebra.proofs.Ring.{ring, mul_zero, zero_mul, mul_one, one_mul, mul_comm}
 use Rattle.algebra.proofs.Poly.{coeff_tail, coeff_nil, coeff_scale, length_linear}
 use Rattle.algebra.proofs.Lagrange.{basis_zero, basis_same, basis_other}
 use Rattle.algebra.proofs.Equal.{eqb_same, eqb_other}

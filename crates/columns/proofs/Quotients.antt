@@ -8,8 +8,8 @@ use native.Mathlib.Numerals.{add-one}
 use native.Mathlib.Decide.{ℕ_discrete}
 use native.Mathlib.Omega.{arith}
 use lib.ListN.{length}
-use Rattle.algebra.specs.Field.{Ops, Laws}
-use Rattle.algebra.specs.Poly.{coeff, linear, scale}
+use Rattle.algebra.specs.Field.{Laws}
+use Rattle.algebra.specs.Poly.{coeff, linear}
 use Rattle.algebra.specs.Lagrange.{basis}
 use Rattle.algebra.specs.Locate.{gaps}
 use Rattle.algebra.proofs.Ring.{ring, mul_one, mul_comm, mul_assoc}

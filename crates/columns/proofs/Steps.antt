@@ -7,19 +7,16 @@ use native.Mathlib.Nat.{zero-add, not-suc-le-zero}
 use native.Mathlib.Numerals.{add-one}
 use native.Mathlib.Decide.{ℕ_discrete, dec_lt}
 use native.Mathlib.Omega.{arith}
-use mir.Val.{Fits}
-use mir.Syntax.{w64}
 use lib.ListN.{length, get_or}
-use Rattle.algebra.specs.Field.{Ops}
 use Rattle.algebra.specs.Poly.{coeff, linear}
 use Rattle.algebra.proofs.Ring.{add_zero, zero_add as add-zero-left, mul_zero, mul_comm, neg_zero}
 use Rattle.algebra.proofs.Poly.{coeff_head, coeff_tail, coeff_nil, coeff_linear_zero, coeff_linear_suc}
 use Rattle.algebra.specs.Shape.{Field}
-use Rattle.algebra.specs.Plain.{minus, times, Working}
+use Rattle.algebra.specs.Plain.{times, Working}
 use Rattle.algebra.proofs.Plain.{elem_zero, elem_one, elem_minus, elem_times}
 use Rattle.kernel.specs.Inner.{cell, Run, filled, copied, shifted}
-use Rattle.kernel.proofs.Rows.{row_end, row_before, row_in, zero_cell, cell_is, cell_other}
-use Rattle.columns.specs.Inner.{column, locator, Columns, Locator, Timed, carried, Timing}
+use Rattle.kernel.proofs.Rows.{row_end, row_before, zero_cell, cell_is, cell_other}
+use Rattle.columns.specs.Inner.{column, locator, Locator, Timed, carried, Timing}
 use Rattle.columns.proofs.Products.{coeff_past}
 use Rattle.columns.proofs.Quotients.{locator_none, locator_suc, locator_length}
 
@@ -144,40 +141,3 @@ module _ {A : Type 0} {f : Field A} (W : Working f) where
 
       at : (t c : ℕ) → t < m → c < v → cell f v is t c ≡ coeff ops (locator f (column f v points c) (q + 1)) t
       at t c h k = step t c h k ∙ ap (λ l. coeff ops l t) (sym (locator_suc W (column f v points c) q) ∙ ap (locator f (column f v points c)) (sym (add-one q)))
-
-  pub locator_end : (v m : ℕ) (points : List ℕ) (q : ℕ) (out : List ℕ) → Locator f v m points q out → q ≤ m → m ≤ q → Locator f v m points m out
-  locator_end v m points q out g h l = let e : q ≡ m = omega arith in subst (λ n. Locator f v m points n out) e g
-
--- ---- places
-pub columns_next : (v m : ℕ) (points was is : List ℕ) → Columns v m points was → length is ≡ length was → Columns v m points is
-columns_next v m points was is s e = record { columns_low = s.columns_low; points_long = s.points_long; out_long = rw e s.out_long }
-
-row_out : (v m i : ℕ) (points out : List ℕ) → Columns v m points out → i < m → i * v + v ≤ length out
-row_out v m i points out s h = row_in out m v i s.out_long h
-
-pub first_in : (v m : ℕ) (points out : List ℕ) → Columns v m points out → 0 < m → 0 + v ≤ length out
-first_in v m points out s h = let e = row_out v m 0 points out s (omega arith) in omega arith
-
-pub point_in : (v m i : ℕ) (points out : List ℕ) → Columns v m points out → i < m → i * v + v ≤ length points
-point_in v m i points out s h = row_in points m v i s.points_long h
-
-pub rest_low : (v m : ℕ) → 0 < m → v ≤ m * v
-rest_low v m h = let e = row_before 0 m v (omega arith) in omega arith
-
-pub rest_in : (v m : ℕ) (points was is : List ℕ) → Columns v m points was → length is ≡ length was → 0 < m → v + (m * v - v) ≤ length is
-rest_in v m points was is s e h = let k = rest_low v m h in let g = s.out_long in omega arith
-
-pub point_fits : (v m i : ℕ) (points out : List ℕ) → Columns v m points out → i < m → Fits w64 (length points) → Fits w64 (i * v)
-point_fits v m i points out s h f = let e = point_in v m i points out s h in omega arith
-
-pub whole_fits : (v m : ℕ) (points out : List ℕ) → Columns v m points out → Fits w64 (length points) → Fits w64 (m * v)
-whole_fits v m points out s f = let e = s.points_long in omega arith
-
-pub shift_in : (v m t top : ℕ) (points was is : List ℕ) → Columns v m points was → length is ≡ length was → t ≤ top → top < m → t * v + v ≤ length is
-shift_in v m t top points was is s e l k = rw e (row_out v m t points was s (omega arith))
-
-pub shift_fits : (v m t top : ℕ) (points out : List ℕ) → Columns v m points out → t ≤ top → top < m → Fits w64 (length points) → Fits w64 (t * v)
-shift_fits v m t top points out s h l f = point_fits v m t points out s (omega arith) f
-
-pub top_in : (m q top : ℕ) → q < m → top ≡ min (q + 1) (m - 1) → top < m
-top_in m q top h e = omega arith

@@ -1,7 +1,6 @@
 -- Systems of checks by the columns, over any field: what the functions are told and give. Nothing here has to be believed.
 -- Assumes nothing.
 use Rattle.std.specs.Prelude.{◌≡◌, List, [], ◌∷◌, ℕ, zero, suc, ◌+◌, ◌-◌, ◌*◌, ◌/◌, ◌%◌, ◌<◌, ◌≤◌, min, eqb, length, get_or}
-use Rattle.algebra.specs.Field.{Ops}
 use Rattle.algebra.specs.Sum.{sum}
 use Rattle.algebra.specs.Poly.{coeff, linear}
 use Rattle.algebra.specs.Lagrange.{solve}
@@ -12,7 +11,7 @@ use Rattle.algebra.specs.Plain.{plus, minus, times}
 use Rattle.kernel.specs.Inner.{cell}
 
 -- m rows of v columns
-pub record Columns (v m : ℕ) (points out : List ℕ) : Type 0 where
+pub record Columns {X : Type 0} (v m : ℕ) (points out : List X) : Type 0 where
   pub columns_low : 0 < v
   pub points_long : m * v ≤ length points
   pub out_long : m * v ≤ length out
@@ -26,7 +25,7 @@ unfoldable pub widened : List ℕ → ℕ → ℕ → ℕ → ℕ → ℕ
 widened coefs at v run j = get_or coefs (at + j / run % v) 0
 
 -- these lie in their buffers
-pub record Places (to v run turns : ℕ) (found sums : List ℕ) (from : ℕ) (coefs : List ℕ) (at : ℕ) : Type 0 where
+pub record Places {X : Type 0} (to v run turns : ℕ) (found sums : List X) (from : ℕ) (coefs : List X) (at : ℕ) : Type 0 where
   pub run_low : 0 < run
   pub columns_low : 0 < v
   pub turns_low : 0 < turns
@@ -39,7 +38,7 @@ abbrev pub room : ℕ
 room = 1536
 
 -- what `combine` and `solve` are told: rows of w = v · turns · run places
-pub record Systems (w v run turns m : ℕ) (found sums coefs row : List ℕ) : Type 0 where
+pub record Systems {X : Type 0} (w v run turns m : ℕ) (found sums coefs row : List X) : Type 0 where
   pub run_low : 0 < run
   pub columns_low : 0 < v
   pub turns_low : 0 < turns
@@ -50,7 +49,7 @@ pub record Systems (w v run turns m : ℕ) (found sums coefs row : List ℕ) : T
   pub row_long : w ≤ length row
 
 -- the same where all places of a row have the same points: one column
-pub record Wholes (w v m : ℕ) (found sums coefs : List ℕ) : Type 0 where
+pub record Wholes {X : Type 0} (w v m : ℕ) (found sums coefs : List X) : Type 0 where
   pub one : v ≡ 1
   pub found_long : m * w ≤ length found
   pub sums_long : m * w ≤ length sums

@@ -1,64 +1,56 @@
-// Loops over a run of symbols that dividing polynomials needs, as those of crate kernel.
+// Loops over a run of symbols that dividing polynomials needs, as those of crate kernel, written once, over the numbers of any field.
 ghost use Rattle.std.specs.Prelude.{◌+◌, ◌≤◌, length};
-ghost use Rattle.symbol.specs.Elem.{gf256};
 ghost use Rattle.kernel.specs.Inner.{Run};
 ghost use Rattle.columns.specs.Inner.{divided, scaled, scaled_by, negated};
 
-use symbol::plain::{difference, product, sum};
+use field::FieldNumber;
 
 // A buffer's run, plus the run after the one written times another buffer's.
-pub fn divide(
-    out: &mut [u8],
+pub fn divide<N: FieldNumber>(
+    out: &mut [N],
     to: usize,
     len: usize,
-    src: &[u8],
+    src: &[N],
     from: usize,
     next: usize,
-    by: &[u8],
+    by: &[N],
     at: usize,
 )
     requires { (to + len ≤ next) × (next + len ≤ length out.old) × (from + len ≤ length src.now) × (at + len ≤ length by.now) }
-    ensures { Run (divided gf256 src.now from out.old next by.now at) out.old out.new to len }
+    ensures { Run (divided N.field (N.codes src.now) from (N.codes out.old) next (N.codes by.now) at)
+        (N.codes out.old) (N.codes out.new) to len }
 {
-    let mut j = 0usize;
-    while j < len {
-        out[to + j] = sum(src[from + j], product(out[next + j], by[at + j]));
-        j += 1;
+    for j in 0..len {
+        out[to + j] = src[from + j].sum(out[next + j].product(by[at + j]));
     }
 }
 
 // A run times another buffer's.
-pub fn scale(out: &mut [u8], to: usize, len: usize, by: &[u8], at: usize)
+pub fn scale<N: FieldNumber>(out: &mut [N], to: usize, len: usize, by: &[N], at: usize)
     requires { (to + len ≤ length out.old) × (at + len ≤ length by.now) }
-    ensures { Run (scaled gf256 out.old to by.now at) out.old out.new to len }
+    ensures { Run (scaled N.field (N.codes out.old) to (N.codes by.now) at) (N.codes out.old) (N.codes out.new) to len }
 {
-    let mut j = 0usize;
-    while j < len {
-        out[to + j] = product(out[to + j], by[at + j]);
-        j += 1;
+    for j in 0..len {
+        out[to + j] = out[to + j].product(by[at + j]);
     }
 }
 
 // A run times one symbol.
-pub fn scale_by(out: &mut [u8], to: usize, len: usize, x: u8)
+pub fn scale_by<N: FieldNumber>(out: &mut [N], to: usize, len: usize, x: N)
     requires { to + len ≤ length out.old }
-    ensures { Run (scaled_by gf256 out.old to x) out.old out.new to len }
+    ensures { Run (scaled_by N.field (N.codes out.old) to (N.code x)) (N.codes out.old) (N.codes out.new) to len }
 {
-    let mut j = 0usize;
-    while j < len {
-        out[to + j] = product(out[to + j], x);
-        j += 1;
+    for j in 0..len {
+        out[to + j] = out[to + j].product(x);
     }
 }
 
 // Less another buffer's run.
-pub fn negate(out: &mut [u8], to: usize, len: usize, src: &[u8], from: usize)
+pub fn negate<N: FieldNumber>(out: &mut [N], to: usize, len: usize, src: &[N], from: usize)
     requires { (to + len ≤ length out.old) × (from + len ≤ length src.now) }
-    ensures { Run (negated gf256 src.now from) out.old out.new to len }
+    ensures { Run (negated N.field (N.codes src.now) from) (N.codes out.old) (N.codes out.new) to len }
 {
-    let mut j = 0usize;
-    while j < len {
-        out[to + j] = difference(0, src[from + j]);
-        j += 1;
+    for j in 0..len {
+        out[to + j] = N::zero().difference(src[from + j]);
     }
 }

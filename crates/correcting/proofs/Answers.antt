@@ -7,10 +7,9 @@ use native.Mathlib.Nat.{mul-one, pow-suc, mul-le-mul, mul-le-mul_left, pow-le-po
 use native.Mathlib.Decide.{ℕ_discrete, dec_le}
 use native.Mathlib.Omega.{arith}
 use mir.Val.{Fits}
-use mir.Syntax.{w32, w64}
+use mir.Syntax.{w64}
 use lib.ListN.{length, get_or, take}
 use lib.Seq.{length-take-le}
-use Rattle.lists.proofs.Numbers.{mul_below}
 use Rattle.algebra.specs.Shape.{Shape, Field}
 use Rattle.algebra.specs.Plain.{Working}
 use Rattle.algebra.specs.Locate.{Clean, Located}
@@ -24,7 +23,7 @@ use Rattle.sums.specs.Inner.{helper_at}
 use Rattle.locating.specs.Inner.{Sent, Found}
 use Rattle.correcting.specs.declared.Corrected.TheVariants.{Done, Refused}
 use Rattle.correcting.specs.Correcting.{correcting_refusal, report, ChecksHold, CorrectingDone, CorrectingRefused}
-use Rattle.correcting.specs.Inner.{plain_layout, Racks, sent_limit, Rebuilding, Rebuilt, LeavingOut, RebuiltWithout}
+use Rattle.correcting.specs.Inner.{plain_layout, sent_limit, Rebuilding, Rebuilt, LeavingOut, RebuiltWithout}
 use Rattle.correcting.proofs.Choices.{Alike, clean_hold, hold_clean, right_share, right_alike, located_hold, none_hold}
 use Rattle.correcting.proofs.Layouts.{plain_digits, plain_unknowns, plain_cabinet, plain_groups, two_racks}
 use Rattle.correcting.proofs.Refusals.{Accepted, accepted_so}
@@ -71,9 +70,6 @@ module _ (N : ℕ) (l : Layout) (x : ℕ) (helpers shares host : List ℕ) (k : 
 
   product : (n : ℕ) → n ≡ groups l → (length helpers - 1) * n ≡ (l.helpers - 1) * groups l
   product n e = ap₂ (λ a b. a * b) left_count e
-
-  pub product_fits : (n : ℕ) → n ≡ groups l → Fits w64 ((length helpers - 1) * n)
-  product_fits n e = let t = sent_few l g.adm.admissible.cabinet in let p = product n e in record { fits = omega arith }
 
   pub left_room : (left : List ℕ) → tray_limit ≤ length left → length helpers - 1 ≤ length left
   left_room left r = let b = bounds l g.adm.admissible.cabinet in omega (arith, g.help.many, g.adm.admissible.cabinet.helpers_high)

@@ -31,9 +31,6 @@ module _ (l : Layout) (a : Cabinet l) (one : l.errors ≡ 1) (n : ℕ) (r : Rack
       more : (k u : ℕ) → (k + 1) * u ≤ l.racks * l.size → k * u + u ≤ l.racks * l.size
       more k u t = let p = add-mul k 1 u in let q = one-mul u in omega arith
 
-  pub plain_fits : Fits w32 ((l.dimension / l.size + n) * l.size)
-  plain_fits = let t = plain_high in record { fits = omega (arith, a.trays_high) }
-
   pub plain_digits : digits (plain_layout n l) ≡ digits l
   unfolding plain_layout
   plain_digits = ap (λ k. l.helpers - (2 - n) - 2 * 0 - k + 1) whole ∙ (let h = helpers_are in omega (arith, one, r.some, r.few))

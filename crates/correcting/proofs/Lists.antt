@@ -65,9 +65,6 @@ module _ (k n each : ℕ) (shares out : List ℕ) (low : k ≤ n) (lo : length o
   over : (n + 1) * each ≡ n * each + 1 * each
   over = add-mul n 1 each
 
-  pub front_fits : Fits w64 (length out) → Fits w64 (k * each)
-  front_fits f = let t = times in omega arith
-
   pub front_in : (0 + k * each ≤ length out) × (0 + k * each ≤ length shares)
   front_in = let t = times in let o = over in (omega arith, omega arith)
 
@@ -76,15 +73,6 @@ module _ (k n each : ℕ) (shares out : List ℕ) (low : k ≤ n) (lo : length o
     where
       back : (k n : ℕ) → k ≤ n → k + (n - k) ≡ n
       back k n h = omega arith
-
-  pub rest_fits : Fits w64 (length out) → Fits w64 ((n - k) * each)
-  rest_fits f = let t = rest in omega arith
-
-  pub from_fits : Fits w64 (length shares) → Fits w64 ((k + 1) * each)
-  from_fits f = let t = times in let o = over in let m : (k + 1) * each ≡ k * each + 1 * each = add-mul k 1 each in omega arith
-
-  pub rest_in : (out' : List ℕ) → length out' ≡ length out → (k * each + (n - k) * each ≤ length out') × ((k + 1) * each + (n - k) * each ≤ length shares)
-  rest_in out' e = let t = rest in let o = over in let m : (k + 1) * each ≡ k * each + 1 * each = add-mul k 1 each in (omega arith, omega arith)
 
   pub shares_left : (out' out'' : List ℕ) → Run (copied shares 0) out out' 0 (k * each) → Run (copied shares ((k + 1) * each)) out' out'' (k * each) ((n - k) * each) → SharesLeft k n each shares out''
   unfolding copied

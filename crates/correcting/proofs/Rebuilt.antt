@@ -11,13 +11,12 @@ use lib.ListN.{length, get_or}
 use Rattle.algebra.specs.Sum.{sum}
 use Rattle.algebra.specs.Erasure.{choose}
 use Rattle.algebra.specs.Layers.{group_of}
-use Rattle.algebra.specs.Field.{Laws}
 use Rattle.algebra.specs.Shape.{Field}
 use Rattle.algebra.specs.Plain.{Working}
 use Rattle.algebra.specs.Cabinet.{group_sum, Solution}
 use Rattle.algebra.proofs.Plain.{laws}
 use Rattle.layout.specs.declared.Layout.{Layout}
-use Rattle.layout.specs.Layout.{digits, layers, groups, parity_racks, layer_limit, Cabinet, AdmissibleWith}
+use Rattle.layout.specs.Layout.{layers, groups, parity_racks, layer_limit, Cabinet, AdmissibleWith}
 use Rattle.layout.proofs.Facts.{bounds}
 use Rattle.codeword.specs.Codeword.{shape_of, symbol_at}
 use Rattle.codeword.proofs.Usable.{usable, solvable}

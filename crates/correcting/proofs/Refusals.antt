@@ -177,14 +177,5 @@ module _ (N : ℕ) (l : Layout) (a : Bool) (e : a ≡ admissible_with N 1 l) (h 
   pub cabinet_so : Cabinet l
   cabinet_so = (with_so N 1 l a e h).admissible.cabinet
 
-  pub size_some : 0 < l.size
-  size_some = size_pos l cabinet_so
-
-  pub shares_fit : (each : ℕ) → each ≡ groups l → Fits w64 (l.helpers * each)
-  shares_fit each q = let b = bounds l cabinet_so in record { fits = mul_below tray_limit layer_limit (omega (arith, cabinet_so.helpers_high)) (omega arith) tt }
-
-  pub host_fits : (total : ℕ) → total ≡ layers l → Fits w64 (l.size * total)
-  host_fits total q = let b = bounds l cabinet_so in record { fits = mul_below tray_limit layer_limit (omega arith) (omega (arith, cabinet_so.layers_high)) tt }
-
 pub long_so : (n u total most : ℕ) → n ≡ u * total → total ≡ most → n ≡ u * most
 long_so n u total most q e = q ∙ ap (λ y. u * y) e

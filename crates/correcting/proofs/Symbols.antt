@@ -24,12 +24,6 @@ module _ (l : Layout) (x : ℕ) where
   place_in : Cabinet l → x % l.size < l.size
   place_in adm = mod-lt x (bounds l adm).size_low
 
-  pub place_small : Cabinet l → Fits w64 (x % l.size)
-  place_small adm = let b = bounds l adm in let h = place_in adm in record { fits = omega arith }
-
-  pub place_fits : Cabinet l → Fits w64 (x % l.size + 1)
-  place_fits adm = let b = bounds l adm in let h = place_in adm in record { fits = omega arith }
-
   pub next_in : Cabinet l → x % l.size + 1 ≤ l.size
   next_in adm = let h = place_in adm in omega arith
 
@@ -39,21 +33,6 @@ module _ (l : Layout) (x : ℕ) where
       where
         back : (a b : ℕ) → a ≤ b → a + (b - a) ≡ b
         back a b h = omega arith
-
-    pub after_fits : Fits w64 (length host) → Fits w64 ((l.size - (x % l.size + 1)) * total)
-    after_fits n = let e = parts in omega arith
-
-    pub before_fits : Fits w64 (length host) → Fits w64 (x % l.size * total)
-    before_fits n = let e = parts in let m = add-mul (x % l.size) 1 total in omega arith
-
-    pub before_in : 0 + x % l.size * total ≤ length host
-    before_in = let e = parts in let m = add-mul (x % l.size) 1 total in omega arith
-
-    pub from_fits : Fits w64 (length host) → Fits w64 ((x % l.size + 1) * total)
-    from_fits n = let e = parts in omega arith
-
-    pub after_in : (x % l.size + 1) * total + (l.size - (x % l.size + 1)) * total ≤ length host
-    after_in = let e = parts in omega arith
 
 -- ---- the answers of the three tests
 module _ {A : Type 0} (f : Field A) (l : Layout) (x : ℕ) (shares host : List ℕ) where

@@ -19,10 +19,8 @@ pub fn leave_helpers(out: &mut [u32], helpers: &[u32], k: usize)
     requires { (length out.old + 1 ≡ length helpers.now) × (length helpers.now ≤ layer_limit) }
     ensures { HelpersLeft k helpers.now (length out.old) out.new }
 {
-    let mut i = 0usize;
-    while i < out.len() {
-        out[i] = helpers[past(k, i)];
-        i += 1;
+    for (i, helper) in out.iter_mut().enumerate() {
+        *helper = helpers[past(k, i)];
     }
 }
 

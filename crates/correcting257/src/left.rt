@@ -20,10 +20,8 @@ pub fn leave_helpers(out: &mut [u32], helpers: &[u32], k: usize)
     requires { (length out.old + 1 ≡ length helpers.now) × (length helpers.now ≤ layer_limit) }
     ensures { HelpersLeft k helpers.now (length out.old) out.new }
 {
-    let mut i = 0usize;
-    while i < out.len() {
-        out[i] = helpers[past(k, i)];
-        i += 1;
+    for (i, helper) in out.iter_mut().enumerate() {
+        *helper = helpers[past(k, i)];
     }
 }
 
@@ -32,6 +30,6 @@ pub fn leave_shares(out: &mut [u16], shares: &[u16], k: usize, n: usize, each: u
     requires { (k ≤ n) × (n ≤ layer_limit) × (length out.old ≡ n * each) × (length shares.now ≡ (n + 1) * each) }
     ensures { SharesLeft k n each shares.now out.new }
 {
-    kernel257::copy(out, 0, k * each, shares, 0);
-    kernel257::copy(out, k * each, (n - k) * each, shares, (k + 1) * each);
+    kernel::copy(out, 0, k * each, shares, 0);
+    kernel::copy(out, k * each, (n - k) * each, shares, (k + 1) * each);
 }

@@ -134,13 +134,13 @@ fn seen_symbols(l: Layout, x: u32, shares: &[u16], host: &[u16]) -> bool
     let total = layout::layer_count(l) as usize;
     let place = (x % u) as usize;
     let after = (u as usize - (place + 1)) * total;
-    if !range257::are_symbols(shares, 0, shares.len()) {
+    if !range::are_symbols(shares, 0, shares.len()) {
         return false;
     }
-    if !range257::are_symbols(host, 0, place * total) {
+    if !range::are_symbols(host, 0, place * total) {
         return false;
     }
-    range257::are_symbols(host, (place + 1) * total, after)
+    range::are_symbols(host, (place + 1) * total, after)
 }
 
 // The first ground for refusing a repair before the checks are tried, 0 for none.

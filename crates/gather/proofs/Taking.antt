@@ -134,6 +134,3 @@ module _ (e : Edition) (l : Layout) (volume : ℕ) (images : List ℕ) (x : ℕ)
           run_same (symbol_at e (image_of e l images x)) (shown_symbol e l volume images x)
               (λ j. sym (ap (λ b. cond b (symbol_at e (image_of e l images x) j) 0) h)) r,
         )
-
-pub there_not : {A : Type 0} (b : Bool) (x y : A) → b ≡ false → y ≡ cond b x y
-there_not b x y e = sym (ap (λ b. cond b x y) e)

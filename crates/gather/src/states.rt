@@ -31,10 +31,8 @@ fn write_states(l: Layout, volume: u32, images: &[u8], states: &mut [u8])
     ensures { states.new ≡ table (tray_state edition1 l volume images.now) (trays l) }
 {
     let n = layout::tray_count(l);
-    let mut x = 0u32;
-    while x < n {
+    for x in 0..n {
         states[x as usize] = tray_state(l, volume, images, x);
-        x += 1;
     }
 }
 

@@ -45,12 +45,10 @@ fn gather_all(
 {
     let n = layout::tray_count(l);
     let total = layout::layer_count(l) as usize;
-    let mut x = 0u32;
     let mut count = 0u32;
-    while x < n {
+    for x in 0..n {
         let there = tray::take_tray(l, volume, images, x, codeword, total);
         count = note(missing, count, x, there);
-        x += 1;
     }
     count
 }

@@ -14,12 +14,10 @@ fn of_rack(u: u32, rack: u32, lost: &[u32]) -> bool
     requires { 0 < u }
     ensures { result ≡ of_rack u rack lost.now }
 {
-    let mut k = 0usize;
-    while k < lost.len() {
-        if lost[k] / u != rack {
+    for x in lost {
+        if *x / u != rack {
             return false;
         }
-        k += 1;
     }
     true
 }
@@ -59,11 +57,9 @@ fn lowest_ground(l: Layout, volume: u32, rack: u32, lost: &[u32], images: &[u8])
     let u = l.size;
     let first = rack * u;
     let mut lowest = 0u32;
-    let mut g = 0u32;
-    while g < u {
+    for g in 0..u {
         let ground = looked_ground(l, volume, lost, images, g, first + g);
         lowest = lower(lowest, ground);
-        g += 1;
     }
     lowest
 }
@@ -122,10 +118,8 @@ fn take_rack(l: Layout, rack: u32, lost: &[u32], images: &[u8], out: &mut [u16])
     let u = l.size;
     let first = rack * u;
     let total = layout::layer_count(l) as usize;
-    let mut g = 0u32;
-    while g < u {
+    for g in 0..u {
         take_place(l, lost, images, g, first + g, out, total);
-        g += 1;
     }
 }
 

@@ -72,7 +72,7 @@ pub fn take_tray(
     ensures run { Run (shown_symbol edition2 l volume images.now x) out.old out.new (x * total) total }
 {
     if tray_ground(l, volume, images, x, x) != 0 {
-        kernel257::fill(out, x as usize * total, total, 0);
+        kernel::fill(out, x as usize * total, total, 0);
         return false;
     }
     copy_tray(l, images, x, out, total);

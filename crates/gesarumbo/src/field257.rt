@@ -43,7 +43,7 @@ pub fn gesarumbo257_measure(l: Layout) -> MeasureNumbers
 pub fn gesarumbo257_test(l: Layout, codeword: &[u16]) -> TestNumbers
     ensures { Shown (TestAnswer gf257 l codeword.now) test_numbers result }
 {
-    numbers::test_numbers(testing257::test(l, codeword))
+    numbers::test_numbers(testing::test(l, codeword))
 }
 
 pub fn gesarumbo257_share(l: Layout, host: u32, helper: u32, rack: &[u16], share: &mut [u16]) -> u32

@@ -1,7 +1,7 @@
 -- The tests of numbers alone, as facts.
 -- Assumes nothing.
 use mathlib.Core.Path.{◌≡◌, sym, ap, ap₂, ◌∙◌}
-use mathlib.Core.Bool.{true, false}
+use mathlib.Core.Bool.{Bool, true, false, not}
 use mathlib.Core.List.{List}
 use Prim.Native.Nat.{ℕ, ◌+◌, ◌*◌, ◌/◌, ◌%◌, ◌<◌, ◌≤◌}
 use native.Mathlib.Nat.{mul-div_cancel, mul-mod_left, mod-add-div, mul_comm}
@@ -11,9 +11,10 @@ use lib.Dec.{eqb}
 use lib.ListN.{length, get_or}
 use borrow.Author.Tests.{le-leb, lt-leb, eqb-true, eq-eqb, ne_eqb}
 use Rattle.lists.specs.Lists.{absent}
-use Rattle.lists.proofs.Bools.{all_holds, all_true, all_false}
+use Rattle.lists.proofs.Bools.{all_holds, all_true, all_false, told_true, told_false}
 use Rattle.layout.specs.declared.Layout.{Layout}
 use Rattle.layout.specs.Layout.{groups, lost_count_fits}
+use Rattle.layout.proofs.Facts.{fits_so}
 use Rattle.rule.specs.Lost.{first_lost}
 use Rattle.grounds.specs.Grounds.{one_rack}
 use Rattle.grounds.specs.Inner.{count_refusal}
@@ -44,14 +45,6 @@ pub rack_false : (l : Layout) (lost : List ℕ) (i : ℕ) → i < length lost �
 unfolding one_rack
 rack_false l lost i k d = all_false _ (length lost) i k (λ e. d (eqb-true _ _ e))
 
-pub rack_more : (lost : List ℕ) (u i : ℕ) → ((k : ℕ) → k < i → get_or lost k 0 / u ≡ get_or lost 0 0 / u) → get_or lost i 0 / u ≡ get_or lost 0 0 / u →
-    (k : ℕ) → k < i + 1 → get_or lost k 0 / u ≡ get_or lost 0 0 / u
-rack_more lost u i h e k b = go (ℕ_discrete k i)
-  where
-    go : Dec (k ≡ i) → get_or lost k 0 / u ≡ get_or lost 0 0 / u
-    go (yes q) = ap (λ n. get_or lost n 0 / u) q ∙ e
-    go (no d) = h k (omega arith)
-
 pub rack_all : (l : Layout) (lost : List ℕ) → one_rack l lost ≡ true → (i : ℕ) → i < length lost → get_or lost i 0 / l.size ≡ first_lost l lost / l.size
 unfolding one_rack
 rack_all l lost h i k = eqb-true _ _ (all_holds _ (length lost) h i k)
@@ -63,20 +56,24 @@ module _ (l : Layout) (lost helpers : List ℕ) (first : ℕ) where
   stop_5 d = simp (ne_eqb _ _ d)
 
   module _ (p : length helpers ≡ l.helpers) where
-    pub stop_12 : lost_count_fits l (length lost) ≡ false → 12 ≡ count_refusal l lost helpers first
+    pub stop_12 : (a : Bool) → a ≡ lost_count_fits l (length lost) → not a ≡ true → 12 ≡ count_refusal l lost helpers first
     unfolding count_refusal
-    stop_12 k = simp (eq-eqb _ _ p, k)
+    stop_12 a e h = simp (eq-eqb _ _ p, told_false e h)
 
-    module _ (q : lost_count_fits l (length lost) ≡ true) where
-      pub stop_6 : absent helpers (first_lost l lost / l.size) ≡ false → 6 ≡ count_refusal l lost helpers first
+    module _ (a : Bool) (q : a ≡ lost_count_fits l (length lost)) (r : not a ≡ false) where
+      pub stop_6 : (b : Bool) → b ≡ absent helpers (first_lost l lost / l.size) → not b ≡ true → 6 ≡ count_refusal l lost helpers first
       unfolding count_refusal
-      stop_6 s = simp (eq-eqb _ _ p, q, s)
+      stop_6 b e h = simp (eq-eqb _ _ p, told_true q r, told_false e h)
 
-      module _ (s : absent helpers (first_lost l lost / l.size) ≡ true) where
-        pub stop_7 : groups l < first → 7 ≡ count_refusal l lost helpers first
+      module _ (b : Bool) (s : b ≡ absent helpers (first_lost l lost / l.size)) (t : not b ≡ false) (n : ℕ) (g : n ≡ groups l) where
+        pub stop_7 : n < first → 7 ≡ count_refusal l lost helpers first
         unfolding count_refusal
-        stop_7 t = simp (eq-eqb _ _ p, q, s, lt-leb _ _ t)
+        stop_7 h = simp (eq-eqb _ _ p, told_true q r, told_true s t, lt-leb first (groups l) (omega arith))
 
-        pub pass_7 : first ≤ groups l → 0 ≡ count_refusal l lost helpers first
+        pub pass_7 : first ≤ n → 0 ≡ count_refusal l lost helpers first
         unfolding count_refusal
-        pass_7 t = simp (eq-eqb _ _ p, q, s, le-leb _ _ t)
+        pass_7 h = simp (eq-eqb _ _ p, told_true q r, told_true s t, le-leb first (groups l) (omega arith))
+
+-- past ground 12 a tray is listed
+pub first_listed : (l : Layout) (lost : List ℕ) (a : Bool) → a ≡ lost_count_fits l (length lost) → not a ≡ false → 0 < length lost
+first_listed l lost a q r = (fits_so l (length lost) (told_true q r)).0

@@ -26,12 +26,10 @@ pub fn one_rack(l: Layout, lost: &[u32]) -> bool
     ensures { result ≡ one_rack l lost.now }
 {
     let u = l.size;
-    let mut i = 0usize;
-    while i < lost.len() {
-        if lost[i] / u != lost[0] / u {
+    for tray in lost {
+        if *tray / u != lost[0] / u {
             return false;
         }
-        i += 1;
     }
     true
 }

@@ -6,17 +6,14 @@ use native.Mathlib.Nat.{mul_assoc, mul_comm, add-mul, one-mul, mod-eq_of_lt, div
 use native.Mathlib.Nat.{mul-add-div_right, mul-add-mod_self_right, pow-le-pow_right, le-mul_of_pos_right}
 use native.Mathlib.Decide.{dec_le}
 use native.Mathlib.Omega.{arith}
-use mir.Val.{Fits}
-use mir.Syntax.{w64}
 use lib.Pow.{pow-add}
 use lib.Arith.{digits_div, digits_mod, mod-mul}
-use Rattle.lists.proofs.Numbers.{mul_below, cell_in}
+use Rattle.lists.proofs.Numbers.{cell_in}
 use Rattle.algebra.specs.Layers.{layer_of}
 use Rattle.layout.specs.declared.Layout.{Layout}
-use Rattle.layout.specs.Layout.{digits, layers, layer_limit}
+use Rattle.layout.specs.Layout.{digits, layers}
 use Rattle.layout.proofs.Facts.{bounds}
-use Rattle.layout.proofs.Numbers.{digits_small, layer_below}
-use Rattle.blocks.specs.Inner.{Block}
+use Rattle.layout.proofs.Numbers.{layer_below}
 use Rattle.blocks.proofs.Digits.{run_pos}
 use Rattle.sums.specs.Inner.{Groups}
 use Rattle.sums.proofs.Sides.{width_pos}
@@ -160,9 +157,3 @@ module _ (l : Layout) (h w first a s q run : ℕ) (g : Groups l w first) (hh : h
             below : start + c * (s * run) + (run - 1) < layers l
             below = subst (λ y. y < layers l) (sym (placed (c * run + (run - 1)) in_block) ∙ spot_run start run (s * run) c (run - 1) last)
                 (layer_below l g.block.adm h (first + (c * run + (run - 1))) a hh (let i = in_block in let b = g.inside in omega arith) ha)
-
-  pub stride_fits : Fits w64 (s * run)
-  stride_fits = record {
-    fits = mul_below 4 layer_limit (let d = digits_small l g.block.adm in omega arith)
-        (let i = g.block.inside in let d = g.block.adm.layers_high in omega arith) tt;
-  }

@@ -3,7 +3,7 @@
 use mathlib.Core.Path.{◌≡◌, refl, sym, ap, ◌∙◌, subst}
 use mathlib.Core.List.{List}
 use Prim.Native.Nat.{ℕ, ◌+◌, ◌-◌, ◌*◌, ◌/◌, ◌%◌, ◌<◌, ◌≤◌}
-use native.Mathlib.Nat.{mod-one, mul-one, one-mul, not-suc-le-zero}
+use native.Mathlib.Nat.{mod-one, not-suc-le-zero}
 use native.Mathlib.Decide.{ℕ_discrete}
 use native.Mathlib.Omega.{arith}
 use lib.ListN.{length, get_or}
@@ -14,62 +14,25 @@ use Rattle.algebra.specs.Layers.{digit, layer_of}
 use Rattle.algebra.proofs.Lagrange.{solve_congr}
 use Rattle.algebra.proofs.Erasure.{erased_congr}
 use Rattle.algebra.proofs.Layers.{digit_below, layer_digit, layer_group, layer_back}
-use Rattle.algebra.specs.Field.{Ops}
 use Rattle.algebra.specs.Shape.{Field}
 use Rattle.algebra.specs.Plain.{Working}
 use Rattle.algebra.proofs.Ring.{neg_neg}
 use Rattle.kernel.specs.Inner.{cell}
 use Rattle.kernel.proofs.Rows.{cell_is}
-use Rattle.columns.specs.Inner.{column, Systems, Solved}
+use Rattle.columns.specs.Inner.{column, Solved}
 use Rattle.layout.specs.declared.Layout.{Layout}
 use Rattle.layout.specs.Layout.{digits, layers, groups, AdmissibleWith}
 use Rattle.layout.proofs.Facts.{bounds}
 use Rattle.layout.proofs.Numbers.{layer_below}
 use Rattle.codeword.specs.Codeword.{shape_of, symbol_at}
 use Rattle.codeword.proofs.Usable.{solvable}
-use Rattle.blocks.specs.Inner.{room_limit, Block}
+use Rattle.blocks.specs.Inner.{Block}
 use Rattle.rule.specs.Rule.{group_at}
 use Rattle.rule.specs.Lost.{first_lost, lost_place, Losses, Piece}
 use Rattle.rule.specs.Inner.{layer_sum, lost_symbol}
 use Rattle.rule.proofs.Lost.{lost_places, is_ruled}
 use Rattle.sums.specs.Inner.{sum_at, SumsTo}
-use Rattle.group.specs.Inner.{Lying, LostPlaces, Rests, PutRows, found_at, DigitRepaired, BlockRepaired, Repairing, Workspace}
-
--- ---- room
-pub space_next : (e w : ℕ) (rests found places coefs row cur rests' found' places' coefs' row' cur' : List ℕ) → Workspace e w rests found places coefs row cur → length rests' ≡ length rests →
-    length found' ≡ length found → length places' ≡ length places → length coefs' ≡ length coefs → length row' ≡ length row → length cur' ≡ length cur →
-    Workspace e w rests' found' places' coefs' row' cur'
-space_next e w rests found places coefs row cur rests' found' places' coefs' row' cur' g a b c d f k = record {
-  few = g.few;
-  rests_long = rw a g.rests_long;
-  found_long = rw b g.found_long;
-  places_long = rw c g.places_long;
-  coefs_long = rw d g.coefs_long;
-  row_long = rw f g.row_long;
-  cur_long = rw k g.cur_long;
-}
-
-pub systems_of : (e w : ℕ) (rests found places coefs row cur rests' row' : List ℕ) → 0 < w → Workspace e w rests found places coefs row cur → length rests' ≡ length rests → length row' ≡ length row →
-    Systems w 1 w 1 e found rests' coefs row'
-systems_of e w rests found places coefs row cur rests' row' p g a b = record {
-  run_low = p;
-  columns_low = omega arith;
-  turns_low = omega arith;
-  width = sym (one-mul w);
-  found_long = g.found_long;
-  sums_long = rw a g.rests_long;
-  coefs_long = rw (mul-one e) g.coefs_long;
-  row_long = rw b g.row_long;
-}
-
-pub found_in : (e w : ℕ) (rests found places coefs row cur found' : List ℕ) → Workspace e w rests found places coefs row cur → length found' ≡ length found → e * w ≤ length found'
-found_in e w rests found places coefs row cur found' g a = rw a g.found_long
-
-pub points_in : (e w : ℕ) (rests found places coefs row cur : List ℕ) → Workspace e w rests found places coefs row cur → e * 1 ≤ length places
-points_in e w rests found places coefs row cur g = rw (mul-one e) g.places_long
-
-pub points_few : (e w : ℕ) (rests found places coefs row cur : List ℕ) → Workspace e w rests found places coefs row cur → e * 1 ≤ room_limit
-points_few e w rests found places coefs row cur g = rw (mul-one e) g.few
+use Rattle.group.specs.Inner.{Lying, LostPlaces, Rests, PutRows, found_at, DigitRepaired, BlockRepaired, Repairing}
 
 module _ {A : Type 0} {f : Field A} (W : Working f) where
   open f use {ops}

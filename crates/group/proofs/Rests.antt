@@ -4,15 +4,13 @@ use mathlib.Core.Path.{◌≡◌, refl, sym, ap, ap₂, ◌∙◌, subst}
 use mathlib.Core.Bool.{true, false, false≢true}
 use mathlib.Core.List.{List}
 use Prim.Native.Nat.{ℕ, ◌+◌, ◌*◌, ◌%◌, ◌<◌, ◌≤◌}
-use native.Mathlib.Nat.{add-zero as plus_zero, mod-lt, div-add-mod', zero-add, not-suc-le-zero, le-mul_of_pos_right}
+use native.Mathlib.Nat.{add-zero as plus_zero, mod-lt, div-add-mod', zero-add, not-suc-le-zero}
 use native.Mathlib.Decide.{ℕ_discrete}
 use native.Mathlib.Omega.{arith}
-use mir.Val.{Fits}
-use mir.Syntax.{w64}
 use lib.ListN.{length, get_or}
 use Rattle.lists.specs.Lists.{absent}
 use Rattle.lists.proofs.Numbered.{absent_true, absent_all}
-use Rattle.lists.proofs.Numbers.{cell_in, cell_same}
+use Rattle.lists.proofs.Numbers.{cell_same}
 use Rattle.algebra.specs.Sum.{sum, pow}
 use Rattle.algebra.specs.Lagrange.{check}
 use Rattle.algebra.specs.Erasure.{rest}
@@ -21,22 +19,19 @@ use Rattle.algebra.proofs.Ring.{ring, add_zero, add_assoc, mul_zero}
 use Rattle.algebra.proofs.Sum.{sum_zero, sum_add_one}
 use Rattle.algebra.proofs.Erasure.{fill_same, fill_outside}
 use Rattle.algebra.proofs.Pow.{pow_one}
-use Rattle.algebra.specs.Field.{Ops, Laws}
+use Rattle.algebra.specs.Field.{Laws}
 use Rattle.algebra.specs.Shape.{Field}
 use Rattle.algebra.specs.Plain.{Working}
 use Rattle.kernel.specs.Inner.{cell, Run, filled, copied}
-use Rattle.kernel.proofs.Rows.{row_before, row_in, cell_other}
+use Rattle.kernel.proofs.Rows.{cell_other}
 use Rattle.layout.specs.declared.Layout.{Layout}
-use Rattle.layout.specs.Layout.{digits, layers, tray_limit}
+use Rattle.layout.specs.Layout.{digits, layers}
 use Rattle.layout.proofs.Facts.{bounds}
 use Rattle.codeword.specs.Codeword.{shape_of, symbol_at}
 use Rattle.syndrome.specs.Inner.{Terms}
 use Rattle.rule.specs.Lost.{lost_place}
 use Rattle.group.specs.Inner.{spot, gathered, InTray, Losing, LostPlaces, PlacesTo, sound_symbol, PlaceTerms, Begun, Growing, Rests}
 use Rattle.group.proofs.Spots.{spot_from}
-
-pub cur_in : (l : Layout) (w start run count stride : ℕ) (cur : List ℕ) → InTray l w start run count stride → w ≤ length cur → count * run ≤ length cur
-cur_in l w start run count stride cur t h = rw t.whole h
 
 module _ {A : Type 0} {f : Field A} (W : Working f) where
   open f use {ops}
@@ -83,9 +78,6 @@ module _ {A : Type 0} {f : Field A} (W : Working f) where
   module _ (l : Layout) (h : ℕ) (lost host : List ℕ) (q : Losing l h lost host) where
     abbrev tray_at : (i : ℕ) → i < length lost → h * l.size + lost_place l lost i ≡ get_or lost i 0
     tray_at i k = unfold lost_place in ap (λ r. r * l.size + get_or lost i 0 % l.size) (sym (q.one_rack_lem i k)) ∙ div-add-mod' (get_or lost i 0) l.size
-
-    pub rack_end : h * l.size + l.size ≤ tray_limit
-    rack_end = let r = row_before h l.racks l.size q.host_in in let a = q.adm.trays_high in omega arith
 
     module _ (g y : ℕ) where
       sound_lost : g < l.size → absent lost (h * l.size + g) ≡ false → sound_symbol f l lost host y g ≡ ops.zero
@@ -135,19 +127,6 @@ module _ {A : Type 0} {f : Field A} (W : Working f) where
 
     pub begin_end : (m e : ℕ) (rests : List ℕ) → Begun f w m s a sums rests → m ≤ e → e ≤ m → Begun f w e s a sums rests
     begin_end m e rests g h k = let q : m ≡ e = omega arith in subst (λ n. Begun f w n s a sums rests) q g
-
-    module _ (e m : ℕ) (h : e * s * w ≤ length sums) (ha : a < s) (hm : m < e) where
-      pub begin_from : (m * s + a) * w + w ≤ length sums
-      begin_from = row_in sums (e * s) w (m * s + a) h (cell_in e s m a hm ha)
-
-      pub begin_fits : 0 < w → Fits w64 (length sums) → Fits w64 (m * s + a)
-      begin_fits p f = let b = begin_from in let c = le-mul_of_pos_right (m * s + a) p in omega arith
-
-      pub begin_fits_2 : 0 < w → Fits w64 (length sums) → Fits w64 (m * s)
-      begin_fits_2 p f = let b = begin_fits p f in omega arith
-
-      pub begin_fits_3 : Fits w64 (length sums) → Fits w64 ((m * s + a) * w)
-      begin_fits_3 f = let b = begin_from in omega arith
 
   -- ---- place after place
   twice : (x y : A) → ops.add x y ≡ ops.neg (ops.add (ops.neg x) (ops.neg y))

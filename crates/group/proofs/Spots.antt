@@ -57,19 +57,6 @@ module _ (start run stride : ℕ) where
         Run (gathered src start run stride) was is 0 (count * run)
     gather_end c count was is r h k = let e : c ≡ count = omega arith in subst (λ n. Run (gathered src start run stride) was is 0 (n * run)) e r
 
-  module _ (count n : ℕ) (s : Inside start run count stride n) (c : ℕ) (h : c < count) where
-    pub run_in : start + c * stride + run ≤ n
-    run_in = s.at c h
-
-    pub run_to : (xs : List ℕ) → length xs ≡ n → start + c * stride + run ≤ length xs
-    run_to xs e = let q = s.at c h in omega arith
-
-    pub stride_fits : Fits w64 n → Fits w64 (c * stride)
-    stride_fits f = let q = s.at c h in omega arith
-
-    pub start_fits : Fits w64 n → Fits w64 (start + c * stride)
-    start_fits f = let q = s.at c h in omega arith
-
   module _ (src : List ℕ) (from : ℕ) (was : List ℕ) where
     pub scatter_none : Scattered start run stride (0 * run) src from was was
     scatter_none = record { long = refl; done = λ j h. absurd (let e = zero-mul run in omega arith); other = λ i f. refl }
@@ -108,15 +95,6 @@ module _ (start run stride : ℕ) where
     pub scatter_end : (c count : ℕ) (is : List ℕ) → Scattered start run stride (c * run) src from was is → c ≤ count → count ≤ c → Scattered start run stride (count * run) src from was is
     scatter_end c count is g h k = let e : c ≡ count = omega arith in subst (λ n. Scattered start run stride (n * run) src from was is) e g
 
-    pub from_in : (count c : ℕ) → from + count * run ≤ length src → c < count → from + c * run + run ≤ length src
-    from_in count c h k = let q = row_before c count run k in omega arith
-
-    pub from_fits : (count c : ℕ) → from + count * run ≤ length src → c < count → Fits w64 (length src) → Fits w64 (c * run)
-    from_fits count c h k f = let q = from_in count c h k in omega arith
-
-    pub from_fits_2 : (count c : ℕ) → from + count * run ≤ length src → c < count → Fits w64 (length src) → Fits w64 (from + c * run)
-    from_fits_2 count c h k f = let q = from_in count c h k in omega arith
-
 -- ---- the runs of a tray
 module _ (l : Layout) (w start run count stride : ℕ) (t : InTray l w start run count stride) where
   pub spot_in : (j : ℕ) → j < w → spot start run stride j < layers l
@@ -138,16 +116,6 @@ module _ (l : Layout) (w start run count stride : ℕ) (t : InTray l w start run
   module _ (x n total : ℕ) (xs : List ℕ) (h : x < n) (e : length xs ≡ n * layers l) (q : total ≡ layers l) where
     tray_end : x * total + layers l ≤ length xs
     tray_end = let b = row_before x n (layers l) h in let t : x * total ≡ x * layers l = ap (λ y. x * y) q in omega arith
-
-    pub tray_inside : (is : List ℕ) → length is ≡ length xs → Inside (x * total + start) run count stride (length is)
-    tray_inside is g = record {
-      some = t.inside.some;
-      apart = t.inside.apart;
-      at = λ c k. let a = t.inside.at c k in let b = tray_end in omega arith;
-    }
-
-    pub tray_fits : Fits w64 (length xs) → Fits w64 (x * total)
-    tray_fits f = let b = tray_end in omega arith
 
     pub tray_fits_2 : Fits w64 (length xs) → Fits w64 (x * total + start)
     tray_fits_2 f = let a = t.inside.at 0 runs_some in let b = tray_end in omega arith
@@ -186,7 +154,3 @@ module _ (l : Layout) (w start run count stride : ℕ) (t : InTray l w start run
       pub put_end : (i e : ℕ) (is : List ℕ) → PutRows total w start run stride found was is i → i ≤ e → e ≤ i → PutRows (layers l) w start run stride found was is e
       put_end i e is g h k = let q : i ≡ e = omega arith in subst (λ n. PutRows (layers l) w start run stride found was is n) q
           (subst (λ n. PutRows n w start run stride found was is i) et g)
-
-      -- a row of what was found, and its tray
-      pub put_from : (i e : ℕ) → e * w ≤ length found → i < e → i * w + count * run ≤ length found
-      put_from i e h k = let q = row_before i e w k in let s = t.whole in omega arith

@@ -5,7 +5,6 @@ use Rattle.algebra.specs.Sum.{sum, pow}
 use Rattle.algebra.specs.Erasure.{rest, erased, fill}
 use Rattle.algebra.specs.Points.{place}
 use Rattle.algebra.specs.Layers.{layer_of}
-use Rattle.algebra.specs.Field.{Ops}
 use Rattle.algebra.specs.Shape.{Field}
 use Rattle.kernel.specs.Inner.{cell}
 use Rattle.layout.specs.declared.Layout.{Layout}

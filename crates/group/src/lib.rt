@@ -31,7 +31,7 @@ fn runs_of(l: Layout, h: u32, w: usize, first: u32, a: u32) -> Runs
 {
     let s = layout::digit_count(l) as usize;
     let q = blocks::block_width(l, h);
-    let run = lists::smaller(w as u64, q as u64) as usize;
+    let run = w.min(q);
     let start = layout::layer_of(l, h, first, a) as usize;
     Runs {
         start,
@@ -46,10 +46,8 @@ fn gather(out: &mut [u8], src: &[u8], start: usize, run: usize, count: usize, st
     requires { Inside start run count stride (length src.now) × (count * run ≤ length out.old) }
     ensures { Run (gathered src.now start run stride) out.old out.new 0 (count * run) }
 {
-    let mut c = 0usize;
-    while c < count {
+    for c in 0..count {
         kernel::copy(out, c * run, run, src, start + c * stride);
-        c += 1;
     }
 }
 
@@ -66,10 +64,8 @@ fn scatter(
     requires { Inside start run count stride (length out.old) × (from + count * run ≤ length src.now) }
     ensures { Scattered start run stride (count * run) src.now from out.old out.new }
 {
-    let mut c = 0usize;
-    while c < count {
+    for c in 0..count {
         kernel::copy(out, start + c * stride, run, src, from + c * run);
-        c += 1;
     }
 }
 
@@ -79,10 +75,8 @@ fn fill_places(l: Layout, lost: &[u32], places: &mut [u8])
     ensures { LostPlaces gf256 l lost.now places.new }
 {
     let u = l.size;
-    let mut i = 0usize;
-    while i < lost.len() {
-        kernel::fill(places, i, 1, points::place_power(l, lost[i] % u, 1));
-        i += 1;
+    for (i, tray) in lost.iter().enumerate() {
+        kernel::fill(places, i, 1, points::place_power(l, *tray % u, 1));
     }
 }
 
@@ -138,10 +132,8 @@ fn begin_rests(rests: &mut [u8], w: usize, e: usize, s: usize, a: usize, sums: &
     requires { (e * w ≤ length rests.old) × (e * s * w ≤ length sums.now) × (a < s) × (0 < w) }
     ensures { Begun gf256 w e s a sums.now rests.new }
 {
-    let mut m = 0usize;
-    while m < e {
+    for m in 0..e {
         kernel::copy(rests, m * w, w, sums, (m * s + a) * w);
-        m += 1;
     }
 }
 
@@ -166,10 +158,8 @@ fn fill_rests(
     let u = l.size;
     let s = layout::digit_count(l) as usize;
     begin_rests(rests, w, lost.len(), s, a as usize, sums);
-    let mut g = 0u32;
-    while g < u {
+    for g in 0..u {
         sound_terms(rests, l, h, lost, w, r, host, g, cur, row);
-        g += 1;
     }
 }
 
@@ -183,10 +173,8 @@ fn put_rows(spare: &mut [u8], l: Layout, w: usize, e: usize, r: Runs, found: &[u
     let run = r.run;
     let count = r.count;
     let stride = r.stride;
-    let mut i = 0usize;
-    while i < e {
+    for i in 0..e {
         scatter(spare, i * total + start, run, count, stride, found, i * w);
-        i += 1;
     }
 }
 
@@ -243,11 +231,9 @@ pub fn repair_block(
 {
     let s = layout::digit_count(l);
     fill_places(l, lost, places);
-    let mut a = 0u32;
-    while a < s {
+    for a in 0..s {
         repair_digit(
             l, h, lost, host, w, first, a, sums, rests, found, places, coefs, row, cur, spare,
         );
-        a += 1;
     }
 }

@@ -32,7 +32,7 @@ fn runs_of(l: Layout, h: u32, w: usize, first: u32, a: u32) -> Runs
 {
     let s = layout::digit_count(l) as usize;
     let q = blocks::block_width(l, h);
-    let run = lists::smaller(w as u64, q as u64) as usize;
+    let run = w.min(q);
     let start = layout::layer_of(l, h, first, a) as usize;
     Runs {
         start,
@@ -47,10 +47,8 @@ fn gather(out: &mut [u16], src: &[u16], start: usize, run: usize, count: usize, 
     requires { Inside start run count stride (length src.now) × (count * run ≤ length out.old) }
     ensures { Run (gathered src.now start run stride) out.old out.new 0 (count * run) }
 {
-    let mut c = 0usize;
-    while c < count {
-        kernel257::copy(out, c * run, run, src, start + c * stride);
-        c += 1;
+    for c in 0..count {
+        kernel::copy(out, c * run, run, src, start + c * stride);
     }
 }
 
@@ -67,10 +65,8 @@ fn scatter(
     requires { Inside start run count stride (length out.old) × (from + count * run ≤ length src.now) }
     ensures { Scattered start run stride (count * run) src.now from out.old out.new }
 {
-    let mut c = 0usize;
-    while c < count {
-        kernel257::copy(out, start + c * stride, run, src, from + c * run);
-        c += 1;
+    for c in 0..count {
+        kernel::copy(out, start + c * stride, run, src, from + c * run);
     }
 }
 
@@ -80,10 +76,8 @@ fn fill_places(l: Layout, lost: &[u32], places: &mut [u16])
     ensures { LostPlaces gf257 l lost.now places.new }
 {
     let u = l.size;
-    let mut i = 0usize;
-    while i < lost.len() {
-        kernel257::fill(places, i, 1, points257::place_power(l, lost[i] % u, 1));
-        i += 1;
+    for (i, tray) in lost.iter().enumerate() {
+        kernel::fill(places, i, 1, points::place_power(l, *tray % u, 1));
     }
 }
 
@@ -105,9 +99,9 @@ fn place_terms(
     let total = layout::layer_count(l) as usize;
     let start = g as usize * total + r.start;
     gather(cur, host, start, r.run, r.count, r.stride);
-    let p = points257::place_power(l, g, 1);
-    kernel257::fill(row, 0, w, p);
-    syndrome257::add_terms(rests, w, e, cur, row);
+    let p = points::place_power(l, g, 1);
+    kernel::fill(row, 0, w, p);
+    syndrome::add_terms(rests, w, e, cur, row);
 }
 
 // Adds them unless the tray there is lost: its symbols are not looked at.
@@ -139,10 +133,8 @@ fn begin_rests(rests: &mut [u16], w: usize, e: usize, s: usize, a: usize, sums: 
     requires { (e * w ≤ length rests.old) × (e * s * w ≤ length sums.now) × (a < s) × (0 < w) }
     ensures { Begun gf257 w e s a sums.now rests.new }
 {
-    let mut m = 0usize;
-    while m < e {
-        kernel257::copy(rests, m * w, w, sums, (m * s + a) * w);
-        m += 1;
+    for m in 0..e {
+        kernel::copy(rests, m * w, w, sums, (m * s + a) * w);
     }
 }
 
@@ -167,10 +159,8 @@ fn fill_rests(
     let u = l.size;
     let s = layout::digit_count(l) as usize;
     begin_rests(rests, w, lost.len(), s, a as usize, sums);
-    let mut g = 0u32;
-    while g < u {
+    for g in 0..u {
         sound_terms(rests, l, h, lost, w, r, host, g, cur, row);
-        g += 1;
     }
 }
 
@@ -184,10 +174,8 @@ fn put_rows(spare: &mut [u16], l: Layout, w: usize, e: usize, r: Runs, found: &[
     let run = r.run;
     let count = r.count;
     let stride = r.stride;
-    let mut i = 0usize;
-    while i < e {
+    for i in 0..e {
         scatter(spare, i * total + start, run, count, stride, found, i * w);
-        i += 1;
     }
 }
 
@@ -217,7 +205,7 @@ fn repair_digit(
     let e = lost.len();
     let r = runs_of(l, h, w, first, a);
     fill_rests(rests, l, h, lost, w, a, r, host, sums, cur, row);
-    columns257::solve(found, w, 1, w, 1, e, rests, places, coefs, row);
+    columns::solve(found, w, 1, w, 1, e, rests, places, coefs, row);
     put_rows(spare, l, w, e, r, found);
 }
 
@@ -244,11 +232,9 @@ pub fn repair_block(
 {
     let s = layout::digit_count(l);
     fill_places(l, lost, places);
-    let mut a = 0u32;
-    while a < s {
+    for a in 0..s {
         repair_digit(
             l, h, lost, host, w, first, a, sums, rests, found, places, coefs, row, cur, spare,
         );
-        a += 1;
     }
 }

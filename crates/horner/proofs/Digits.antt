@@ -1,6 +1,6 @@
 -- What a symbol is after all digits.
 -- Assumes nothing.
-use mathlib.Core.Path.{◌≡◌, refl, sym, ap, ap₂, ◌∙◌}
+use mathlib.Core.Path.{◌≡◌, sym, ap, ap₂, ◌∙◌}
 use mathlib.Core.Bool.{Bool, cond}
 use Prim.Native.Nat.{ℕ, zero, suc, ◌+◌, ◌*◌, ◌<◌, ◌≤◌}
 use native.Mathlib.Nat.{zero-mul}
@@ -8,11 +8,10 @@ use native.Mathlib.Decide.{ℕ_discrete}
 use native.Mathlib.Omega.{arith}
 use lib.Dec.{eqb}
 use borrow.Author.Tests.{eq-eqb, ne_eqb}
-use Rattle.algebra.specs.Field.{Ops, Laws}
 use Rattle.algebra.specs.Sum.{pow}
-use Rattle.algebra.specs.Shape.{Field, Root}
-use Rattle.algebra.specs.Plain.{plus, root_power, Working}
-use Rattle.algebra.proofs.Ring.{ring, one_mul, add_zero, mul_add}
+use Rattle.algebra.specs.Shape.{Field}
+use Rattle.algebra.specs.Plain.{root_power, Working}
+use Rattle.algebra.proofs.Ring.{one_mul, add_zero}
 use Rattle.algebra.proofs.Pow.{pow_zero, pow_add}
 use Rattle.algebra.proofs.Plain.{elem_plus, elem_zero, elem_root_power}
 use Rattle.horner.specs.Inner.{scaled, stepped, through}

@@ -6,16 +6,14 @@ use mathlib.Core.List.{List}
 use Prim.Native.Nat.{ℕ, ◌+◌, ◌-◌, ◌*◌, ◌%◌, ◌^◌, ◌<◌, ◌≤◌}
 use native.Mathlib.Omega.{arith}
 use lib.Dec.{eqb, eqb→eq}
-use lib.ListN.{length, get_or}
 use Rattle.lists.proofs.Computed.{all_below_lem}
-use Rattle.algebra.specs.Field.{Ops}
 use Rattle.algebra.specs.Sum.{pow}
 use Rattle.algebra.specs.Plain.{root_power}
 use Rattle.algebra.proofs.Ring.{mul_comm, mul_assoc}
 use Rattle.algebra.proofs.Plain.{val_below}
 use Rattle.algebra.proofs.Pow.{pow_add_one}
 use Rattle.symbol.specs.Arithmetic.{◌⊕◌, ◌⊗◌, mulz, shift_add, power, zpow}
-use Rattle.symbol.specs.Elem.{Elem, elem, ops, z, gf256}
+use Rattle.symbol.specs.Elem.{elem, ops, z, gf256}
 use Rattle.symbol.proofs.Laws.{⊗-lt}
 use Rattle.symbol.proofs.Elem.{laws, val_elem, elem_⊗}
 use Rattle.symbol.proofs.Working.{working, zpow_is}
@@ -33,9 +31,6 @@ double_more x k v n e q =
   where
     q' : n ≡ v ⊗ 2
     q' = twice_times v n (subst (λ y. y < 256) (sym e) (val_below working (ops.mul (pow ops z k) (elem x)))) q
-
-pub double_end : (x k t v : ℕ) → v ≡ scaled gf256 k x → k ≤ t → t ≤ k → v ≡ scaled gf256 t x
-double_end x k t v e h l = let q : k ≡ t = omega arith in subst (λ n. v ≡ scaled gf256 n x) q e
 
 -- the first eight powers are the bits of a byte
 bits : ℕ → Bool

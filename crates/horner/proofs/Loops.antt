@@ -1,15 +1,12 @@
 -- The steps of the loops over any field.
 -- Assumes nothing.
-use mathlib.Core.Path.{◌≡◌, refl, sym, ap, ap₂, ◌∙◌, subst}
-use mathlib.Core.Bool.{Bool, cond}
+use mathlib.Core.Path.{◌≡◌, refl, sym, ap, ap₂, ◌∙◌}
+use mathlib.Core.Bool.{cond}
 use mathlib.Core.List.{List}
-use Prim.Native.Nat.{ℕ, zero, suc, ◌+◌, ◌-◌, ◌<◌, ◌≤◌}
+use Prim.Native.Nat.{ℕ, suc, ◌+◌, ◌-◌, ◌*◌, ◌<◌, ◌≤◌}
 use native.Mathlib.Omega.{arith}
 use lib.Dec.{eqb}
-use borrow.Author.Tests.{eq-eqb, ne_eqb}
 use lib.ListN.{length, get_or, set}
-use Rattle.algebra.specs.Field.{Ops}
-use Rattle.algebra.specs.Coding.{Coded}
 use Rattle.algebra.specs.Sum.{pow}
 use Rattle.algebra.specs.Shape.{Field}
 use Rattle.algebra.specs.Plain.{plus, root_power, Working}
@@ -18,13 +15,6 @@ use Rattle.algebra.proofs.Pow.{pow_zero, pow_add}
 use Rattle.kernel.specs.Inner.{Run}
 use Rattle.kernel.proofs.Runs.{run_more}
 use Rattle.horner.specs.Inner.{scaled, scaled_run, Scaled, stepped, stepped_run, through, through_run, Left}
-
--- a choice
-pub chosen_same : (y d p : ℕ) → d ≡ p → y ≡ cond (eqb d p) y 0
-chosen_same y d p e = sym (ap (λ (b : Bool). cond b y 0) (eq-eqb d p e))
-
-pub chosen_other : (y d p : ℕ) → ¬ (d ≡ p) → 0 ≡ cond (eqb d p) y 0
-chosen_other y d p n = sym (ap (λ (b : Bool). cond b y 0) (ne_eqb d p n))
 
 module _ {A : Type 0} {f : Field A} (W : Working f) where
   open f use {ops, root}
@@ -55,26 +45,26 @@ module _ {A : Type 0} {f : Field A} (W : Working f) where
       run_more (stepped_run f was to cur row p t) was is to j q r (omega arith) (eq ∙ ap₂ (plus f) (ev ∙ ap (scaled f t) (r.high (to + j) (omega arith))) ey)
 
   -- four doublings after four
-  pub fours_none : (t : ℕ) (was : List ℕ) (to len : ℕ) → Scaled f (t - t) was was to len
-  fours_none t was to len = record {
+  pub fours_none : (was : List ℕ) (to len : ℕ) → Scaled f 0 was was to len
+  fours_none was to len = record {
     long = refl;
-    done = λ j h. let e : t - t ≡ 0 = omega arith in sym (ap (λ n. ops.mul (pow ops root n) (elem (get_or was (to + j) 0))) e ∙ no_power (elem (get_or was (to + j) 0)));
+    done = λ j h. sym (no_power (elem (get_or was (to + j) 0)));
     low = λ i h. refl;
     high = λ i h. refl;
   }
 
-  pub fours_more : (t k : ℕ) (was is next : List ℕ) (to len : ℕ) → 4 < k → k ≤ t → Scaled f (t - k) was is to len → Run (scaled_run f is to 4) is next to len → Scaled f (t - (k - 4)) was next to len
+  pub fours_more : (n : ℕ) (was is next : List ℕ) (to len : ℕ) → Scaled f (4 * n) was is to len → Run (scaled_run f is to 4) is next to len → Scaled f (4 * (n + 1)) was next to len
   unfolding scaled_run
-  fours_more t k was is next to len h l s r = record {
+  fours_more n was is next to len s r = record {
     long = r.long ∙ s.long;
     done = λ j b.
         ap elem (r.done j b) ∙ elem_scaled 4 (get_or is (to + j) 0) ∙ ap (ops.mul (pow ops root 4)) (s.done j b)
-        ∙ sym (mul_assoc ops laws _ _ _) ∙ ap (λ y. ops.mul y (elem (get_or was (to + j) 0))) (sym (pow_add ops laws root 4 (t - k)) ∙ ap (pow ops root) more);
+        ∙ sym (mul_assoc ops laws _ _ _) ∙ ap (λ y. ops.mul y (elem (get_or was (to + j) 0))) (sym (pow_add ops laws root 4 (4 * n)) ∙ ap (pow ops root) more);
     low = λ i b. r.low i b ∙ s.low i b;
     high = λ i b. r.high i b ∙ s.high i b;
   }
     where
-      more : 4 + (t - k) ≡ t - (k - 4)
+      more : 4 + 4 * n ≡ 4 * (n + 1)
       more = omega arith
 
   -- and the rest with the digit
@@ -100,9 +90,6 @@ module _ {A : Type 0} {f : Field A} (W : Working f) where
   step_four t k p was mid is cur row to len s h a b x y z r = step_join t k 4 p was mid is cur row to len s h (omega arith) r
 
   -- digit after digit
-  pub steps_none : (n t : ℕ) (cur row was : List ℕ) (to len : ℕ) → Left f n n t cur row was was to len
-  steps_none n t cur row was to len = record { long = refl; same = λ j h. refl; low = λ i h. refl; high = λ i h. refl }
-
   pub steps_next : (n a t p : ℕ) (cur row was is next : List ℕ) (to len : ℕ) → 0 < a → p ≡ root_power f (a - 1) → Left f n a t cur row was is to len →
       Run (stepped_run f is to cur row p t) is next to len → Left f n (a - 1) t cur row was next to len
   unfolding through_run stepped_run

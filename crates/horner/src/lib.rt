@@ -16,10 +16,8 @@ fn raised(x: u8, t: usize) -> u8
     ensures { result ≡ scaled gf256 t x }
 {
     let mut v = x;
-    let mut k = 0usize;
-    while k < t {
+    for _k in 0..t {
         v = twice(v);
-        k += 1;
     }
     v
 }
@@ -36,10 +34,8 @@ fn raise_run(out: &mut [u8], to: usize, len: usize, t: usize)
     requires { to + len ≤ length out.old }
     ensures { Run (scaled_run gf256 out.old to t) out.old out.new to len }
 {
-    let mut j = 0usize;
-    while j < len {
+    for j in 0..len {
         out[to + j] = raised(out[to + j], t);
-        j += 1;
     }
 }
 
@@ -48,10 +44,8 @@ fn step_run(out: &mut [u8], to: usize, len: usize, cur: &[u8], row: &[u8], p: u8
     requires { (to + len ≤ length out.old) × (len ≤ length cur.now) × (len ≤ length row.now) }
     ensures { Run (stepped_run gf256 out.old to cur.now row.now p t) out.old out.new to len }
 {
-    let mut j = 0usize;
-    while j < len {
+    for j in 0..len {
         out[to + j] = sum(raised(out[to + j], t), chosen(cur[j], row[j], p));
-        j += 1;
     }
 }
 
@@ -60,12 +54,11 @@ fn raise_fours(out: &mut [u8], to: usize, len: usize, t: usize) -> usize
     requires { (to + len ≤ length out.old) × (0 < t) }
     ensures { (0 < result) × (result ≤ 4) × (result ≤ t) × Scaled gf256 (t - result) out.old out.new to len }
 {
-    let mut k = t;
-    while 4 < k {
+    let fours = (t - 1) / 4;
+    for _n in 0..fours {
         raise_run(out, to, len, 4);
-        k -= 4;
     }
-    k
+    t - 4 * fours
 }
 
 // One digit, any power.
@@ -73,20 +66,12 @@ fn step(out: &mut [u8], to: usize, len: usize, cur: &[u8], row: &[u8], p: u8, t:
     requires { (to + len ≤ length out.old) × (len ≤ length cur.now) × (len ≤ length row.now) × (0 < t) }
     ensures { Run (stepped_run gf256 out.old to cur.now row.now p t) out.old out.new to len }
 {
-    let k = raise_fours(out, to, len, t);
-    if k == 1 {
-        step_run(out, to, len, cur, row, p, 1);
-        return;
+    match raise_fours(out, to, len, t) {
+        1 => step_run(out, to, len, cur, row, p, 1),
+        2 => step_run(out, to, len, cur, row, p, 2),
+        3 => step_run(out, to, len, cur, row, p, 3),
+        _ => step_run(out, to, len, cur, row, p, 4),
     }
-    if k == 2 {
-        step_run(out, to, len, cur, row, p, 2);
-        return;
-    }
-    if k == 3 {
-        step_run(out, to, len, cur, row, p, 3);
-        return;
-    }
-    step_run(out, to, len, cur, row, p, 4);
 }
 
 // All s digits: `row` has the power of the root by the digit of each symbol of `cur`.
@@ -94,9 +79,7 @@ pub fn steps(out: &mut [u8], to: usize, len: usize, cur: &[u8], row: &[u8], s: u
     requires { (to + len ≤ length out.old) × (len ≤ length cur.now) × (len ≤ length row.now) × (s ≤ 8) × (0 < t) }
     ensures { Run (through_run gf256 out.old to cur.now row.now s t) out.old out.new to len }
 {
-    let mut a = s;
-    while 0 < a {
-        a -= 1;
+    for a in (0..s).rev() {
         step(out, to, len, cur, row, 1u8 << a, t);
     }
 }

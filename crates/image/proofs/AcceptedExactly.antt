@@ -14,7 +14,7 @@ use Rattle.lists.proofs.Tables.{table_length, table_at}
 use Rattle.layout.specs.declared.Layout.{Layout}
 use Rattle.layout.specs.Layout.{trays, layers}
 use Rattle.image.specs.declared.Edition.{Edition}
-use Rattle.image.specs.Image.{edition1, header_length, image_length, live, header, symbol_bytes, write_refusal, write_buffer}
+use Rattle.image.specs.Image.{edition1, header_length, image_length, live, header, symbol_bytes, write_refusal}
 use Rattle.image.specs.Image.{own_layout, own_state, own_tray, own_volume, symbol_at, own_symbols, read_refusal, read_tray, read_symbols}
 use Rattle.image.specs.Claims.{Gives, Made, AcceptedExactly}
 use Rattle.image.specs.Inner.{Proper, state_allowed, volume_allowed, own_header}

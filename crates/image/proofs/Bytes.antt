@@ -1,13 +1,17 @@
 -- The bytes of the header, lists that begin with another, and the bytes that a write leaves.
 -- Assumes nothing.
 use mathlib.Core.Path.{◌≡◌, refl, sym, ap, ◌∙◌}
-use mathlib.Core.Bool.{true, false}
+use mathlib.Core.Bool.{Bool, true}
 use mathlib.Core.List.{List, [], ◌∷◌, ◌++◌}
 use Prim.Native.Nat.{ℕ, ◌/◌, ◌%◌, ◌≤◌, ◌<◌}
 use lib.ListN.{length, get_or, take, drop, take-append-drop, get_or-append}
 use lib.Seq.{ext_get_or, get_or-take, length-take-le}
 use borrow.Author.Tests.{eqb-true, eq-eqb}
-use Rattle.lists.proofs.Bools.{all_holds, all_true, all_false}
+use Rattle.std.specs.Prelude.{nat_eq}
+use Rattle.std.specs.List.{starts_with}
+use Rattle.std.specs.Cmp.Lexicographic.{bytes_decides}
+use Rattle.std.proofs.lemmas.Bool.Decides.{same_from_decides}
+use Rattle.lists.proofs.Bools.{all_holds, all_true}
 use Rattle.layout.specs.declared.Layout.{Layout}
 use Rattle.layout.specs.Layout.{layers}
 use Rattle.image.specs.declared.Edition.{Edition}
@@ -28,26 +32,29 @@ module _ (ed : Edition) (l : Layout) (tray state volume : ℕ) where
   unfolding header little
   header_length_lem = refl
 
--- a list that begins with another is that one and a rest
-pub begins_split : (s front : List ℕ) → length front ≤ length s → begins s front ≡ true → s ≡ front ++ drop (length front) s
-unfolding begins
-begins_split s front h e =
-    sym (take-append-drop (length front) s)
-    ∙ ap (λ t. t ++ drop (length front) s)
-    (ext_get_or 0 (take (length front) s) front (length-take-le (length front) s h)
-    (λ i k.
-    let j : i < length front = rw (sym (length-take-le (length front) s h)) k in
-    get_or-take (length front) s i 0 j ∙ eqb-true _ _ (all_holds _ (length front) e i j)))
+module _ (s front : List ℕ) (h : length front ≤ length s) where
+  front_of : begins s front ≡ true → take (length front) s ≡ front
+  unfolding begins
+  front_of e =
+      ext_get_or 0 (take (length front) s) front (length-take-le (length front) s h)
+      (λ i k.
+      let j : i < length front = rw (sym (length-take-le (length front) s h)) k in
+      get_or-take (length front) s i 0 j ∙ eqb-true _ _ (all_holds _ (length front) e i j))
+
+  of_front : take (length front) s ≡ front → begins s front ≡ true
+  unfolding begins
+  of_front e = all_true _ (length front) (λ i k. eq-eqb _ _ (sym (get_or-take (length front) s i 0 k) ∙ ap (λ l. get_or l i 0) e))
+
+  -- a list that begins with another is that one and a rest
+  pub begins_split : begins s front ≡ true → s ≡ front ++ drop (length front) s
+  begins_split e = sym (take-append-drop (length front) s) ∙ ap (λ t. t ++ drop (length front) s) (front_of e)
+
+  -- as the library compares the front
+  pub begins_told : {r : Bool} → r ≡ starts_with nat_eq s front → r ≡ begins s front
+  begins_told {r} e =
+      e ∙ same_from_decides _ (begins s front) (bytes_decides front (take (length front) s))
+      (λ t. sym (front_of t), λ q. of_front (sym q))
 
 pub begins_append : (front rest : List ℕ) → begins (front ++ rest) front ≡ true
 unfolding begins
 begins_append front rest = all_true _ (length front) (λ i h. eq-eqb _ _ (get_or-append front rest 0 i h))
-
--- for the loop that compares
-pub begins_true : (s front : List ℕ) → ((i : ℕ) → i < length front → get_or s i 0 ≡ get_or front i 0) → true ≡ begins s front
-unfolding begins
-begins_true s front h = sym (all_true _ (length front) (λ i k. eq-eqb _ _ (h i k)))
-
-pub begins_false : (s front : List ℕ) (i : ℕ) → i < length front → (get_or s i 0 ≡ get_or front i 0 → ⊥) → false ≡ begins s front
-unfolding begins
-begins_false s front i h d = all_false _ (length front) i h (λ e. d (eqb-true _ _ e))

@@ -50,9 +50,6 @@ module _ (ed : Edition) (l : Layout) (tray state volume : ℕ) (symbols image : 
           let count : ed.width * length symbols ≡ ed.width * layers l = ap (λ n. ed.width * n) may.count_is in
           ap length laid ∙ length-append h (drop header_length image) ∙ omega (arith, h_long, length-drop header_length image, count, may.room_is)
 
-      pub part_starts : header_length ≤ length d
-      part_starts = omega (arith, d_long)
-
       -- the part that is lent for the symbols is all from the header on
       part_is : take (length d - header_length) (drop header_length d) ≡ drop header_length d
       part_is = take_all (length d - header_length) (drop header_length d) (omega (arith, length-drop header_length d))

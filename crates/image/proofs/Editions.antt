@@ -3,22 +3,19 @@
 use mathlib.Core.Path.{◌≡◌, ap, ◌∙◌}
 use mathlib.Core.Bool.{Bool}
 use mathlib.Core.List.{List}
-use Prim.Native.Nat.{ℕ, ◌+◌, ◌*◌, ◌^◌, ◌<◌, ◌≤◌}
+use Prim.Native.Nat.{ℕ, ◌*◌, ◌^◌, ◌<◌, ◌≤◌}
 use native.Mathlib.Nat.{zero-add, mul-le-mul}
 use native.Mathlib.Omega.{arith}
-use mir.Val.{Fits}
-use mir.Syntax.{w64}
 use lib.Dec.{ltb, lit<, lit≤}
 use lib.ListN.{length, get_or}
-use Rattle.lists.specs.Lists.{all_below, all}
+use Rattle.lists.specs.Lists.{all_below}
 use Rattle.lists.proofs.Bools.{all_same}
-use Rattle.algebra.specs.Coding.{Coding}
 use Rattle.algebra.specs.Shape.{Field}
 use Rattle.range.specs.Range.{symbols_from}
 use Rattle.layout.specs.declared.Layout.{Layout}
 use Rattle.layout.specs.Layout.{layers, layer_limit, Cabinet}
 use Rattle.image.specs.declared.Edition.{Edition}
-use Rattle.image.specs.Image.{edition1, edition2, header_length, image_length}
+use Rattle.image.specs.Image.{edition1, edition2}
 use Rattle.image.specs.Inner.{Proper}
 
 pub proper1 : Proper edition1
@@ -39,12 +36,3 @@ module _ (ed : Edition) (l : Layout) (a : Cabinet l) (w : ed.width < 2 ^ 32) (to
       let m : ed.width ≤ 2 ^ 32 = omega arith in
       let n : total ≤ layer_limit = omega (arith, a.layers_high) in
       mul-le-mul m n
-
-  pub bytes_fit : Fits w64 (ed.width * total)
-  bytes_fit = omega (arith, bytes_high)
-
-  pub image_fits : Fits w64 (header_length + ed.width * total)
-  image_fits = omega (arith, bytes_high)
-
-  pub image_long : header_length + ed.width * total ≡ image_length ed l
-  image_long = ap (λ n. header_length + ed.width * n) e

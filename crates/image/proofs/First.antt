@@ -9,7 +9,7 @@ use native.Mathlib.Omega.{arith}
 use lib.Dec.{ltb}
 use lib.ListN.{length, get_or, take, drop, length-drop, drop_of_length-le}
 use lib.Seq.{take_all, take-length, get_or-drop}
-use Rattle.lists.specs.Lists.{table, all_below, all}
+use Rattle.lists.specs.Lists.{table, all_below}
 use Rattle.lists.proofs.Bools.{all_same}
 use Rattle.lists.proofs.Numbered.{below_all}
 use Rattle.lists.proofs.Tables.{is_table}
@@ -27,9 +27,6 @@ use Rattle.image.proofs.ReadGrounds.{read_9, read_formed, readable, given_symbol
 
 -- the copy of all symbols
 module _ (symbols out : List ℕ) (fits : length out ≡ edition1.width * length symbols) where
-  pub copy_fits : length symbols ≤ length out
-  copy_fits = omega arith
-
   pub copy_is : all_below symbols edition1.size ≡ true → (last : List ℕ) → last ≡ take (length symbols) symbols ++ drop (length symbols) out
       → last ≡ symbol_bytes edition1.width symbols
   copy_is below last e =

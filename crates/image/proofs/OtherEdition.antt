@@ -10,10 +10,10 @@ use Rattle.lists.proofs.Bools.{not_true_false}
 use Rattle.layout.specs.declared.Layout.{Layout}
 use Rattle.layout.specs.Layout.{layers, admissible}
 use Rattle.image.specs.declared.Edition.{Edition}
-use Rattle.image.specs.Image.{header, symbol_bytes, write_buffer, number_at, well_formed, read_refusal}
+use Rattle.image.specs.Image.{header, symbol_bytes, well_formed, read_refusal}
 use Rattle.image.specs.Claims.{OtherRefused}
 use Rattle.image.specs.Inner.{Proper}
-use Rattle.image.proofs.WriteGrounds.{Writable, writable, written}
+use Rattle.image.proofs.WriteGrounds.{writable, written}
 use Rattle.image.proofs.ReadGrounds.{read_9}
 use Rattle.image.proofs.Written.{its_edition}
 use Rattle.image.proofs.HeaderRules.{formed_rules}

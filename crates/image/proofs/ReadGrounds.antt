@@ -20,9 +20,6 @@ use Rattle.image.proofs.Forms.{WellFormed, formed_facts}
 
 -- the layout and volume expected
 module _ (l : Layout) (volume : ℕ) (s : List ℕ) (own : Layout) (b : Bool) (w : own ≡ own_layout s) (p : b ≡ same_layout l own) where
-  pub expected_layout : not b ≡ true → false ≡ expected l volume s
-  expected_layout r = simp (ap (same_layout l) (sym w) ∙ told_false p r)
-
   pub expected_volume : not b ≡ false → (v : ℕ) → v ≡ own_volume s → eqb volume v ≡ expected l volume s
   expected_volume r v u = simp (ap (same_layout l) (sym w) ∙ told_true p r) (ap (eqb volume) u)
 

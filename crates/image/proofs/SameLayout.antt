@@ -1,10 +1,10 @@
 -- Layouts with the same five numbers are the same.
 -- Assumes nothing.
 use mathlib.Core.Path.{◌≡◌, ap}
-use mathlib.Core.Bool.{true, false}
+use mathlib.Core.Bool.{true}
 use lib.Dec.{eqb}
 use borrow.Author.Tests.{eq-eqb, eqb-true}
-use Rattle.lists.proofs.Bools.{both, not_true_false}
+use Rattle.lists.proofs.Bools.{both}
 use Rattle.layout.specs.declared.Layout.{Layout}
 use Rattle.image.specs.Image.{same_layout}
 
@@ -34,10 +34,3 @@ module _ (l m : Layout) where
         eq-eqb _ _ (ap (λ (x : Layout). x.helpers) e),
         eq-eqb _ _ (ap (λ (x : Layout). x.errors) e),
       )
-
-  pub differ : (l ≡ m → ⊥) → false ≡ same_layout l m
-  differ d = not_true_false (same_layout l m) (λ e. d (same_facts e))
-
-  pub same_last : l.racks ≡ m.racks → l.size ≡ m.size → l.dimension ≡ m.dimension → l.helpers ≡ m.helpers → eqb l.errors m.errors ≡ same_layout l m
-  unfolding same_layout
-  same_last e f g h = simp (eq-eqb _ _ e, eq-eqb _ _ f, eq-eqb _ _ g, eq-eqb _ _ h)

@@ -116,19 +116,7 @@ pub fn header_formed(e: Edition, image: &[u8]) -> bool
 fn same_layout(l: Layout, m: Layout) -> bool
     ensures { result ≡ same_layout l m }
 {
-    if l.racks != m.racks {
-        return false;
-    }
-    if l.size != m.size {
-        return false;
-    }
-    if l.dimension != m.dimension {
-        return false;
-    }
-    if l.helpers != m.helpers {
-        return false;
-    }
-    l.errors == m.errors
+    l == m
 }
 
 // Whether an image is of the layout and volume expected.

@@ -78,12 +78,5 @@ pub fn begins_with(image: &[u8], front: &[u8]) -> bool
     requires { length front.now ≤ length image.now }
     ensures { result ≡ begins image.now front.now }
 {
-    let mut i = 0usize;
-    while i < front.len() {
-        if image[i] != front[i] {
-            return false;
-        }
-        i += 1;
-    }
-    true
+    image.starts_with(front)
 }

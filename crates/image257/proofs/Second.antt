@@ -1,19 +1,18 @@
 -- The symbols of edition 2, two bytes each: written, tested and copied.
 -- Assumes nothing.
-use mathlib.Core.Path.{◌≡◌, sym, ap, subst, ◌∙◌}
-use mathlib.Core.Bool.{Bool, true, false}
+use mathlib.Core.Path.{◌≡◌, sym, ap, ◌∙◌}
+use mathlib.Core.Bool.{true, false}
 use mathlib.Core.List.{List}
-use Prim.Native.Nat.{ℕ, suc, ◌+◌, ◌*◌, ◌/◌, ◌%◌, ◌≤◌, ◌<◌}
+use Prim.Native.Nat.{ℕ, ◌+◌, ◌*◌, ◌/◌, ◌%◌, ◌≤◌, ◌<◌}
 use native.Mathlib.Nat.{add-zero}
 use native.Mathlib.Omega.{arith}
 use lib.Dec.{ltb, lit<}
 use lib.ListN.{length, get_or, set}
 use lib.Seq.{ext_get_or}
-use borrow.Author.Count.{below_more}
 use borrow.Author.Tests.{ltb-true, lt-ltb}
 use Rattle.lists.specs.Lists.{table}
 use Rattle.lists.proofs.Bools.{all_true, all_false}
-use Rattle.lists.proofs.Loops.{Upto, upto_none, upto_more}
+use Rattle.lists.proofs.Loops.{Upto, upto_more}
 use Rattle.lists.proofs.Tables.{is_table}
 use Rattle.layout.specs.declared.Layout.{Layout}
 use Rattle.layout.specs.Layout.{layers}
@@ -52,10 +51,6 @@ module _ (symbols out₀ : List ℕ) (fits : length out₀ ≡ edition2.width * 
 
 -- TESTING
 
--- from the two bytes
-pub symbol_is : (s : List ℕ) (j a b : ℕ) → a ≡ get_or s (header_length + 2 * j) 0 → b ≡ get_or s (header_length + 2 * j + 1) 0 → a + 256 * b ≡ symbol_at edition2 s j
-symbol_is s j a b e f = let n : header_length + 2 * j + 1 ≡ suc (header_length + 2 * j) = omega arith in omega (arith, e, f ∙ ap (λ i. get_or s i 0) n)
-
 module _ (s : List ℕ) (total : ℕ) where
   pub held_false : (j x : ℕ) → j < total → x ≡ symbol_at edition2 s j → edition2.size ≤ x → false ≡ symbols_held edition2 s total
   unfolding symbols_held
@@ -65,15 +60,7 @@ module _ (s : List ℕ) (total : ℕ) where
   unfolding symbols_held
   held_true h = sym (all_true (λ j. ltb (symbol_at edition2 s j) edition2.size) total (λ j k. lt-ltb _ _ (h j k)))
 
-pub held_more : (s : List ℕ) (j x : ℕ) → ((i : ℕ) → i < j → symbol_at edition2 s i < edition2.size) → x ≡ symbol_at edition2 s j → x < edition2.size
-    → (i : ℕ) → i < j + 1 → symbol_at edition2 s i < edition2.size
-held_more s j x h e k = below_more (λ i. symbol_at edition2 s i < edition2.size) j h (omega (arith, e))
-
 -- COPYING
-
-pub copied_more : (s places₀ places : List ℕ) (j x : ℕ) → Upto (symbol_at edition2 s) places₀ places j → j < length places → x ≡ symbol_at edition2 s j
-    → Upto (symbol_at edition2 s) places₀ (set places j x) (j + 1)
-copied_more s places₀ places j x u h e = upto_more (symbol_at edition2 s) u (omega (arith, u.same)) e
 
 pub copied_all : (s places₀ places : List ℕ) (j : ℕ) → Upto (symbol_at edition2 s) places₀ places j → length places ≤ j
     → places ≡ table (symbol_at edition2 s) (length places₀)
@@ -89,8 +76,3 @@ module _ (l : Layout) (volume : ℕ) (s places : List ℕ) (e : ℕ) (q : e ≡ 
   pub copied_given : (last : List ℕ) → last ≡ table (symbol_at edition2 s) (length places) → last ≡ read_symbols edition2 l volume (length places) places s
   unfolding own_symbols
   copied_given last is = is ∙ ap (table (symbol_at edition2 s)) count ∙ given_symbols edition2 l volume (length places) s e q z places
-
--- where the places are those that there must be
-pub read_whole : (l : Layout) (volume total number : ℕ) (s : List ℕ) → total ≡ layers l → number ≡ read_refusal edition2 l volume total s →
-    number ≡ read_refusal edition2 l volume (layers l) s
-read_whole l volume total number s t q = q ∙ ap (λ n. read_refusal edition2 l volume n s) t

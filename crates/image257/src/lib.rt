@@ -25,7 +25,7 @@ pub struct Answer {
 fn all_symbols(xs: &[u16]) -> bool
     ensures { result ≡ all_below xs.now edition2.size }
 {
-    range257::are_symbols(xs, 0, xs.len())
+    range::are_symbols(xs, 0, xs.len())
 }
 
 // Writes a number in two bytes, low byte first.
@@ -42,10 +42,8 @@ fn write_symbols(symbols: &[u16], out: &mut [u8])
     requires { length out.old ≡ edition2.width * length symbols.now }
     ensures { out.new ≡ symbol_bytes edition2.width symbols.now }
 {
-    let mut j = 0usize;
-    while j < symbols.len() {
-        put(out, 2 * j, kernel257::at(symbols, j));
-        j += 1;
+    for (j, symbol) in symbols.iter().enumerate() {
+        put(out, 2 * j, *symbol);
     }
 }
 
@@ -97,12 +95,10 @@ fn symbols_held(image: &[u8], total: usize) -> bool
     requires { header_length + edition2.width * total ≤ length image.now }
     ensures { result ≡ symbols_held edition2 image.now total }
 {
-    let mut j = 0usize;
-    while j < total {
+    for j in 0..total {
         if SECOND.size <= symbol_at(image, j) as u32 {
             return false;
         }
-        j += 1;
     }
     true
 }
@@ -149,10 +145,8 @@ pub fn copy_symbols(image: &[u8], places: &mut [u16])
     requires { header_length + edition2.width * length places.old ≤ length image.now }
     ensures { places.new ≡ table (symbol_at edition2 image.now) (length places.old) }
 {
-    let mut j = 0usize;
-    while j < places.len() {
-        places[j] = symbol_at(image, j);
-        j += 1;
+    for (j, place) in places.iter_mut().enumerate() {
+        *place = symbol_at(image, j);
     }
 }
 

@@ -1,13 +1,11 @@
 -- Sums of numbers that stand so many places apart, and a run to which they are added.
 -- Assumes nothing.
-use mathlib.Core.Path.{◌≡◌, refl, sym, ap, ap₂, ◌∙◌, subst}
+use mathlib.Core.Path.{◌≡◌, sym, ap, ap₂, ◌∙◌, subst}
 use mathlib.Core.List.{List}
 use Prim.Native.Nat.{ℕ, ◌+◌, ◌*◌, ◌/◌, ◌%◌, ◌<◌, ◌≤◌}
 use native.Mathlib.Nat.{mul-le-mul, mul_comm, mod-add-div, div-lt_iff_lt-mul, add-mod_right}
 use native.Mathlib.Omega.{arith}
 use lib.ListN.{length, get_or, set}
-use Rattle.algebra.specs.Field.{Ops}
-use Rattle.algebra.specs.Coding.{InRange}
 use Rattle.algebra.specs.Sum.{sum}
 use Rattle.algebra.specs.Shape.{Field}
 use Rattle.algebra.specs.Plain.{reduced, Working}
@@ -39,9 +37,6 @@ module _ {A : Type 0} {f : Field A} (W : Working f) where
     unfolding apart
     apart_more s p b = more (elem v) (elem s) (elem p) (λ b. elem (get_or src (at + b * gap) 0)) b
 
-    pub apart_end : (s b n : ℕ) → elem s ≡ ops.add (elem v) (apart f src at gap b) → b ≤ n → n ≤ b → elem s ≡ ops.add (elem v) (apart f src at gap n)
-    apart_end s b n e h l = subst (λ m. elem s ≡ ops.add (elem v) (apart f src at gap m)) (omega arith) e
-
     module _ (n far : ℕ) where
       pub grid_none : elem v ≡ ops.add (elem v) (grid f src at gap n far 0)
       unfolding grid
@@ -51,9 +46,6 @@ module _ {A : Type 0} {f : Field A} (W : Working f) where
           elem p ≡ ops.add (elem v) (grid f src at gap n far (g + 1))
       unfolding grid
       grid_more s p g = more (elem v) (elem s) (elem p) (λ g. apart f src (at + g * far) gap n) g
-
-      pub grid_end : (s g m : ℕ) → elem s ≡ ops.add (elem v) (grid f src at gap n far g) → g ≤ m → m ≤ g → elem s ≡ ops.add (elem v) (grid f src at gap n far m)
-      grid_end s g m e h l = subst (λ k. elem s ≡ ops.add (elem v) (grid f src at gap n far k)) (omega arith) e
 
   pub add_grid_more : (was is src : List ℕ) (to from gap n far m j len p q : ℕ) → Run (added_grid f was to src from gap n far m) was is to j → j < len → to + len ≤ length was →
       elem p ≡ ops.add (elem (get_or is (to + j) 0)) (grid f src (from + j) gap n far m) → q ≡ reduced f p → Run (added_grid f was to src from gap n far m) was (set is (to + j) q) to (j + 1)

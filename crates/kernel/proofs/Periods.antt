@@ -5,12 +5,9 @@ use mathlib.Core.List.{List}
 use Prim.Native.Nat.{ℕ, ◌+◌, ◌-◌, ◌*◌, ◌%◌, ◌<◌, ◌≤◌, min}
 use native.Mathlib.Nat.{zero-add, one-mul, add-mul, mod-eq_of_lt, mul_comm, mul-le-mul_right, add-mul-mod_self_left}
 use native.Mathlib.Omega.{arith}
-use mir.Val.{Fits}
-use mir.Syntax.{w64}
 use lib.ListN.{length, get_or}
 use Rattle.kernel.specs.Inner.{Run, copied, repeated}
 use Rattle.kernel.proofs.Runs.{run_append}
-use Rattle.kernel.proofs.Rows.{row_before}
 
 pub repeated_one : (period : ℕ) (was : List ℕ) → Run (repeated was period) was was 0 (1 * period)
 unfolding repeated
@@ -31,10 +28,7 @@ repeated_more period c m count was is new h r n =
         swap : c * period + i ≡ i + period * c
         swap = let e = mul_comm c period in omega arith
 
-pub repeated_end : (period c count : ℕ) (was is : List ℕ) → Run (repeated was period) was is 0 (c * period) → c ≤ count → count ≤ c → Run (repeated was period) was is 0 (count * period)
-repeated_end period c count was is r h l = let e : c ≡ count = omega arith in subst (λ n. Run (repeated was period) was is 0 (n * period)) e r
-
-pub repeat_room : (period c m count : ℕ) (was is : List ℕ) → count * period ≤ length was → length is ≡ length was → m ≡ min c (count - c) → c < count → c * period + m * period ≤ length is
+pub repeat_room : {X : Type 0} (period c m count : ℕ) (was is : List X) → count * period ≤ length was → length is ≡ length was → m ≡ min c (count - c) → c < count → c * period + m * period ≤ length is
 repeat_room period c m count was is h e l k =
     let q : c + m ≤ count = omega arith in
     let r : (c + m) * period ≤ count * period = mul-le-mul_right period q in
@@ -43,9 +37,3 @@ repeat_room period c m count was is h e l k =
 
 pub repeat_before : (period c m count : ℕ) → m ≡ min c (count - c) → 0 + m * period ≤ c * period
 repeat_before period c m count h = let low : m ≤ c = omega arith in let e = mul-le-mul_right period low in omega arith
-
-pub repeat_fits : (period c count : ℕ) (was : List ℕ) → count * period ≤ length was → c < count → Fits w64 (length was) → Fits w64 (c * period)
-repeat_fits period c count was h k f = let q = row_before c count period k in omega arith
-
-pub repeat_fits_2 : (period c m count : ℕ) (was : List ℕ) → count * period ≤ length was → m ≡ min c (count - c) → c < count → Fits w64 (length was) → Fits w64 (m * period)
-repeat_fits_2 period c m count was h l k f = repeat_fits period m count was h (omega arith) f

@@ -13,8 +13,6 @@ use lib.ListN.{length, get_or, set, length-set}
 use lib.Seq.{get_or-set_same, get_or-set_other}
 use Rattle.lists.proofs.Bools.{all_holds, all_true, all_false}
 use Rattle.algebra.specs.Shape.{Field}
-use Rattle.algebra.specs.Field.{Ops}
-use Rattle.algebra.specs.Coding.{Coding}
 use Rattle.algebra.specs.Plain.{plus, minus, times, reduced, Working}
 use Rattle.algebra.proofs.Plain.{elem_reduced, reduced_below, elem_zero, elem_nil}
 use Rattle.kernel.specs.Inner.{Run, filled, copied, sampled, added, added_product, added_multiple, shifted, parted, all_zero}
@@ -84,7 +82,7 @@ pub sample_more : (was is src : List ℕ) (to step j len : ℕ) → Run (sampled
 unfolding sampled
 sample_more was is src to step j len r h l = run_more (sampled src step) was is to j _ r (omega arith) refl
 
-pub sample_in : (src : List ℕ) (step j len : ℕ) → len * step ≤ length src → 0 < step → j < len → j * step < length src
+pub sample_in : {X : Type 0} (src : List X) (step j len : ℕ) → len * step ≤ length src → 0 < step → j < len → j * step < length src
 sample_in src step j len h p l =
     let e : (j + 1) * step ≤ len * step = mul-le-mul_right step (omega arith) in
     let q : (j + 1) * step ≡ j * step + step = omega arith in

@@ -1,30 +1,25 @@
 -- How every step-th place of a buffer is written, one after another.
 -- Assumes nothing.
-use mathlib.Core.Path.{◌≡◌, refl, sym, ap, ◌∙◌}
+use mathlib.Core.Path.{◌≡◌, sym, ap, ◌∙◌}
 use mathlib.Core.List.{List}
 use Prim.Native.Nat.{ℕ, ◌+◌, ◌*◌, ◌<◌, ◌≤◌}
-use native.Mathlib.Nat.{not-suc-le-zero, mul-le-mul}
+use native.Mathlib.Nat.{mul-le-mul}
 use native.Mathlib.Decide.{ℕ_discrete}
 use native.Mathlib.Omega.{arith}
 use lib.ListN.{length, get_or, set, length-set}
 use lib.Seq.{get_or-set_same, get_or-set_other}
-use Rattle.algebra.specs.Field.{Ops}
-use Rattle.algebra.specs.Coding.{Coding}
 use Rattle.algebra.specs.Shape.{Field}
 use Rattle.algebra.specs.Plain.{reduced}
 use Rattle.kernel.specs.Inner.{Spaced, Spacing, added_spaced, grid}
 use Rattle.kernel.proofs.Rows.{row_before}
 
 -- the place of turn j is in the buffer
-pub place_in : (xs : List ℕ) (to step j len : ℕ) → to + len * step < length xs + step → j < len → to + j * step < length xs
+pub place_in : {X : Type 0} (xs : List X) (to step j len : ℕ) → to + len * step < length xs + step → j < len → to + j * step < length xs
 place_in xs to step j len h l = omega (arith, row_before j len step l)
 
 -- places of different turns are different
 places_apart : (to step i j : ℕ) → 0 < step → i < j → ¬ (to + i * step ≡ to + j * step)
 places_apart to step i j p l e = absurd (omega (arith, row_before i j step l))
-
-pub spaced_none : (f : ℕ → ℕ) (was : List ℕ) (to step : ℕ) → Spaced f was was to step 0
-spaced_none f was to step = record { long = refl; done = λ j h. absurd (not-suc-le-zero h); other = λ i h. refl }
 
 spaced_more : (f : ℕ → ℕ) (was is : List ℕ) (to step j v : ℕ) → 0 < step → Spaced f was is to step j → to + j * step < length was → v ≡ f j →
     Spaced f was (set is (to + j * step) v) to step (j + 1)
@@ -59,10 +54,3 @@ pub spaced_fits : {A : Type 0} (f : Field A) (was is src : List ℕ) (to step le
     Spaced (added_spaced f was to step src from stride gap n far m) was is to step j → j < len → get_or is (to + j * step) 0 + m * n * f.coding.size < 65536
 spaced_fits f was is src to step len from stride gap n far m j small p r h =
     rw (r.other (to + j * step) (λ k b d. places_apart to step k j p.some b (sym d))) (omega (arith, p.held j h, mul-le-mul p.few small))
-
--- at the end of the loop
-pub spaced_end : (f : ℕ → ℕ) (was is : List ℕ) (to step j len : ℕ) → Spaced f was is to step j → j ≤ len → len ≤ j → Spaced f was is to step len
-spaced_end f was is to step j len r h n = rw (sym same) r
-  where
-    same : j ≡ len
-    same = omega arith

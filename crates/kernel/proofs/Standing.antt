@@ -1,23 +1,19 @@
 -- How a run of numbers that need not be reduced grows by a write.
 -- Assumes nothing.
-use mathlib.Core.Path.{◌≡◌, refl, sym, ap, ap₂, ◌∙◌, subst}
+use mathlib.Core.Path.{◌≡◌, refl, sym, ap, ap₂, ◌∙◌}
 use mathlib.Core.List.{List}
 use Prim.Native.Nat.{ℕ, ◌+◌, ◌<◌, ◌≤◌}
-use native.Mathlib.Nat.{not-suc-le-zero, zero-add}
+use native.Mathlib.Nat.{zero-add}
 use native.Mathlib.Decide.{ℕ_discrete}
 use native.Mathlib.Omega.{arith}
 use lib.ListN.{length, get_or, set, length-set}
 use lib.Seq.{get_or-set_same, get_or-set_other}
-use Rattle.algebra.specs.Field.{Ops}
 use Rattle.algebra.specs.Shape.{Field}
-use Rattle.kernel.specs.Inner.{Run, copied, Standing, stepped, accrued, inverted}
+use Rattle.kernel.specs.Inner.{Run, copied, Standing, stepped, accrued}
 
 module _ {A : Type 0} (f : Field A) where
   open f use {ops}
   open f.coding use {elem}
-
-  pub standing_none : (g : ℕ → A) (was : List ℕ) (to : ℕ) → Standing f g was was to 0
-  standing_none g was to = record { long = refl; done = λ j h. absurd (not-suc-le-zero h); low = λ i h. refl; high = λ i h. refl }
 
   standing_more : (g : ℕ → A) (was is : List ℕ) (to j v : ℕ) → Standing f g was is to j → to + j < length was → elem v ≡ g j → Standing f g was (set is (to + j) v) to (j + 1)
   standing_more g was is to j v r h e = record {
@@ -33,9 +29,6 @@ module _ {A : Type 0} (f : Field A) where
       go : (i : ℕ) → i < j + 1 → Dec (i ≡ j) → elem (get_or (set is (to + j) v) (to + i) 0) ≡ g i
       go i l (yes q) = rw q (ap elem (get_or-set_same is (to + j) v 0 inside) ∙ e)
       go i l (no q) = ap elem (get_or-set_other is (to + j) (to + i) v 0 (λ p. q (omega arith))) ∙ r.done i (omega arith)
-
-  pub standing_end : (g : ℕ → A) (was is : List ℕ) (to j len : ℕ) → Standing f g was is to j → j ≤ len → len ≤ j → Standing f g was is to len
-  standing_end g was is to j len r h n = subst (λ m. Standing f g was is to m) (omega arith) r
 
   -- as a run of whatever it holds
   pub standing_run : (g : ℕ → A) (was is : List ℕ) (to len : ℕ) → Standing f g was is to len → Run (copied is to) was is to len
@@ -57,10 +50,3 @@ module _ {A : Type 0} (f : Field A) where
   step_more cw ci by j len p s h l e =
       rw (sym (ap (λ (i : ℕ). set ci i p) (zero-add j)))
       (standing_more (stepped f cw by) cw ci 0 j p s (omega arith) (e ∙ ap (λ (x : ℕ). ops.mul (elem x) (elem (get_or by j 0))) (s.high j (omega arith))))
-
-  -- the inverses
-  pub invert_more : (was is : List ℕ) (to j len p : ℕ) → Standing f (inverted f was to) was is to j → j < len → to + len ≤ length was →
-      elem p ≡ ops.inv (elem (get_or is (to + j) 0)) → Standing f (inverted f was to) was (set is (to + j) p) to (j + 1)
-  unfolding inverted
-  invert_more was is to j len p r h l e =
-      standing_more (inverted f was to) was is to j p r (omega arith) (e ∙ ap (λ (x : ℕ). ops.inv (elem x)) (r.high (to + j) (omega arith)))

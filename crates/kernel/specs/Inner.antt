@@ -1,8 +1,7 @@
 -- What the kernels do to a run of places of a buffer, over any field. Nothing here has to be believed.
 -- Assumes nothing.
-use Rattle.std.specs.Prelude.{◌≡◌, Bool, List, ℕ, zero, suc, ◌+◌, ◌*◌, ◌%◌, ◌<◌, ◌≤◌, eqb, length, get_or}
+use Rattle.std.specs.Prelude.{◌≡◌, Bool, List, ℕ, ◌+◌, ◌*◌, ◌%◌, ◌<◌, ◌≤◌, eqb, length, get_or}
 use Rattle.lists.specs.Lists.{all}
-use Rattle.algebra.specs.Field.{Ops}
 use Rattle.algebra.specs.Coding.{InRange}
 use Rattle.algebra.specs.Sum.{sum}
 use Rattle.algebra.specs.Shape.{Field}

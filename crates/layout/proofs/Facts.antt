@@ -1,23 +1,17 @@
 -- What an admissible layout is, as a test and as facts, and what follows for its numbers.
 use mathlib.Core.Path.{◌≡◌, refl, sym, ap, ◌∙◌}
 use mathlib.Core.Bool.{Bool, true, false, not, ◌&&◌, false≢true}
-use Prim.Native.Nat.{ℕ, zero, suc, ◌+◌, ◌-◌, ◌*◌, ◌/◌, ◌%◌, ◌^◌, ◌≤◌, ◌<◌}
-use native.Mathlib.Nat.{mul-div-le, mul-le-mul_right, le-mul_of_pos_right, one-le-pow, pow-le-pow_right, le_trans, le_of_lt, div-lt_iff_lt-mul, div-le_self}
+use Prim.Native.Nat.{ℕ, ◌+◌, ◌-◌, ◌*◌, ◌/◌, ◌%◌, ◌^◌, ◌≤◌, ◌<◌}
+use native.Mathlib.Nat.{mul-le-mul_right, le-mul_of_pos_right, one-le-pow, pow-le-pow_right, le_trans, le_of_lt, div-lt_iff_lt-mul, div-le_self}
 use native.Mathlib.Omega.{arith}
-use mir.Val.{Fits}
-use mir.Syntax.{w32}
 use lib.Dec.{leb, eqb}
-use borrow.Author.Tests.{leb-true, le-leb, lt-leb, eqb-true, eq-eqb}
+use borrow.Author.Tests.{leb-true, le-leb, eqb-true, eq-eqb}
 use Rattle.lists.proofs.Bools.{both, and_true, not_both, not_true_false, told_true}
 use Rattle.layout.specs.declared.Layout.{Layout}
 use Rattle.layout.specs.Layout.{trays, whole_racks, digits, layers, groups, tray_limit, layer_limit, size_allowed, admissible, admissible_with, lost_count_fits}
 use Rattle.layout.specs.Layout.{Cabinet, Admissible, AdmissibleWith}
 
 -- the test of a size
-pub size_none : (N u : ℕ) → u ≡ 0 → false ≡ size_allowed N u
-unfolding size_allowed
-size_none N u e = sym (ap (λ b. b && eqb (u * (N / u)) N) (lt-leb 1 u (omega arith)))
-
 pub size_some : (N u : ℕ) → ¬ (u ≡ 0) → eqb (u * (N / u)) N ≡ size_allowed N u
 unfolding size_allowed
 size_some N u e = sym (ap (λ b. b && eqb (u * (N / u)) N) (le-leb 1 u (omega arith)))
@@ -28,9 +22,6 @@ size_facts N u h = let b = both (leb 1 u) (eqb (u * (N / u)) N) h in (leb-true _
 
 pub size_not : (N u : ℕ) → size_allowed N u ≡ false → 1 ≤ u → ¬ (u * (N / u) ≡ N)
 size_not N u h p e = false≢true (sym h ∙ sym (size_some N u (λ z. omega arith)) ∙ eq-eqb _ _ e)
-
-pub quotient_fits : (N u : ℕ) → Fits w32 N → Fits w32 (u * (N / u))
-quotient_fits N u f = let e = mul-div-le N u in omega arith
 
 module _ (N : ℕ) (l : Layout) where
   pub admissible_facts : admissible N l ≡ true → Admissible N l

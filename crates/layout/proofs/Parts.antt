@@ -1,12 +1,12 @@
 -- The parts of a layer's number, as `layer_of` works it out, are at most that number; and those of a group's number, as `group_of` does.
 -- Assumes nothing.
-use mathlib.Core.Path.{◌≡◌, sym, ap}
-use Prim.Native.Nat.{ℕ, suc, ◌+◌, ◌*◌, ◌/◌, ◌%◌, ◌^◌, ◌≤◌, ◌<◌}
-use native.Mathlib.Nat.{le-mul_of_pos_right, one-le-pow, pow-suc}
+use mathlib.Core.Path.{◌≡◌, refl, sym, ap, ◌∙◌}
+use Prim.Native.Nat.{ℕ, suc, ◌+◌, ◌*◌, ◌/◌, ◌%◌, ◌^◌, ◌≤◌, ◌<◌, min}
+use native.Mathlib.Nat.{le-mul_of_pos_right, le_of_lt, one-le-pow, pow-suc}
 use native.Mathlib.Omega.{arith}
 use Rattle.algebra.specs.Layers.{group_of, layer_of}
 use Rattle.layout.specs.declared.Layout.{Layout}
-use Rattle.layout.specs.Layout.{digits, layers, groups, layer_limit}
+use Rattle.layout.specs.Layout.{digits, layers, groups, layer_limit, Cabinet}
 use Rattle.layout.specs.Inner.{InGroup, HasLayer}
 use Rattle.layout.proofs.Facts.{bounds, power_in}
 use Rattle.layout.proofs.Numbers.{layer_below, group_below}
@@ -63,3 +63,21 @@ module _ (l : Layout) (h j : ℕ) (g : HasLayer l h j) where
         times_high = omega (arith, top, group_as, b.groups_high);
         whole_high = omega (arith, top, group_as, b.groups_high);
       }
+
+-- ---- the same of the numbers s and q that the code has for the base and its power
+module _ (l : Layout) (h s q : ℕ) (es : s ≡ digits l) (eq : q ≡ min (s ^ h) (layer_limit + 1)) where
+  pub power_known : Cabinet l → h < l.racks → q ≡ digits l ^ h
+  power_known a k = eq ∙ ap (λ t. min (t ^ h) (layer_limit + 1)) es ∙ omega (arith, power_in l a h (le_of_lt k))
+
+  pub known_parts : (p a : ℕ) → InGroup l h p a → Parts q s p a
+  known_parts p a g = rw (power_known g.adm g.host_in, es) (parts l h p a g)
+
+  pub known_layer : (p a : ℕ) → InGroup l h p a → ((p / q * s + a) * q + p % q ≡ layer_of (digits l) h p a) × ((p / q * s + a) * q + p % q < layers l)
+  unfolding layer_of
+  known_layer p a g = rw (power_known g.adm g.host_in, es) (refl, layer_high l h p a g)
+
+  pub known_groups : (j : ℕ) → HasLayer l h j → GroupParts q s j
+  known_groups j g = rw (power_known g.adm g.host_in, es) (group_parts l h j g)
+
+  pub known_group : (j : ℕ) → HasLayer l h j → j % q + q * (j / (q * s)) ≡ group_of (digits l) h j
+  known_group j g = rw (power_known g.adm g.host_in, es) (sym (group_as l h j g))

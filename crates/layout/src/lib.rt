@@ -18,7 +18,7 @@ pub const LAYERS: u32 = 4096;
 
 // Document 01's B, u, k and d, and document 02's E (W12): any 32-bit values.
 #[repr(C)]
-#[derive(Clone, Copy)]
+#[derive(Clone, Copy, PartialEq, Eq)]
 pub struct Layout {
     pub racks: u32,
     pub size: u32,

@@ -1,14 +1,15 @@
 -- The tests of a list of numbers, as facts about each of them.
 -- Assumes nothing.
-use mathlib.Core.Path.{◌≡◌, sym, ap, subst}
+use mathlib.Core.Path.{◌≡◌, sym, ap}
 use mathlib.Core.Bool.{Bool, true, false, not, false≢true}
 use mathlib.Core.List.{List}
 use Prim.Native.Nat.{ℕ, ◌+◌, ◌-◌, ◌<◌, ◌≤◌}
-use native.Mathlib.Decide.{ℕ_discrete}
 use native.Mathlib.Omega.{arith}
 use borrow.Author.Tests.{eq-eqb, ne_eqb, lt-ltb, ltb-true}
 use lib.Dec.{eqb, ltb}
 use lib.ListN.{length, get_or}
+use Rattle.std.specs.Bool.{Decides}
+use Rattle.std.proofs.lemmas.Bool.Decides.{same_from_decides}
 use Rattle.lists.specs.Lists.{all_below, strictly_rising, absent}
 use Rattle.lists.proofs.Bools.{all_holds, all_true, all_false}
 
@@ -25,13 +26,13 @@ module _ (xs : List ℕ) (n : ℕ) where
   unfolding all_below
   below_all t k h = ltb-true _ _ (all_holds (λ k. ltb (get_or xs k 0) n) (length xs) t k h)
 
+  -- an answer that is true exactly when each number is below n
+  pub below_told : {r : Bool} → Decides r ((k : ℕ) → k < length xs → get_or xs k 0 < n) → r ≡ all_below xs n
+  below_told {r} d = same_from_decides r (all_below xs n) d (below_all, λ f. sym (below_true f))
+
   not_not : (a : Bool) → not a ≡ true → a ≡ true → ⊥
   not_not true h e = false≢true h
   not_not false h e = false≢true e
-
-  pub absent_false : (k : ℕ) → k < length xs → get_or xs k 0 ≡ n → false ≡ absent xs n
-  unfolding absent
-  absent_false k h e = all_false _ _ k h (λ t. not_not (eqb (get_or xs k 0) n) t (eq-eqb _ _ e))
 
   pub absent_true : ((k : ℕ) → k < length xs → get_or xs k 0 ≡ n → ⊥) → true ≡ absent xs n
   unfolding absent
@@ -41,34 +42,23 @@ module _ (xs : List ℕ) (n : ℕ) where
   unfolding absent
   absent_all t k h e = not_not (eqb (get_or xs k 0) n) (all_holds (λ k. not (eqb (get_or xs k 0) n)) (length xs) t k h) (eq-eqb _ _ e)
 
+  -- an answer that is true exactly when no number is n
+  pub absent_told : {r : Bool} → Decides r ((k : ℕ) → k < length xs → get_or xs k 0 ≡ n → ⊥) → r ≡ absent xs n
+  absent_told {r} d = same_from_decides r (absent xs n) d (absent_all, λ f. sym (absent_true f))
+
 module _ (xs : List ℕ) where
   -- rising as far as k
   abbrev pub RisingTo : ℕ → Type 0
   RisingTo k = (i : ℕ) → i + 1 < k → get_or xs i 0 < get_or xs (i + 1) 0
 
-  pub rising_false : (k : ℕ) → 1 ≤ k → k < length xs → get_or xs k 0 ≤ get_or xs (k - 1) 0 → false ≡ strictly_rising xs
-  unfolding strictly_rising
-  rising_false k p h g = all_false (λ k. ltb (get_or xs k 0) (get_or xs (k + 1) 0)) (length xs - 1) (k - 1) (omega arith)
-      (λ t.
-      let q = ltb-true (get_or xs (k - 1) 0) (get_or xs (k - 1 + 1) 0) t in
-      let e : k - 1 + 1 ≡ k = omega arith in
-      let w : get_or xs (k - 1) 0 < get_or xs k 0 = subst (λ i. get_or xs (k - 1) 0 < get_or xs i 0) e q in
-      omega arith)
-
   pub rising_true : (k : ℕ) → length xs ≤ k → RisingTo k → true ≡ strictly_rising xs
   unfolding strictly_rising
   rising_true k h f = sym (all_true (λ k. ltb (get_or xs k 0) (get_or xs (k + 1) 0)) (length xs - 1) (λ i l. lt-ltb _ _ (f i (omega arith))))
 
-  pub rising_none : RisingTo 1
-  rising_none i h = absurd (omega arith)
-
-  pub rising_more : (k : ℕ) → 1 ≤ k → RisingTo k → get_or xs (k - 1) 0 < get_or xs k 0 → RisingTo (k + 1)
-  rising_more k p f g i h = go (ℕ_discrete (i + 1) k)
-    where
-      go : Dec (i + 1 ≡ k) → get_or xs i 0 < get_or xs (i + 1) 0
-      go (yes e) = let q : k - 1 ≡ i = omega arith in subst (λ y. get_or xs i 0 < get_or xs y 0) (sym e) (subst (λ y. get_or xs y 0 < get_or xs k 0) q g)
-      go (no d) = f i (omega arith)
-
   pub rising_all : strictly_rising xs ≡ true → RisingTo (length xs)
   unfolding strictly_rising
   rising_all t i h = ltb-true _ _ (all_holds (λ k. ltb (get_or xs k 0) (get_or xs (k + 1) 0)) (length xs - 1) t i (omega arith))
+
+  -- an answer that is true exactly when each number is below the next
+  pub rising_told : {r : Bool} → Decides r ((i : ℕ) → i + 1 < length xs → get_or xs i 0 < get_or xs (i + 1) 0) → r ≡ strictly_rising xs
+  rising_told {r} d = same_from_decides r (strictly_rising xs) d (rising_all, λ f. sym (rising_true (length xs) (omega arith) f))

@@ -9,49 +9,28 @@ ghost use Rattle.lists.specs.Lists.{all_below, strictly_rising, absent};
 pub fn all_below(xs: &[u32], n: u32) -> bool
     ensures { result ≡ all_below xs.now n }
 {
-    let mut k = 0usize;
-    while k < xs.len() {
-        if n <= xs[k] {
-            return false;
-        }
-        k += 1;
-    }
-    true
+    xs.iter().all(|x| *x < n)
 }
 
 // Whether each number is above the one before.
 pub fn strictly_rising(xs: &[u32]) -> bool
     ensures { result ≡ strictly_rising xs.now }
 {
-    let mut k = 1usize;
-    while k < xs.len() {
-        if xs[k] <= xs[k - 1] {
-            return false;
-        }
-        k += 1;
-    }
-    true
+    xs.windows(2).all(|pair| pair[0] < pair[1])
 }
 
 // Whether n is not in the list.
 pub fn is_absent(xs: &[u32], n: u32) -> bool
     ensures { result ≡ absent xs.now n }
 {
-    let mut k = 0usize;
-    while k < xs.len() {
-        if xs[k] == n {
-            return false;
-        }
-        k += 1;
-    }
-    true
+    !xs.contains(&n)
 }
 
 // The smaller of two numbers.
 pub fn smaller(a: u64, b: u64) -> u64
     ensures { result ≡ min a b }
 {
-    if a < b { a } else { b }
+    a.min(b)
 }
 
 // Copies bytes to the front of a buffer.

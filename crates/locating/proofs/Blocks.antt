@@ -9,7 +9,6 @@ use native.Mathlib.Omega.{arith}
 use mir.Val.{Fits}
 use mir.Syntax.{w32}
 use lib.ListN.{length, get_or, replicate, length-replicate}
-use Rattle.algebra.specs.Field.{Ops}
 use Rattle.algebra.specs.Shape.{Field}
 use Rattle.algebra.specs.Plain.{Working}
 use Rattle.kernel.specs.Inner.{Run, copied}
@@ -26,10 +25,6 @@ use Rattle.locating.specs.Inner.{point_of, residue_of, BlockRoom, PartsTo, Kept,
 use Rattle.locating.proofs.Parts.{row_points, parts_residue}
 
 -- ---- room
-pub row_second : (l : Layout) (h w first : ℕ) (helpers shares sides points cur prod row sides' : List ℕ) →
-    BlockRoom l h w first helpers shares sides points cur prod row → length sides' ≡ length sides → w + w ≤ length sides'
-row_second l h w first helpers shares sides points cur prod row sides' g e = let t = g.sides_long in omega arith
-
 pub rooms : Rooms (replicate layer_limit 0) (replicate layer_limit 0) room_of room_of row_of row_of row_of
 rooms = record { zeroth_long = wide; first_long = wide; sides_long = all; points_long = all; cur_long = row; prod_long = row; row_long = row }
   where
@@ -82,9 +77,6 @@ pub block_in : (l : Layout) (p w n total : ℕ) (room room' : List ℕ) → Cabi
     layer_limit ≤ length room → length room' ≡ length room → p + w ≤ length room'
 block_in l p w n total room room' adm et q a long e = let t = a.within in omega (arith, (bounds l adm).groups_high)
 
-pub next_fits : (l : Layout) (p w n total : ℕ) → Cabinet l → total ≡ groups l → p < total → Allowed p (total - p) n w → Fits w32 (p + w)
-next_fits l p w n total adm et q a = let t = a.within in record { fits = omega (arith, (bounds l adm).groups_high) }
-
 module _ {A : Type 0} {f : Field A} (W : Working f) where
   open f use {ops}
   open f.coding use {elem}
@@ -107,9 +99,6 @@ module _ {A : Type 0} {f : Field A} (W : Working f) where
         ∙ parts_residue W l h (at + j) t helpers shares
         ∙ ap (λ n. residue_of f l h helpers shares n t) here
 
-    pub kept_none : (zeroth first : List ℕ) → Kept f l h helpers shares 0 zeroth first
-    kept_none zeroth first = record { zeroth_at = λ p k. absurd (omega arith); first_at = λ p k. absurd (omega arith) }
-
     pub kept_more : (at w : ℕ) (sides zeroth first zeroth' first' : List ℕ) → Kept f l h helpers shares at zeroth first → PartsTo f l h w at helpers shares l.helpers sides →
         Run (copied sides 0) zeroth zeroth' at w → Run (copied sides w) first first' at w → Kept f l h helpers shares (at + w) zeroth' first'
     kept_more at w sides zeroth first zeroth' first' k s a b = record {
@@ -130,9 +119,6 @@ module _ {A : Type 0} {f : Field A} (W : Working f) where
 
   -- ---- whether the residues point to a helper
   module _ (l : Layout) (h : ℕ) (helpers zeroth first : List ℕ) (k : ℕ) where
-    pub located_none : PointsAt f l h helpers zeroth first k 0
-    located_none p q = absurd (omega arith)
-
     module _ (ch : Chosen l h helpers) (inside : k < l.helpers) (p w : ℕ) (row : List ℕ) (r : RackPowers f l h w p (get_or helpers k 0) l.size row) where
       pub located_more : RowAgrees f zeroth first p w row → PointsAt f l h helpers zeroth first k p → PointsAt f l h helpers zeroth first k (p + w)
       located_more a g n q = go (dec_lt n p)
@@ -148,6 +134,3 @@ module _ {A : Type 0} {f : Field A} (W : Working f) where
 
       pub located_not : p + w ≤ groups l → ¬ (RowAgrees f zeroth first p w row) → ¬ (PointsAt f l h helpers zeroth first k (groups l))
       located_not q n g = n (λ j hj. g (p + j) (omega arith) ∙ ap (λ y. ops.mul y (elem (get_or zeroth (p + j) 0))) (sym (row_points W l h w p k helpers row ch inside r j hj)))
-
-    pub located_end : (p n : ℕ) → PointsAt f l h helpers zeroth first k p → n ≤ p → n ≡ groups l → PointsAt f l h helpers zeroth first k (groups l)
-    located_end p n g a e y q = g y (omega arith)

@@ -1,16 +1,15 @@
 -- Which helper the residues point to, and what that says of the shares.
 -- Assumes nothing.
-use mathlib.Core.Path.{◌≡◌, refl, sym, ap, ◌∙◌, subst}
+use mathlib.Core.Path.{◌≡◌, sym, ap, ◌∙◌, subst}
 use mathlib.Core.Bool.{Bool, true, false, ◌&&◌, false≢true}
 use mathlib.Core.List.{List}
-use Prim.Native.Nat.{ℕ, ◌+◌, ◌-◌, ◌<◌, ◌≤◌}
+use Prim.Native.Nat.{ℕ, ◌+◌, ◌<◌, ◌≤◌}
 use native.Mathlib.Decide.{ℕ_discrete}
 use native.Mathlib.Omega.{arith}
 use mir.Val.{Fits}
 use mir.Syntax.{w64}
-use lib.ListN.{length, get_or}
+use lib.ListN.{length}
 use Rattle.lists.proofs.Bools.{both, and_true}
-use Rattle.algebra.specs.Field.{Ops}
 use Rattle.algebra.specs.Shape.{Field}
 use Rattle.algebra.specs.Plain.{Working}
 use Rattle.algebra.specs.Locate.{Clean, Located}
@@ -23,13 +22,6 @@ use Rattle.codeword.specs.Codeword.{shape_of}
 use Rattle.rule.specs.Rule.{shared_symbol}
 use Rattle.sums.specs.Inner.{helper_at, Chosen}
 use Rattle.locating.specs.Inner.{point_of, residue_of, Kept, PointsAt, AllZero, FirstAt, PointedTo, Found}
-
-module _ (l : Layout) (h : ℕ) (helpers : List ℕ) (ch : Chosen l h helpers) where
-  pub count_fits : (k : ℕ) → k < length helpers → Fits w64 (k + 1)
-  count_fits k q = let b = bounds l ch.adm in record { fits = omega (arith, ch.many, ch.adm.helpers_high) }
-
-  pub over_fits : Fits w64 (length helpers + 1)
-  over_fits = let b = bounds l ch.adm in record { fits = omega (arith, ch.many, ch.adm.helpers_high) }
 
 module _ {A : Type 0} {f : Field A} (W : Working f) where
   open f use {ops}

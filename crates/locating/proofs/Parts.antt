@@ -8,7 +8,6 @@ use native.Mathlib.Omega.{arith}
 use mir.Val.{Fits}
 use mir.Syntax.{w64}
 use lib.ListN.{length, get_or}
-use Rattle.algebra.specs.Field.{Ops}
 use Rattle.algebra.specs.Sum.{sum, pow}
 use Rattle.algebra.specs.Shape.{Field}
 use Rattle.algebra.specs.Plain.{plus, times, Working}
@@ -38,9 +37,6 @@ use Rattle.locating.specs.Inner.{GapsTo, point_of, gap_of, part_of, residue_of, 
 
 -- ---- places of a block
 module _ (l : Layout) (h w first : ℕ) (helpers shares sides points cur prod row : List ℕ) (g : BlockRoom l h w first helpers shares sides points cur prod row) where
-  work_layout : Cabinet l
-  work_layout = g.chosen.adm
-
   pub work_next : (sides' points' cur' prod' row' : List ℕ) → length sides' ≡ length sides → length points' ≡ length points → length cur' ≡ length cur →
       length prod' ≡ length prod → length row' ≡ length row →
       BlockRoom l h w first helpers shares sides' points' cur' prod' row'
@@ -55,17 +51,8 @@ module _ (l : Layout) (h w first : ℕ) (helpers shares sides points cur prod ro
     row_long = rw er g.row_long;
   }
 
-  pub work_sides : (sides' : List ℕ) → length sides' ≡ length sides → 0 + 2 * w ≤ length sides'
-  work_sides sides' e = let t = g.sides_long in omega arith
-
-  pub work_twice : Fits w64 (length sides) → Fits w64 (2 * w)
-  work_twice f = let t = g.sides_long in omega arith
-
   pub work_helper : (k : ℕ) → k < length helpers → k < l.helpers
   work_helper k q = rw (sym g.chosen.many) q
-
-  pub work_count : (k : ℕ) → k < length helpers → Fits w64 (k + 1)
-  work_count k q = let b = bounds l work_layout in record { fits = omega (arith, g.chosen.many, work_layout.helpers_high) }
 
   -- the points of the unknowns, a column for each group
   pub work_pointed : Pointed l h w first helpers w 1 points row
@@ -78,28 +65,6 @@ module _ (l : Layout) (h w first : ℕ) (helpers shares sides points cur prod ro
     row_long = g.row_long;
   }
 
-module _ {A : Type 0} (f : Field A) (l : Layout) (h w first : ℕ) (helpers points row : List ℕ) (g : Pointing f l h w first helpers points row) where
-  pub point_block : Block l w first
-  point_block = g.block.block
-
-  pub point_size : l.size ≤ tray_limit
-  point_size = let b = bounds l g.chosen.adm in omega arith
-
-  pub point_room : (n : ℕ) → n ≡ parity_racks l → n * w + w ≤ length points
-  point_room n en = rw en g.points_long
-
-  pub point_fits : (n : ℕ) → n ≡ parity_racks l → Fits w64 (length points) → Fits w64 (n * w)
-  point_fits n en z = let t = point_room n en in omega arith
-
-  pub point_row : (row' : List ℕ) → length row' ≡ length row → 0 + w ≤ length row'
-  point_row row' e = let t = g.row_long in omega arith
-
-  pub point_rack : (k : ℕ) → k < l.helpers → get_or helpers k 0 < l.racks
-  point_rack k q = g.chosen.inside k q
-
-  pub point_other : (k : ℕ) → k < l.helpers → ¬ (get_or helpers k 0 ≡ h)
-  point_other k q = g.chosen.other k q
-
 module _ {A : Type 0} (f : Field A) (l : Layout) (h w first : ℕ) (helpers shares : List ℕ) (k : ℕ) (points cur prod : List ℕ)
     (g : Sharing f l h w first helpers shares k points cur prod) where
   pub gap_groups : (n : ℕ) → n ≡ groups l → n ≤ layer_limit
@@ -110,22 +75,6 @@ module _ {A : Type 0} (f : Field A) (l : Layout) (h w first : ℕ) (helpers shar
 
   pub gap_few : k < tray_limit
   gap_few = let b = bounds l g.adm in omega (arith, g.helper_in, g.adm.helpers_high)
-
-  pub gap_room : (n : ℕ) → n ≡ parity_racks l → n * w + w ≤ length points
-  gap_room n en = rw en g.points_long
-
-  pub gap_share : (n at : ℕ) → n ≡ groups l → at ≡ k * n + first → at + w ≤ length shares
-  gap_share n at en ea =
-      let r = row_before k l.helpers (groups l) g.helper_in in
-      let i = g.block.inside in
-      let t : at ≡ k * groups l + first = ea ∙ ap (λ y. k * y + first) en in
-      omega (arith, g.shares_long)
-
-  pub gap_cur : (cur' : List ℕ) → length cur' ≡ length cur → 0 + w ≤ length cur'
-  gap_cur cur' e = let t = g.cur_long in omega arith
-
-  pub gap_prod : (prod' : List ℕ) → length prod' ≡ length prod → 0 + w ≤ length prod'
-  gap_prod prod' e = let t = g.prod_long in omega arith
 
 module _ {A : Type 0} {f : Field A} (W : Working f) where
   open f use {ops}

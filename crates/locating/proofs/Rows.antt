@@ -10,7 +10,6 @@ use native.Mathlib.Omega.{arith}
 use mir.Val.{Fits}
 use mir.Syntax.{w64}
 use lib.ListN.{length, get_or}
-use Rattle.algebra.specs.Field.{Ops}
 use Rattle.algebra.specs.Shape.{Field}
 use Rattle.algebra.specs.Locate.{gaps}
 use Rattle.algebra.specs.Plain.{minus, times, Working}
@@ -19,19 +18,6 @@ use Rattle.algebra.proofs.Plain.{laws, elem_zero, elem_one, elem_nil, elem_minus
 use Rattle.kernel.specs.Inner.{cell, Run, filled, parted}
 use Rattle.kernel.proofs.Rows.{row_before, cell_is}
 use Rattle.locating.specs.Inner.{GapsTo, RowAgrees}
-
--- ---- places
-pub row_fits : (n w i : ℕ) (points : List ℕ) → n * w + w ≤ length points → i < n → Fits w64 (length points) → Fits w64 (i * w)
-row_fits n w i points h k f = let e = row_before i n w k in omega arith
-
-pub last_fits : (n w : ℕ) (points : List ℕ) → n * w + w ≤ length points → Fits w64 (length points) → Fits w64 (n * w)
-last_fits n w points h f = omega arith
-
-pub row_there : (n w i : ℕ) (points : List ℕ) → n * w + w ≤ length points → i < n → i * w + w ≤ length points
-row_there n w i points h k = let e = row_before i n w k in omega arith
-
-pub front_in : (w : ℕ) (cur : List ℕ) → w ≤ length cur → 0 + w ≤ length cur
-front_in w cur h = omega arith
 
 module _ {A : Type 0} {f : Field A} (W : Working f) where
   open f use {ops}
@@ -69,9 +55,6 @@ module _ {A : Type 0} {f : Field A} (W : Working f) where
   same_to : (a b : ℕ) → elem a ≡ elem b → minus f a b ≡ 0
   same_to a b e = elem_nil W _ (minus_below W a b) (elem_minus W a b ∙ ap (λ x. ops.add x (ops.neg (elem b))) e ∙ add_neg ops (laws W) (elem b))
 
-  pub agrees_none : (zeroth first : List ℕ) (at : ℕ) (row : List ℕ) → RowAgrees f zeroth first at 0 row
-  agrees_none zeroth first at row j h = absurd (omega arith)
-
   -- the numbers of a turn of the loop: x of the row, y and z of the residues, their product and the difference
   module _ (zeroth first : List ℕ) (at : ℕ) (row : List ℕ) (j x y v z d : ℕ) (ex : x ≡ get_or row j 0) (ey : y ≡ get_or zeroth (at + j) 0) (ev : v ≡ times f x y)
       (ez : z ≡ get_or first (at + j) 0) (ed : d ≡ minus f z v) where
@@ -88,6 +71,3 @@ module _ {A : Type 0} {f : Field A} (W : Working f) where
 
     pub agrees_not : (w : ℕ) → j < w → ¬ (d ≡ 0) → ¬ (RowAgrees f zeroth first at w row)
     agrees_not w h n g = n (ed ∙ same_to z v (ap elem ez ∙ g j h ∙ sym right))
-
-  pub agrees_end : (zeroth first : List ℕ) (at w j : ℕ) (row : List ℕ) → RowAgrees f zeroth first at j row → j ≤ w → w ≤ j → RowAgrees f zeroth first at w row
-  agrees_end zeroth first at w j row g a b i h = g i (omega arith)

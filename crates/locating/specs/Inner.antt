@@ -4,7 +4,6 @@
 -- helpers (`shorter` in crate correcting), where parity_racks is the number of unknowns.
 -- Assumes nothing.
 use Rattle.std.specs.Prelude.{◌≡◌, List, ℕ, ◌+◌, ◌*◌, ◌≤◌, ◌<◌, length, get_or}
-use Rattle.algebra.specs.Field.{Ops}
 use Rattle.algebra.specs.Sum.{sum, pow}
 use Rattle.algebra.specs.Shape.{Field}
 use Rattle.algebra.specs.Locate.{gaps, helper_point, gap, residue_at, Clean, Located}

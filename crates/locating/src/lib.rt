@@ -22,13 +22,11 @@ fn row_agrees(zeroth: &[u8], first: &[u8], at: usize, w: usize, row: &[u8]) -> b
     requires { (at + w ≤ length zeroth.now) × (at + w ≤ length first.now) × (w ≤ length row.now) }
     ensures { Says result (RowAgrees gf256 zeroth.now first.now at w row.now) }
 {
-    let mut j = 0usize;
-    while j < w {
+    for j in 0..w {
         let v = product(kernel::at(row, j), kernel::at(zeroth, at + j));
         if difference(kernel::at(first, at + j), v) != 0 {
             return false;
         }
-        j += 1;
     }
     true
 }
@@ -48,6 +46,7 @@ fn is_located(
 {
     let u = l.size;
     let total = layout::group_count(l);
+    // a turn goes on by its block's width: no plainer form was found
     let mut p = 0u32;
     while p < total {
         let w = blocks::block_at(l, p, total - p, 1);
@@ -83,12 +82,10 @@ fn first_located(
     requires { Chosen l h helpers.now × (groups l ≤ length zeroth.now) × (groups l ≤ length first.now) × (block_limit ≤ length row.old) }
     ensures { FirstAt gf256 l h helpers.now zeroth.now first.now result }
 {
-    let mut k = 0usize;
-    while k < helpers.len() {
+    for k in 0..helpers.len() {
         if is_located(l, h, helpers, k, zeroth, first, row) {
             return k;
         }
-        k += 1;
     }
     helpers.len() + 1
 }

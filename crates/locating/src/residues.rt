@@ -14,10 +14,8 @@ fn gap_row(cur: &mut [u8], w: usize, n: usize, points: &[u8])
     ensures { GapsTo gf256 w n points.now n cur.new }
 {
     kernel::fill(cur, 0, w, 1);
-    let mut i = 0usize;
-    while i < n {
+    for i in 0..n {
         kernel::part(cur, 0, w, points, n * w, i * w);
-        i += 1;
     }
 }
 
@@ -108,12 +106,10 @@ fn block_residues(
 {
     sums::unknown_points(points, l, h, w, first, helpers, w, 1, row);
     kernel::fill(sides, 0, 2 * w, 0);
-    let mut k = 0usize;
-    while k < helpers.len() {
+    for k in 0..helpers.len() {
         add_part(
             sides, l, h, w, first, helpers, shares, k, points, cur, prod, row,
         );
-        k += 1;
     }
 }
 
@@ -161,6 +157,7 @@ pub fn all_residues(
 {
     let total = layout::group_count(l);
     let rows = sums::unknown_count(l) + 1;
+    // a turn goes on by its block's width: no plainer form was found
     let mut p = 0u32;
     while p < total {
         let w = blocks::block_at(l, p, total - p, rows);

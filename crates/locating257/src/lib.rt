@@ -23,13 +23,11 @@ fn row_agrees(zeroth: &[u16], first: &[u16], at: usize, w: usize, row: &[u16]) -
     requires { (at + w ≤ length zeroth.now) × (at + w ≤ length first.now) × (w ≤ length row.now) }
     ensures { Says result (RowAgrees gf257 zeroth.now first.now at w row.now) }
 {
-    let mut j = 0usize;
-    while j < w {
-        let v = product(kernel257::at(row, j), kernel257::at(zeroth, at + j));
-        if difference(kernel257::at(first, at + j), v) != 0 {
+    for j in 0..w {
+        let v = product(kernel::at(row, j), kernel::at(zeroth, at + j));
+        if difference(kernel::at(first, at + j), v) != 0 {
             return false;
         }
-        j += 1;
     }
     true
 }
@@ -49,6 +47,7 @@ fn is_located(
 {
     let u = l.size;
     let total = layout::group_count(l);
+    // a turn goes on by its block's width: no plainer form was found
     let mut p = 0u32;
     while p < total {
         let w = blocks::block_at(l, p, total - p, 1);
@@ -66,10 +65,10 @@ fn all_clear(zeroth: &[u16], first: &[u16], total: usize) -> bool
     requires { (total ≤ length zeroth.now) × (total ≤ length first.now) }
     ensures { result ≡ (all_zero gf257 zeroth.now total && all_zero gf257 first.now total) }
 {
-    if !kernel257::all_zero(zeroth, total) {
+    if !kernel::all_zero(zeroth, total) {
         return false;
     }
-    kernel257::all_zero(first, total)
+    kernel::all_zero(first, total)
 }
 
 // The first helper that the residues point to, d + 1 for none.
@@ -84,12 +83,10 @@ fn first_located(
     requires { Chosen l h helpers.now × (groups l ≤ length zeroth.now) × (groups l ≤ length first.now) × (block_limit ≤ length row.old) }
     ensures { FirstAt gf257 l h helpers.now zeroth.now first.now result }
 {
-    let mut k = 0usize;
-    while k < helpers.len() {
+    for k in 0..helpers.len() {
         if is_located(l, h, helpers, k, zeroth, first, row) {
             return k;
         }
-        k += 1;
     }
     helpers.len() + 1
 }

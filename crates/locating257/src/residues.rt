@@ -14,11 +14,9 @@ fn gap_row(cur: &mut [u16], w: usize, n: usize, points: &[u16])
     requires { (w ≤ length cur.old) × (n * w + w ≤ length points.now) }
     ensures { GapsTo gf257 w n points.now n cur.new }
 {
-    kernel257::fill(cur, 0, w, 1);
-    let mut i = 0usize;
-    while i < n {
-        kernel257::part(cur, 0, w, points, n * w, i * w);
-        i += 1;
+    kernel::fill(cur, 0, w, 1);
+    for i in 0..n {
+        kernel::part(cur, 0, w, points, n * w, i * w);
     }
 }
 
@@ -39,7 +37,7 @@ fn own_points(
     let u = l.size;
     let n = sums257::unknown_count(l) as usize;
     sums257::rack_powers(row, l, h, w, first, helpers[k], u);
-    kernel257::copy(points, n * w, w, row, 0);
+    kernel::copy(points, n * w, w, row, 0);
 }
 
 // Helper k's share in a block, each symbol times the product of its point's differences.
@@ -61,8 +59,8 @@ fn share_gaps(
     let n = sums257::unknown_count(l) as usize;
     let at = codeword::cell(layout::group_count(l), k as u32, first as u32);
     gap_row(cur, w, n, points);
-    kernel257::fill(prod, 0, w, 0);
-    kernel257::add_product(prod, 0, w, shares, at, cur, 0);
+    kernel::fill(prod, 0, w, 0);
+    kernel::add_product(prod, 0, w, shares, at, cur, 0);
 }
 
 // Adds helper k's part to both residues of a block.
@@ -87,7 +85,7 @@ fn add_part(
 {
     own_points(points, row, l, h, w, first, helpers, k);
     share_gaps(prod, l, h, w, first, helpers, shares, k, points, cur);
-    syndrome257::add_terms(sides, w, 2, prod, row);
+    syndrome::add_terms(sides, w, 2, prod, row);
 }
 
 // Both residues of a block.
@@ -108,13 +106,11 @@ fn block_residues(
     ensures { PartsTo gf257 l h w first helpers.now shares.now l.helpers sides.new }
 {
     sums257::unknown_points(points, l, h, w, first, helpers, w, 1, row);
-    kernel257::fill(sides, 0, 2 * w, 0);
-    let mut k = 0usize;
-    while k < helpers.len() {
+    kernel::fill(sides, 0, 2 * w, 0);
+    for k in 0..helpers.len() {
         add_part(
             sides, l, h, w, first, helpers, shares, k, points, cur, prod, row,
         );
-        k += 1;
     }
 }
 
@@ -139,8 +135,8 @@ fn keep_block(
     ensures { Kept gf257 l h helpers.now shares.now (at + w) zeroth.new first.new }
 {
     block_residues(sides, l, h, w, at, helpers, shares, points, cur, prod, row);
-    kernel257::copy(zeroth, at, w, sides, 0);
-    kernel257::copy(first, at, w, sides, w);
+    kernel::copy(zeroth, at, w, sides, 0);
+    kernel::copy(first, at, w, sides, w);
 }
 
 // The residues of all groups.
@@ -162,6 +158,7 @@ pub fn all_residues(
 {
     let total = layout::group_count(l);
     let rows = sums257::unknown_count(l) + 1;
+    // a turn goes on by its block's width: no plainer form was found
     let mut p = 0u32;
     while p < total {
         let w = blocks::block_at(l, p, total - p, rows);

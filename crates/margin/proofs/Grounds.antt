@@ -3,31 +3,22 @@
 use mathlib.Core.Path.{◌≡◌, sym, ap, ◌∙◌}
 use mathlib.Core.Bool.{Bool, true, false, not}
 use mathlib.Core.List.{List}
-use Prim.Native.Nat.{ℕ, ◌≤◌, ◌<◌}
+use Prim.Native.Nat.{ℕ, ◌≤◌}
 use native.Mathlib.Omega.{arith}
 use lib.Dec.{eqb, lit<}
 use lib.IntN.{ℤ, pos, ◌-ℤ◌}
-use lib.ListN.{length, get_or}
-use borrow.Author.Tests.{eq-eqb, ne_eqb, eqb-true, ltb-true, lt-ltb}
+use lib.ListN.{length}
+use borrow.Author.Tests.{eq-eqb, ne_eqb, eqb-true}
 use mir.Syntax.{w32}
 use mir.Val.{to_z, of_z}
 use Rattle.lists.specs.Lists.{all_below}
-use Rattle.lists.proofs.Bools.{passed, all_true, all_false, told_false, told_true}
+use Rattle.lists.proofs.Bools.{passed, told_false, told_true}
 use Rattle.layout.specs.declared.Layout.{Layout}
 use Rattle.layout.specs.Layout.{trays, admissible, tray_limit, Cabinet}
 use Rattle.layout.proofs.Facts.{admissible_facts, admitted_so, dimension_in}
 use Rattle.margin.specs.declared.LossMargin.TheVariants.{Known, Refused}
 use Rattle.margin.specs.Margin.{live, margin_of, margin_refusal, margin_answer}
 use Rattle.margin.proofs.Signed.{handed_on}
-
-module _ (states : List ℕ) where
-  pub known_true : ((x : ℕ) → x < length states → get_or states x 0 ≤ 2) → true ≡ all_below states 3
-  unfolding all_below
-  known_true h = sym (all_true _ (length states) (λ x l. lt-ltb (get_or states x 0) 3 (omega (arith, h x l))))
-
-  pub known_false : (x : ℕ) → x < length states → 2 < get_or states x 0 → false ≡ all_below states 3
-  unfolding all_below
-  known_false x l h = all_false _ (length states) x l (λ e. omega (arith, ltb-true (get_or states x 0) 3 e))
 
 module _ (N : ℕ) (l : Layout) (states : List ℕ) where
   pub margin_1 : (a : Bool) → a ≡ admissible N l → not a ≡ true → 1 ≡ margin_refusal N l states

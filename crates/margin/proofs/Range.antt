@@ -16,7 +16,8 @@ use Rattle.layout.specs.Layout.{trays, admissible}
 use Rattle.margin.specs.Margin.{live, margin_of, margin_refusal}
 use Rattle.margin.proofs.Counting.{live_high, live_same}
 use Rattle.margin.proofs.Signed.{sub_is}
-use Rattle.margin.proofs.Grounds.{measurable, known_true, margin_0}
+use Rattle.margin.proofs.Grounds.{measurable, margin_0}
+use Rattle.lists.proofs.Numbered.{below_true}
 
 -- a difference grows with what is taken from
 sub_rises : (a b k : ℕ) → a ≤ b → le_z (sub_ℕ a k) (sub_ℕ b k) ≡ true
@@ -52,7 +53,7 @@ module _ (N : ℕ) (l : Layout) (a : admissible N l ≡ true) (x : ℕ) (h : x �
   alike : (margin_refusal N l states ≡ 0) × (margin_of l states ≡ pos (cond t (trays l) 0) -ℤ pos l.dimension)
   unfolding margin_of
   alike = (
-    sym (margin_0 N l states true (sym a) refl (trays l) refl (length-replicate (trays l) x) true (known_true states (λ i k. omega (arith, each i k))) refl),
+    sym (margin_0 N l states true (sym a) refl (trays l) refl (length-replicate (trays l) x) true (below_true states 3 (λ i k. omega (arith, each i k))) refl),
     ap (λ n. pos n -ℤ pos l.dimension) (live_same t states (length states) (λ i k. ap (λ y. eqb y 1) (each i k) ∙ e) ∙ ap (λ n. cond t n 0) (length-replicate (trays l) x)),
   )
 

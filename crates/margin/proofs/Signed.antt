@@ -1,6 +1,6 @@
 -- The difference of two small numbers as a signed one.
 -- Assumes nothing.
-use mathlib.Core.Path.{◌≡◌, refl, sym, ap, ap₂, subst, ◌∙◌}
+use mathlib.Core.Path.{◌≡◌, refl, sym, ap, subst, ◌∙◌}
 use mathlib.Core.Bool.{Bool, true, false, cond}
 use Prim.Native.Nat.{ℕ, zero, suc, ◌+◌, ◌-◌, ◌^◌, ◌≤◌, ◌<◌}
 use native.Mathlib.Omega.{arith}
@@ -10,7 +10,7 @@ use lib.Signed.{mag}
 use borrow.Author.Tests.{le-ltb}
 use mir.Syntax.{w32}
 use mir.Val.{SFits, to_z, of_z}
-use mir.ValLaws.{to_z_pos, to_z-of_z}
+use mir.ValLaws.{to_z-of_z}
 use Rattle.layout.specs.Layout.{tray_limit}
 
 -- the difference by the numbers' order
@@ -31,18 +31,8 @@ module _ (a b : ℕ) (h : a ≤ tray_limit) (k : b ≤ tray_limit) where
   limit = lit< tt
 
   -- it fits an `i32`
-  pub sub_fits : SFits w32 (pos a -ℤ pos b)
+  sub_fits : SFits w32 (pos a -ℤ pos b)
   sub_fits = record { sfits = let m = mag_sub a b tray_limit h k in omega (arith, limit) }
-
-  -- as the machine has it, which reads the two numbers from their bits
-  bits_is : to_z w32 a -ℤ to_z w32 b ≡ pos a -ℤ pos b
-  bits_is = ap₂ ◌-ℤ◌ (to_z_pos w32 a (omega (arith, limit))) (to_z_pos w32 b (omega (arith, limit)))
-
-  pub bits_fits : SFits w32 (to_z w32 a -ℤ to_z w32 b)
-  bits_fits = subst (SFits w32) (sym bits_is) sub_fits
-
-  pub bits_back : to_z w32 (of_z w32 (to_z w32 a -ℤ to_z w32 b)) ≡ pos a -ℤ pos b
-  bits_back = to_z-of_z w32 _ bits_fits ∙ bits_is
 
   -- a result that is handed on is read from its bits once more
   pub handed_on : (m : ℤ) → m ≡ pos a -ℤ pos b → to_z w32 (of_z w32 m) ≡ pos a -ℤ pos b

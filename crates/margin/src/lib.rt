@@ -33,13 +33,7 @@ fn live_count(states: &[u8]) -> u32
     requires { length states.now ≤ tray_limit }
     ensures { (result ≡ live states.now (length states.now)) × (result ≤ tray_limit) }
 {
-    let mut count = 0u32;
-    let mut x = 0usize;
-    while x < states.len() {
-        count += counted(states[x]) as u32;
-        x += 1;
-    }
-    count
+    states.iter().filter(|state| counted(**state)).count() as u32
 }
 
 // One small number less another, below zero too.
@@ -54,14 +48,7 @@ fn difference(a: u32, b: u32) -> i32
 fn states_known(states: &[u8]) -> bool
     ensures { result ≡ all_below states.now 3 }
 {
-    let mut x = 0usize;
-    while x < states.len() {
-        if STATES < states[x] {
-            return false;
-        }
-        x += 1;
-    }
-    true
+    states.iter().all(|state| *state <= STATES)
 }
 
 // The refusal, 0 for none.

@@ -6,13 +6,10 @@ use Prim.Native.Nat.{ℕ, ◌+◌, ◌-◌, ◌*◌, ◌/◌, ◌%◌, ◌<◌, 
 use native.Mathlib.Nat.{le_trans, mul-le-mul_left, mod-one, mod-lt, mul-one, one-mul, pow-zero, div-le_self, not-suc-le-zero}
 use native.Mathlib.Decide.{ℕ_discrete}
 use native.Mathlib.Omega.{arith}
-use mir.Val.{Fits}
-use mir.Syntax.{w32, w64}
 use lib.Dec.{leb, leb→le}
 use lib.ListN.{length, get_or}
 use Rattle.lists.proofs.Computed.{all_below_lem}
 use Rattle.lists.proofs.Numbers.{cell_in}
-use Rattle.algebra.specs.Field.{Ops}
 use Rattle.algebra.specs.Sum.{pow}
 use Rattle.algebra.specs.Lagrange.{solve}
 use Rattle.algebra.specs.Layers.{layer_of}
@@ -27,14 +24,13 @@ use Rattle.kernel.specs.Inner.{Run, filled, cell}
 use Rattle.columns.specs.Inner.{column, Systems, Solved}
 use Rattle.layout.specs.declared.Layout.{Layout}
 use Rattle.layout.specs.Layout.{trays, digits, layers, parity_racks, tray_limit, Cabinet}
-use Rattle.layout.specs.Inner.{InGroup}
 use Rattle.layout.proofs.Facts.{bounds}
 use Rattle.layout.proofs.Numbers.{total_plain, digits_small, whole_low}
 use Rattle.codeword.specs.Codeword.{point_at}
 use Rattle.blocks.specs.Inner.{block_limit, room_limit}
 use Rattle.blocks.proofs.Room.{room_of, row_of, room_long, row_long}
 use Rattle.syndrome.specs.Inner.{Room, Terms}
-use Rattle.sums.specs.Inner.{helper_at, place_point, unknown_point, Groups, Pointed, PointsTo}
+use Rattle.sums.specs.Inner.{place_point, unknown_point, Groups, Pointed, PointsTo}
 use Rattle.sums.proofs.Steps.{digits_under, unknowns_high}
 use Rattle.sums.proofs.Points.{point_other}
 use Rattle.card.specs.Inner.{solved_factor, right_multiplier}
@@ -56,9 +52,6 @@ sides_room l a e =
     omega arith
 
 module _ (l : Layout) (h p : ℕ) (helpers : List ℕ) (g : Grouped l h p helpers) where
-  pub first_layer : InGroup l h p 0
-  first_layer = record { adm = g.chosen.adm; host_in = g.chosen.host_in; group_in = g.inside; digit_in = (bounds l g.chosen.adm).digits_low }
-
   few_helpers : l.helpers ≤ tray_limit
   few_helpers = let b = bounds l g.chosen.adm in omega (arith, g.chosen.adm.helpers_high)
 
@@ -68,19 +61,10 @@ module _ (l : Layout) (h p : ℕ) (helpers : List ℕ) (g : Grouped l h p helper
       let c = cell_in l.racks l.size (get_or helpers k 0) 0 (g.chosen.inside k (omega (arith, g.chosen.many))) (bounds l a).size_low in
       omega arith
 
-  pub tray_fits : (k : ℕ) → k < length helpers → Fits w32 (get_or helpers k 0 * l.size)
-  tray_fits k q = record { fits = omega (arith, helper_tray k q, g.chosen.adm.trays_high) }
-
   pub size_under : l.size ≤ tray_limit
   size_under = let b = bounds l g.chosen.adm in omega arith
 
-  pub row_place : (row₀ row : List ℕ) (k : ℕ) → l.helpers ≤ length row₀ → length row ≡ length row₀ → k < length helpers → k + 1 ≤ length row
-  row_place row₀ row k e q hk = omega (arith, g.chosen.many)
-
   -- ---- rooms
-  pub sides_fit : (n : ℕ) → n ≡ parity_racks l → Fits w64 (n * l.helpers)
-  sides_fit n e = record { fits = rw e (omega (arith, sides_room l g.chosen.adm g.chosen.plain)) }
-
   pub block_of : Groups l 1 p
   block_of = record {
     block = record { adm = g.chosen.adm; power = 0; power_in = omega arith; width = sym (pow-zero (digits l)); number = p; first_is = sym (mul-one p); inside = under };
@@ -131,9 +115,6 @@ module _ (l : Layout) (h p : ℕ) (helpers : List ℕ) (g : Grouped l h p helper
   digits_first n s en es = omega (arith, digits_under l g.chosen.adm)
 
 module _ (l : Layout) (sides row cur : List ℕ) (g : Space l sides row cur) (n : ℕ) (en : n ≡ parity_racks l) where
-  pub sides_in : 0 + n * l.helpers ≤ length sides
-  sides_in = rw en (omega (arith, g.sides_long))
-
   pub room_of_lem : (sides' row' cur' : List ℕ) → length sides' ≡ length sides → length row' ≡ length row → length cur' ≡ length cur → Room l.helpers n sides' cur' row'
   room_of_lem sides' row' cur' es er ec = record { sums_long = rw (en, es) g.sides_long; cur_long = rw ec g.cur_long; row_long = rw er g.row_long }
 

@@ -1,7 +1,6 @@
 -- What the functions of the right multipliers are told and give, over any field. Nothing here has to be believed.
 -- Assumes nothing.
 use Rattle.std.specs.Prelude.{◌≡◌, List, ℕ, ◌+◌, ◌*◌, ◌<◌, ◌≤◌, length, get_or}
-use Rattle.algebra.specs.Field.{Ops}
 use Rattle.algebra.specs.Sum.{pow}
 use Rattle.algebra.specs.Repair.{helper_place}
 use Rattle.algebra.specs.Shape.{Field}

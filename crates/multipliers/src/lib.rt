@@ -16,11 +16,9 @@ fn helper_points(row: &mut [u8], l: Layout, h: u32, p: u32, helpers: &[u32])
 {
     let u = l.size;
     let j = layout::layer_of(l, h, p, 0);
-    let mut k = 0usize;
-    while k < helpers.len() {
-        let v = points::point_power(l, helpers[k] * u, j, u);
+    for (k, helper) in helpers.iter().enumerate() {
+        let v = points::point_power(l, *helper * u, j, u);
         kernel::fill(row, k, 1, v);
-        k += 1;
     }
 }
 

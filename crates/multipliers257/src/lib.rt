@@ -17,11 +17,9 @@ fn helper_points(row: &mut [u16], l: Layout, h: u32, p: u32, helpers: &[u32])
 {
     let u = l.size;
     let j = layout::layer_of(l, h, p, 0);
-    let mut k = 0usize;
-    while k < helpers.len() {
-        let v = points257::point_power(l, helpers[k] * u, j, u);
-        kernel257::fill(row, k, 1, v);
-        k += 1;
+    for (k, helper) in helpers.iter().enumerate() {
+        let v = points::point_power(l, *helper * u, j, u);
+        kernel::fill(row, k, 1, v);
     }
 }
 
@@ -41,9 +39,9 @@ fn power_sides(
     let d = l.helpers as usize;
     let n = sums257::unknown_count(l) as usize;
     helper_points(row, l, h, p, helpers);
-    kernel257::fill(cur, 0, d, 1);
-    kernel257::fill(sides, 0, n * d, 0);
-    syndrome257::add_terms(sides, d, n, cur, row);
+    kernel::fill(cur, 0, d, 1);
+    kernel::fill(sides, 0, n * d, 0);
+    syndrome::add_terms(sides, d, n, cur, row);
 }
 
 // The multipliers, by rooms to work in.
@@ -67,7 +65,7 @@ fn solve_sides(
     let s = layout::digit_count(l) as usize;
     sums257::unknown_points(points, l, h, 1, p as usize, helpers, 1, 1, row);
     power_sides(sides, l, h, p, helpers, row, cur);
-    columns257::solve_first(found, d, 1, d, 1, n, s, sides, points, coefs, row);
+    columns::solve_first(found, d, 1, d, 1, n, s, sides, points, coefs, row);
 }
 
 // The multipliers, first in a room, as a card has them: d, helpers rising, for each of the s sums, digit 0 first.

@@ -1,13 +1,10 @@
 -- The symbols are a field.
 -- Assumes nothing.
 use mathlib.Core.Path.{◌≡◌, refl, sym, ◌∙◌, ap, ap₂}
-use mathlib.Core.HLevel.{is_prop→PathP}
-use mathlib.Core.Logic.{⊎_elim}
 use Prim.Native.Nat.{ℕ, zero, suc, ◌%◌, ◌<◌}
-use native.Mathlib.Nat.{mod-lt, mod-eq_of_lt, eq-zero-or-pos}
-use native.Mathlib.Decide.{ℕ_discrete}
+use native.Mathlib.Nat.{mod-lt, mod-eq_of_lt}
 use native.Mathlib.Omega.{arith}
-use lib.Dec.{T, T_prop, ltb, ltb→lt, lit<}
+use lib.Dec.{lit<}
 use Rattle.algebra.specs.Field.{Laws}
 use Rattle.algebra.specs.Coding.{Coded}
 use Rattle.algebra.specs.Sum.{pow}
@@ -15,7 +12,7 @@ use Rattle.algebra.proofs.Pow.{pow_zero, pow_suc}
 use Rattle.symbol.specs.Arithmetic.{◌⊕◌}
 use Rattle.symbol.proofs.Xor.{⊕-comm, ⊕-assoc, zero_⊕, ⊕-self, ⊕-mod}
 use Rattle.nibble.specs.Arithmetic.{◌⊗◌, shift_add, power}
-use Rattle.algebra.specs.Below.{Below, below}
+use Rattle.algebra.specs.Below.{below}
 use Rattle.algebra.proofs.Below.{elem_path, small, same?, some, val_mod as b-val-mod, val_elem as b-val-elem, elem_val as b-elem-val, coded as b-coded}
 use Rattle.nibble.specs.Elem.{Elem, elem, ops, coding}
 use Rattle.nibble.proofs.Laws.{⊗-lt, ⊗-comm, ⊗-assoc, ⊗-⊕, one_⊗, inverse_⊗, ⊕-lt, power_lt}

@@ -2,7 +2,7 @@
 -- Assumes nothing.
 use mathlib.Core.Path.{◌≡◌, sym}
 use mathlib.Core.List.{List}
-use Prim.Native.Nat.{ℕ, ◌+◌, ◌*◌, ◌/◌, ◌%◌, ◌<◌, ◌≤◌}
+use Prim.Native.Nat.{ℕ, ◌+◌, ◌*◌, ◌/◌, ◌%◌, ◌<◌, ◌≤◌, max}
 use native.Mathlib.Nat.{div-le_self, mul-le-mul_left, mul-le-mul_right, le_refl, le_trans, le-mul_of_pos_right}
 use native.Mathlib.Omega.{arith}
 use mir.Val.{Fits}
@@ -14,25 +14,26 @@ use Rattle.layout.specs.Layout.{digits, layers, groups, parity_racks, tray_limit
 use Rattle.layout.proofs.Facts.{bounds, rack_in}
 use Rattle.blocks.specs.Inner.{block_limit, room_limit, Block, Allowed}
 use Rattle.blocks.proofs.Room.{room_of, row_of, room_long, row_long}
-use Rattle.rule.specs.Lost.{first_lost, Losses}
-use Rattle.sums.specs.Inner.{Received, Groups, Summing}
+use Rattle.rule.specs.Lost.{first_lost}
+use Rattle.sums.specs.Inner.{Groups, Summing}
 use Rattle.sums.proofs.Steps.{unknowns_high, sums_high}
-use Rattle.group.specs.Inner.{Losing, Repairing, Workspace}
+use Rattle.group.specs.Inner.{Repairing, Workspace}
 use Rattle.pieces.specs.Inner.{Rows, Fitting, Spacious, Few, Piecing, Rooms}
 
 -- ---- the rows of a block
-module _ (l : Layout) (adm : Cabinet l) (e s r : ℕ) (few : e + l.dimension % l.size ≤ l.size) (es : s ≡ digits l) (er : r ≡ parity_racks l) where
+module _ (l : Layout) (adm : Cabinet l) (e s : ℕ) (few : e + l.dimension % l.size ≤ l.size) (es : s ≡ digits l) where
   high : e * s ≤ tray_limit
   high = rw es (sums_high l adm e few)
 
   pub rows_fit : Fits w32 (e * s)
   rows_fit = record { fits = omega (arith, high) }
 
-  pub rows_sums : r < e * s → Rows l e (e * s)
-  rows_sums h = record { unknowns = omega arith; sums = rw es (le_refl (e * digits l)); few = high }
-
-  pub rows_unknowns : e * s ≤ r → Rows l e r
-  rows_unknowns h = record { unknowns = omega arith; sums = rw (sym es) h; few = rw er (unknowns_high l adm) }
+  pub rows_larger : (r m : ℕ) → r ≡ parity_racks l → m ≡ max r (e * s) → Rows l e m
+  rows_larger r m er em = record {
+    unknowns = omega arith;
+    sums = let h : e * s ≤ m = omega arith in rw (sym es) h;
+    few = omega (arith, high, unknowns_high l adm);
+  }
 
 pub fitting_of : (l : Layout) (e rows p left w : ℕ) → Rows l e rows → Allowed p left rows w → Fitting l e w room_limit
 fitting_of l e rows p left w r a = record {

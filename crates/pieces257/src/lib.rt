@@ -18,12 +18,8 @@ fn row_count(l: Layout, e: u32) -> u32
     requires { Cabinet l × (e + l.dimension % l.size ≤ l.size) }
     ensures { Rows l e result }
 {
-    let unknowns = sums257::unknown_count(l);
     let host_sums = e * layout::digit_count(l);
-    if unknowns < host_sums {
-        return host_sums;
-    }
-    unknowns
+    sums257::unknown_count(l).max(host_sums)
 }
 
 // Repairs a block of groups.
@@ -97,6 +93,7 @@ fn repair_blocks(
 {
     let rows = row_count(l, lost.len() as u32);
     let mut k = 0u32;
+    // no plainer: each turn goes on by the width of its own block
     while k < count {
         let w = blocks::block_at(l, first + k, count - k, rows);
         repair_block(

@@ -1,16 +1,15 @@
 -- Rows times their symbols, by the bits of these.
 -- Assumes nothing.
-use mathlib.Core.Path.{◌≡◌, refl, sym, ap, ap₂, ◌∙◌, subst}
+use mathlib.Core.Path.{◌≡◌, refl, sym, ap, ap₂, ◌∙◌}
 use mathlib.Core.List.{List}
-use Prim.Native.Nat.{ℕ, zero, suc, ◌+◌, ◌-◌, ◌*◌, ◌/◌, ◌%◌, ◌^◌, ◌<◌, ◌≤◌}
-use native.Mathlib.Nat.{mod-lt, div-eq_of_lt, div-one}
+use Prim.Native.Nat.{ℕ, ◌+◌, ◌-◌, ◌*◌, ◌/◌, ◌%◌, ◌^◌, ◌<◌, ◌≤◌}
+use native.Mathlib.Nat.{div-eq_of_lt, div-one}
 use native.Mathlib.Omega.{arith}
 use mir.Val.{Fits}
-use mir.Syntax.{w8, w64}
+use mir.Syntax.{w8}
 use lib.Dec.{lit<}
 use lib.ListN.{length, get_or, set}
 use lib.Bits.{bit_and, and_mask}
-use Rattle.algebra.specs.Field.{Ops, Laws}
 use Rattle.algebra.specs.Sum.{sum}
 use Rattle.algebra.proofs.Ring.{ring, add_zero, mul_zero, mul_one, mul_comm}
 use Rattle.algebra.proofs.Sum.{sum_zero, sum_add_one, sum_congr, sum_add, sum_mul_left, sum_is_zero}
@@ -23,8 +22,8 @@ use Rattle.symbol.proofs.Halves.{twice_times, elem_half}
 use Rattle.symbol.proofs.Working.{working}
 use Rattle.kernel.specs.Inner.{cell, Run, filled, added}
 use Rattle.kernel.proofs.Runs.{run_more}
-use Rattle.kernel.proofs.Rows.{row_in, row_other}
-use Rattle.planes.specs.Inner.{Rows, Summed, doubled, BitAdded, Plane, Upper}
+use Rattle.kernel.proofs.Rows.{row_other}
+use Rattle.planes.specs.Inner.{Summed, doubled, BitAdded, Plane, Upper}
 
 -- twice a run
 pub double_more : (was is : List ℕ) (to j len p : ℕ) → Run (doubled was to) was is to j → j < len → to + len ≤ length was → ((i : ℕ) → Fits w8 (get_or is i 0)) → p ≡ mulz (get_or is (to + j) 0) →
@@ -86,9 +85,6 @@ module _ (w i k : ℕ) (sums coefs : List ℕ) (at : ℕ) (was : List ℕ) where
     others = λ x j h d. b.others x j h d ∙ p.others x j h d;
   }
 
-  pub plane_end : (n m : ℕ) (is : List ℕ) → Plane w n i k sums coefs at was is → n ≤ m → m ≤ n → Plane w m i k sums coefs at was is
-  plane_end n m is p h l = let e : n ≡ m = omega arith in subst (λ x. Plane w x i k sums coefs at was is) e p
-
 -- bit after bit
 module _ (w m i : ℕ) (sums coefs : List ℕ) (at : ℕ) (was : List ℕ) (bytes : (t : ℕ) → Fits w8 (get_or coefs t 0)) where
   pub upper_none : (is : List ℕ) → Run (filled 0) was is (i * w) w → Upper w m i 8 sums coefs at is is
@@ -134,32 +130,3 @@ summed_end w m i k sums coefs at was mid is r u h =
       small = u.small;
       others = λ x j q d. u.others x j q d ∙ row_other _ was mid i w r x j q d;
     }
-
--- ---- numbers
-module _ (w m i : ℕ) (found sums coefs : List ℕ) (at : ℕ) (s : Rows w m i found sums coefs at) where
-  pub whole_in : i * w + w ≤ length found
-  whole_in = row_in found m w i s.found_long s.row_in
-
-  pub whole_fits : Fits w64 (length found) → Fits w64 (i * w)
-  whole_fits f = let q = whole_in in omega arith
-
-  pub whole_next : (mid is : List ℕ) → length mid ≡ length found → length is ≡ length mid → i * w + w ≤ length is
-  whole_next mid is e q = let h = whole_in in omega arith
-
-  pub rows_after : (mid is new : List ℕ) → length mid ≡ length found → length is ≡ length mid → length new ≡ length is → Rows w m i new sums coefs at
-  rows_after mid is new e q r = record { row_in = s.row_in; found_long = rw (r, q, e) s.found_long; sums_long = s.sums_long; coefs_long = s.coefs_long }
-
-  pub coef_fits : (t : ℕ) → t < m → Fits w64 (length coefs) → Fits w64 (at + t)
-  coef_fits t h f = let q = s.coefs_long in omega arith
-
-  pub coef_in : (t : ℕ) → t < m → at + t < length coefs
-  coef_in t h = let q = s.coefs_long in omega arith
-
-pub bit_in : (w m t : ℕ) (xs : List ℕ) → m * w ≤ length xs → t < m → t * w + w ≤ length xs
-bit_in w m t xs h k = row_in xs m w t h k
-
-pub bit_fits : (w m t : ℕ) (xs : List ℕ) → m * w ≤ length xs → t < m → Fits w64 (length xs) → Fits w64 (t * w)
-bit_fits w m t xs h k f = let q = row_in xs m w t h k in omega arith
-
-pub bit_small : (n k : ℕ) → bit_and (n / 2 ^ k) 1 < 2
-bit_small n k = subst (λ y. y < 2) (sym (and_mask (n / 2 ^ k) 1)) (mod-lt (n / 2 ^ k) (lit< tt))

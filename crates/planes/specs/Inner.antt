@@ -1,9 +1,7 @@
 -- A sum of rows, each times one symbol: what the functions are told and give. Nothing here has to be believed.
 -- Assumes nothing.
 use Rattle.std.specs.Prelude.{◌≡◌, List, ℕ, ◌+◌, ◌*◌, ◌/◌, ◌%◌, ◌^◌, ◌<◌, ◌≤◌, length, get_or}
-use Rattle.algebra.specs.Field.{Ops}
 use Rattle.algebra.specs.Sum.{sum}
-use Rattle.algebra.specs.Coding.{Coding}
 use Rattle.algebra.specs.Shape.{Field}
 use Rattle.symbol.specs.Arithmetic.{◌⊗◌}
 use Rattle.symbol.specs.Elem.{elem, ops, gf256}

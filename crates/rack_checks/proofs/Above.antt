@@ -1,12 +1,11 @@
 -- Rack after rack, from the highest down: at the lowest they are the checks.
 -- Assumes nothing.
-use mathlib.Core.Path.{◌≡◌, refl, sym, ap, ap₂, ◌∙◌, subst}
+use mathlib.Core.Path.{◌≡◌, sym, ap, ap₂, ◌∙◌, subst}
 use mathlib.Core.List.{List}
 use Prim.Native.Nat.{ℕ, suc, ◌+◌, ◌-◌, ◌*◌, ◌/◌, ◌%◌, ◌<◌, ◌≤◌}
 use native.Mathlib.Nat.{zero-add, add-zero as plus_zero, zero-mul as zero_times, mul_comm as times_comm, mod-lt, div-add-mod', add-mul}
 use native.Mathlib.Omega.{arith}
-use lib.ListN.{length, get_or}
-use Rattle.algebra.specs.Field.{Ops}
+use lib.ListN.{get_or}
 use Rattle.algebra.specs.Sum.{sum, pow}
 use Rattle.algebra.specs.Lagrange.{check}
 use Rattle.algebra.specs.Layers.{digit}

@@ -1,15 +1,14 @@
 -- The rack sums of a block, place after place or at once.
 -- Assumes nothing.
-use mathlib.Core.Path.{◌≡◌, refl, sym, ap, ap₂, ◌∙◌, subst}
+use mathlib.Core.Path.{◌≡◌, sym, ap, ap₂, ◌∙◌, subst}
 use mathlib.Core.Bool.{Bool, true, false, not}
 use mathlib.Core.List.{List}
-use Prim.Native.Nat.{ℕ, ◌+◌, ◌-◌, ◌*◌, ◌/◌, ◌<◌, ◌≤◌}
+use Prim.Native.Nat.{ℕ, ◌+◌, ◌-◌, ◌*◌, ◌/◌, ◌<◌}
 use native.Mathlib.Nat.{zero-add, add_assoc, add-mul}
 use native.Mathlib.Omega.{arith}
 use borrow.Author.Tests.{not-true, not-false}
-use lib.ListN.{length, get_or}
+use lib.ListN.{get_or}
 use Rattle.lists.specs.Lists.{absent}
-use Rattle.algebra.specs.Field.{Ops}
 use Rattle.algebra.specs.Sum.{sum, pow}
 use Rattle.algebra.specs.Points.{place, rack_sum}
 use Rattle.algebra.specs.Shape.{Field}
@@ -20,7 +19,7 @@ use Rattle.algebra.proofs.Plain.{elem_zero, elem_one, elem_plus, elem_times}
 use Rattle.kernel.specs.Inner.{Run, filled, added, added_multiple}
 use Rattle.weigh.specs.Inner.{weight, weighted_term, Weighed}
 use Rattle.layout.specs.declared.Layout.{Layout}
-use Rattle.layout.specs.Layout.{trays, layers}
+use Rattle.layout.specs.Layout.{layers}
 use Rattle.codeword.specs.Codeword.{shape_of, symbol_at}
 use Rattle.syndrome.specs.Inner.{Listed, survivor_at}
 use Rattle.syndrome.proofs.Sums.{survivor_listed, survivor_kept}
@@ -81,9 +80,6 @@ module _ {A : Type 0} {f : Field A} (W : Working f) (l : Layout) (w first : ℕ)
     at = λ j k. a.at j k ∙ ap (λ y. ops.add y (place_term f l es c (first + j) i m g)) (s.at j k) ∙ sym (sum_add_one ops g (place_term f l es c (first + j) i m));
   }
 
-  pub places_end : (g : ℕ) (cur : List ℕ) → PlaceSums f l w first c es i m g cur → g ≤ l.size → l.size ≤ g → PlaceSums f l w first c es i m l.size cur
-  places_end g cur s h k = let q : g ≡ l.size = omega arith in subst (λ n. PlaceSums f l w first c es i m n cur) q s
-
   -- ---- all places at once, where none is listed
   module _ (u total : ℕ) (res : Bool) (rd : Readable l total c) (k : res ≡ true → Kept es (i * l.size) l.size) (t : not res ≡ false) (e : l.size ≡ u) where
     whole_sum : (j : ℕ) → sum ops u (weighted_term f u m c (i * l.size * total + first) total j) ≡ sum ops l.size (place_term f l es c (first + j) i m)
@@ -109,9 +105,6 @@ module _ {A : Type 0} {f : Field A} (W : Working f) (l : Layout) (w first : ℕ)
 
 -- ---- the sums of the weight before
 module _ {A : Type 0} {f : Field A} (W : Working f) (l : Layout) (w first : ℕ) (c es : List ℕ) (i : ℕ) where
-  pub last_none : (cur : List ℕ) → LastSums f l w first c es i 0 cur
-  last_none cur = record { at = λ h. absurd (omega arith) }
-
   pub last_next : (m : ℕ) (cur : List ℕ) → PlaceSums f l w first c es i m l.size cur → LastSums f l w first c es i (m + 1) cur
   last_next m cur s = record { at = λ h. let e : m ≡ m + 1 - 1 = omega arith in subst (λ n. PlaceSums f l w first c es i n l.size cur) e s }
 

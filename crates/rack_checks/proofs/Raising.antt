@@ -2,14 +2,13 @@
 -- Assumes nothing.
 use mathlib.Core.Path.{◌≡◌, refl, sym, ap, ap₂, ◌∙◌, subst}
 use mathlib.Core.List.{List}
-use Prim.Native.Nat.{ℕ, ◌+◌, ◌*◌, ◌<◌, ◌≤◌, min}
+use Prim.Native.Nat.{ℕ, ◌+◌, ◌*◌, ◌<◌, ◌≤◌}
 use native.Mathlib.Nat.{mul-zero as times_zero, zero-mul as zero_times, mul-le-mul_right}
 use native.Mathlib.Decide.{ℕ_discrete, dec_le}
 use native.Mathlib.Omega.{arith}
 use mir.Val.{Fits}
 use mir.Syntax.{w8}
-use lib.ListN.{length, get_or}
-use Rattle.algebra.specs.Field.{Ops}
+use lib.ListN.{get_or}
 use Rattle.algebra.specs.Sum.{pow}
 use Rattle.algebra.specs.Layers.{digit}
 use Rattle.algebra.specs.Shape.{Field}
@@ -32,7 +31,7 @@ use Rattle.layout.proofs.Numbers.{digits_small}
 use Rattle.blocks.specs.Inner.{Block}
 use Rattle.syndrome.specs.Inner.{DigitPowers}
 use Rattle.syndrome.proofs.Terms.{first_row}
-use Rattle.rack_checks.specs.Inner.{PlaceSums, kept_sum, raised_by, Raised, Weighed, WeightRaised, Weights, RackRaised}
+use Rattle.rack_checks.specs.Inner.{PlaceSums, kept_sum, raised_by, Raised, Weighed, WeightRaised, Weights}
 use Rattle.rack_checks.proofs.Places.{places_all}
 
 -- ---- one step of one check
@@ -112,9 +111,6 @@ module _ {A : Type 0} (f : Field A) (l : Layout) (w first i m : ℕ) (cur was : 
 
 -- ---- all weights of a rack
 module _ {A : Type 0} {f : Field A} (W : Working f) (l : Layout) (w first r : ℕ) (c es : List ℕ) (i : ℕ) (was : List ℕ) where
-  pub weights_none : Weights f l w first r c es i was was 0
-  weights_none = record { at = λ p n j h a b k. absurd (omega arith); rest = λ p n j h a k. refl }
-
   pub weights_more : (is next cur : List ℕ) (m : ℕ) → Weights f l w first r c es i was is m → PlaceSums f l w first c es i m l.size cur → WeightRaised f l w first r i m cur is next →
       Weights f l w first r c es i was next (m + 1)
   weights_more is next cur m g s a = record {
@@ -129,6 +125,3 @@ module _ {A : Type 0} {f : Field A} (W : Working f) (l : Layout) (w first r : �
           (a.at p j (subst (λ y. p * l.size + y < r) e v) k
           ∙ ap₂ (raised_by f l i (p * l.size + m) (first + j)) (g.rest p m j (omega arith) (subst (λ y. y < l.size) e b) k) (places_all W l w first c es i m cur s j k))
       go p n j h b v k (no d) = a.other p n j b d k ∙ g.at p n j (omega arith) b v k
-
-  pub weights_end : (is : List ℕ) (m n : ℕ) → n ≡ min l.size r → n ≤ m → Weights f l w first r c es i was is m → RackRaised f l w first r c es i was is
-  weights_end is m n e h g = record { at = λ p v j b k x. g.at p v j (omega arith) b k x }

@@ -3,6 +3,8 @@
 // promises, and goes tray after tray where that takes fewer instructions.
 #![tactic(auto)]
 
+pub mod fields;
+
 ghost use Rattle.std.specs.Prelude.{◌≡◌, true, ◌+◌, ◌*◌, ◌/◌, ◌<◌, ◌≤◌, length};
 ghost use Rattle.symbol.specs.Elem.{gf256};
 ghost use Rattle.layout.specs.Layout.{Cabinet, trays, layers, tray_limit};
@@ -17,14 +19,12 @@ use symbol::plain::ROOT;
 fn listed_from(es: &[u32], n: u32) -> u32
     ensures { (result ≤ n) × ListedFrom es.now result n }
 {
-    let mut x = n;
-    while 0 < x {
-        if lists::is_absent(es, x - 1) {
-            return x;
+    for x in (0..n).rev() {
+        if lists::is_absent(es, x) {
+            return x + 1;
         }
-        x -= 1;
     }
-    x
+    0
 }
 
 // The racks below those of which all trays are listed.
@@ -32,9 +32,7 @@ fn racks_kept(l: Layout, es: &[u32]) -> u32
     requires { Cabinet l }
     ensures { (result ≤ l.racks) × ListedFrom es.now (result * l.size) (trays l) }
 {
-    let u = l.size;
-    let top = listed_from(es, layout::tray_count(l));
-    (top + u - 1) / u
+    listed_from(es, layout::tray_count(l)).div_ceil(l.size)
 }
 
 // Adds the symbols of rack i's place g to a row, times a power of the place's factor, unless the tray is listed: its bytes are not looked at.
@@ -82,12 +80,9 @@ fn sum_places(
     requires { Block l w first × (w ≤ length cur.old) × Readable l total c.now × Listed l es.now × (i < l.racks) × (m < l.size) }
     ensures { PlaceSums gf256 l w first c.now es.now i m l.size cur.new }
 {
-    let u = l.size;
     kernel::fill(cur, 0, w, 0);
-    let mut g = 0u32;
-    while g < u {
+    for g in 0..l.size {
         add_place(cur, l, w, first, total, c, es, i, m, g);
-        g += 1;
     }
 }
 
@@ -96,14 +91,7 @@ fn all_kept(es: &[u32], x: u32, n: u32) -> bool
     requires { x + n ≤ tray_limit }
     ensures { result ≡ true → Kept es.now x n }
 {
-    let mut g = 0u32;
-    while g < n {
-        if !lists::is_absent(es, x + g) {
-            return false;
-        }
-        g += 1;
-    }
-    true
+    (x..x + n).all(|y| lists::is_absent(es, y))
 }
 
 // The rack sums of weight m from those of weight m - 1, at once where no tray of the rack is listed.
@@ -174,13 +162,8 @@ fn raise_weight(
     requires { Block l w first × (r * w ≤ length sums.old) × (w ≤ length cur.now) × (w ≤ length row.now) × (r ≤ tray_limit) × (m < l.size) × DigitPowers gf256 l w first i 1 2 row.now }
     ensures { WeightRaised gf256 l w first r i m cur.now sums.old sums.new }
 {
-    let u = l.size as usize;
-    let mut p = 0usize;
-    let mut t = m as usize;
-    while t < r {
+    for t in (m as usize..r).step_by(l.size as usize) {
         raise_check(sums, l, w, first, i, t, cur, row);
-        p += 1;
-        t += u;
     }
 }
 
@@ -201,14 +184,10 @@ fn raise_rack(
     requires { Block l w first × (r * w ≤ length sums.old) × (w ≤ length cur.old) × (w ≤ length row.old) × (r ≤ tray_limit) × Readable l total c.now × Listed l es.now × (i < l.racks) }
     ensures { RackRaised gf256 l w first r c.now es.now i sums.old sums.new }
 {
-    let u = l.size;
-    let n = lists::smaller(u as u64, r as u64) as u32;
     syndrome::digit_powers(row, l, w, first, i, 1, ROOT);
-    let mut m = 0u32;
-    while m < n {
+    for m in 0..l.size.min(r as u32) {
         rack_sum(cur, l, w, first, total, c, es, i, m);
         raise_weight(sums, l, w, first, r, i, m, cur, row);
-        m += 1;
     }
 }
 
@@ -230,9 +209,7 @@ fn sum_racks(
 {
     let total = layout::layer_count(l) as usize;
     kernel::fill(sums, 0, r * w, 0);
-    let mut i = h;
-    while 0 < i {
-        i -= 1;
+    for i in (0..h).rev() {
         raise_rack(sums, l, w, first, total, r, c, es, i, cur, row);
     }
 }
@@ -241,10 +218,7 @@ fn sum_racks(
 pub fn small(u: u32) -> bool
     ensures { result ≡ true → Small u }
 {
-    if u == 3 {
-        return true;
-    }
-    u == 5
+    matches!(u, 3 | 5)
 }
 
 // What a step costs, in doublings beside its own, and what a product costs.

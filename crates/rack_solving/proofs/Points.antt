@@ -3,11 +3,9 @@
 use mathlib.Core.Path.{◌≡◌, refl, sym, ap, ap₂, ◌∙◌, subst}
 use mathlib.Core.List.{List}
 use Prim.Native.Nat.{ℕ, ◌+◌, ◌-◌, ◌*◌, ◌/◌, ◌%◌, ◌<◌, ◌≤◌}
-use native.Mathlib.Nat.{mul_comm as times_comm, mul-le-mul, not-suc-le-zero, mod-lt}
+use native.Mathlib.Nat.{mul_comm as times_comm, mul-le-mul}
 use native.Mathlib.Decide.{ℕ_discrete}
 use native.Mathlib.Omega.{arith}
-use mir.Val.{Fits}
-use mir.Syntax.{w32, w64}
 use lib.ListN.{length, get_or}
 use Rattle.algebra.specs.Sum.{pow}
 use Rattle.algebra.specs.Layers.{digit}
@@ -20,12 +18,10 @@ use Rattle.kernel.specs.Inner.{cell, Run, sampled}
 use Rattle.kernel.proofs.Rows.{row_before, row_in, cell_is, cell_other}
 use Rattle.columns.specs.Inner.{scaled}
 use Rattle.layout.specs.declared.Layout.{Layout}
-use Rattle.layout.specs.Layout.{trays, digits}
-use Rattle.layout.proofs.Facts.{bounds, rack_in}
-use Rattle.layout.proofs.Numbers.{digits_small}
+use Rattle.layout.specs.Layout.{digits}
+use Rattle.layout.proofs.Facts.{bounds}
 use Rattle.codeword.specs.Codeword.{point_at}
-use Rattle.blocks.specs.Inner.{Block}
-use Rattle.syndrome.specs.Inner.{Listed, DigitPowers}
+use Rattle.syndrome.specs.Inner.{DigitPowers}
 use Rattle.syndrome.proofs.Digits.{point_digit}
 use Rattle.solving.specs.Inner.{Columns}
 use Rattle.rack_solving.specs.Inner.{WholeRacks, PowerRow, RackPoints, lowering, RowLowered, Lowered}
@@ -36,12 +32,6 @@ module _ (l : Layout) (w first : ℕ) (es : List ℕ) (n v run : ℕ) (points ro
   pub rack_entry : i * l.size < length es
   rack_entry = first_in l.size n es s i h (bounds l c.block.adm).size_low
 
-  pub rack_starts : Fits w64 (length es) → Fits w64 (i * l.size)
-  rack_starts f = let q = rack_entry in omega arith
-
-  pub rack_tray : get_or es (i * l.size) 0 < trays l
-  rack_tray = c.listed.places.inside (i * l.size) rack_entry
-
   pub rack_there : (is : List ℕ) → length is ≡ length points → i * v + v ≤ length is
   rack_there is e =
       let u = (bounds l c.block.adm).size_low in
@@ -49,19 +39,9 @@ module _ (l : Layout) (w first : ℕ) (es : List ℕ) (n v run : ℕ) (points ro
       let m : i * 1 ≤ i * l.size = mul-le-mul (let t : i ≤ i = omega arith in t) u in
       rw e (row_in points (length es) v i c.points_long (omega arith))
 
-  pub rack_fits : Fits w64 (length points) → Fits w64 (i * v)
-  rack_fits f = let q = rack_there points refl in omega arith
-
 module _ (l : Layout) (w first : ℕ) (es : List ℕ) (v run : ℕ) (points was is : List ℕ) (c : Columns l w first es v run points was) (e : length is ≡ length was) where
   pub sampled_in : v * run ≤ length is
   sampled_in = let a = c.width in let b = c.row_long in omega arith
-
-  pub row_next : w ≤ length is
-  row_next = let b = c.row_long in omega arith
-
--- a row of the sums
-pub row_there : (w k n : ℕ) (was is : List ℕ) → n * w ≤ length was → length is ≡ length was → k < n → k * w + w ≤ length is
-row_there w k n was is h e b = rw e (row_in was n w k h b)
 
 module _ {A : Type 0} {f : Field A} (W : Working f) (l : Layout) where
   open f use {ops, root, order}
@@ -85,9 +65,6 @@ module _ {A : Type 0} {f : Field A} (W : Working f) (l : Layout) where
           ap (λ y. pow ops y e) (ap elem ez ∙ elem_root_power W l.size) ∙ sym (pow_mul ops laws root l.size e) ∙ ap (pow ops root) (times_comm l.size e)
           ∙ pow_mul ops laws root e l.size
 
-  pub racks_none : (first : ℕ) (es : List ℕ) (v run : ℕ) (points : List ℕ) → RackPoints f l first es v run 0 points
-  racks_none first es v run points = record { at = λ i c h b. absurd (not-suc-le-zero h) }
-
   pub racks_more : (w first : ℕ) (es : List ℕ) (v run i : ℕ) (row was is : List ℕ) → v * run ≤ w → 0 < run → RackPoints f l first es v run i was →
       PowerRow f l w first (get_or es (i * l.size) 0) row → Run (sampled row run) was is (i * v) v → RackPoints f l first es v run (i + 1) is
   unfolding sampled
@@ -98,9 +75,6 @@ module _ {A : Type 0} {f : Field A} (W : Working f) (l : Layout) where
           subst (λ n. cell f v is n c ≡ pow ops (point_at f l (first + c * run) (get_or es (n * l.size) 0)) l.size) (sym q)
           (sym (cell_is f v is i c) ∙ ap elem (r.done c b) ∙ p.at (c * run) (let q = row_before c v run b in omega arith))
       go k c h b (no d) = cell_other f _ was is i v r k c b d ∙ g.at k c (omega arith) b
-
-  pub racks_end : (first : ℕ) (es : List ℕ) (v run i n : ℕ) (points : List ℕ) → RackPoints f l first es v run i points → n ≤ i → RackPoints f l first es v run n points
-  racks_end first es v run i n points g h = record { at = λ k c b d. g.at k c (omega arith) d }
 
   -- ---- powers divided by
   pub row_kept : (w first : ℕ) (es : List ℕ) (k : ℕ) (was : List ℕ) → k % l.size ≡ 0 → RowLowered f l w first es k was was
@@ -131,10 +105,6 @@ module _ {A : Type 0} {f : Field A} (W : Working f) (l : Layout) where
           ∙ mul_comm ops laws _ _ ∙ sym (pow_add ops laws (pow ops root (order - k % l.size)) (get_or es k 0 / l.size * s) (digit (digits l) j (get_or es k 0 / l.size)))
           ∙ ap (λ b. pow ops (pow ops root (order - k % l.size)) (get_or es k 0 / l.size * b + digit (digits l) j (get_or es k 0 / l.size))) es'
 
-  -- the loop over the rows
-  pub rows_none : (w first : ℕ) (es was : List ℕ) → Lowered f l w first es 0 was was
-  rows_none w first es was = record { at = λ k j h b. absurd (not-suc-le-zero h); rest = λ k j h b. refl }
-
   pub rows_more : (w first : ℕ) (es : List ℕ) (n : ℕ) (was is new : List ℕ) → Lowered f l w first es n was is → RowLowered f l w first es n is new → Lowered f l w first es (n + 1) was new
   rows_more w first es n was is new g r = record {
     at = λ k j h b. go k j h b (ℕ_discrete k n);
@@ -146,35 +116,3 @@ module _ {A : Type 0} {f : Field A} (W : Working f) (l : Layout) where
           subst (λ x. cell f w new x j ≡ cell f w was x j ⊗ lowering f l (first + j) (get_or es x 0) (x % l.size)) (sym e)
           (r.here j b ∙ ap (λ y. y ⊗ lowering f l (first + j) (get_or es n 0) (n % l.size)) (g.rest n j (omega arith) b))
       go k j h b (no d) = r.others k j b d ∙ g.at k j (omega arith) b
-
-  pub rows_end : (w first : ℕ) (es : List ℕ) (n m : ℕ) (was is : List ℕ) → Lowered f l w first es n was is → n ≤ m → m ≤ n → Lowered f l w first es m was is
-  rows_end w first es n m was is g h k = let q : n ≡ m = omega arith in subst (λ x. Lowered f l w first es x was is) q g
-
--- ---- numbers
-module _ (l : Layout) (w first : ℕ) (b : Block l w first) where
-  pub weight_low : (k : ℕ) → k % l.size ≤ 255
-  weight_low k = let s = bounds l b.adm in let q = mod-lt k s.size_low in omega arith
-
-  module _ (es : List ℕ) (k : ℕ) (g : Listed l es) (h : k < length es) where
-    pub rack_number : get_or es k 0 / l.size < l.racks
-    rack_number = rack_in l b.adm (get_or es k 0) (g.places.inside k h)
-
-    module _ (s : ℕ) (e : s ≡ digits l) where
-      exponent_low : get_or es k 0 / l.size * s ≤ 240
-      exponent_low =
-          let r = rack_number in
-          let u = bounds l b.adm in
-          let d = digits_small l b.adm in
-          let p : get_or es k 0 / l.size * s ≤ 60 * 4 = mul-le-mul (let t : get_or es k 0 / l.size ≤ 60 = omega arith in t) (let t : s ≤ 4 = omega arith in t) in
-          omega arith
-
-      pub exponent_fits : Fits w32 (get_or es k 0 / l.size * s)
-      exponent_fits = let p = exponent_low in omega arith
-
-      pub exponent_wide : Fits w64 (get_or es k 0 / l.size * s)
-      exponent_wide = let p = exponent_low in omega arith
-
-      pub power_fits : Fits w64 ((255 - k % l.size) * (get_or es k 0 / l.size * s))
-      power_fits =
-          let p : (255 - k % l.size) * (get_or es k 0 / l.size * s) ≤ 255 * 240 = mul-le-mul (let c : 255 - k % l.size ≤ 255 = omega arith in c) exponent_low in
-          omega arith

@@ -2,8 +2,8 @@
 -- Assumes nothing.
 use mathlib.Core.Path.{◌≡◌, sym, ap, ◌∙◌}
 use mathlib.Core.List.{List}
-use Prim.Native.Nat.{ℕ, ◌+◌, ◌*◌, ◌/◌, ◌^◌, ◌<◌, ◌≤◌}
-use native.Mathlib.Nat.{mul_assoc, mul-le-mul, mul-le-mul_right, le-mul_of_pos_right, le_trans, div-add-mod'}
+use Prim.Native.Nat.{ℕ, ◌+◌, ◌*◌, ◌^◌, ◌<◌, ◌≤◌}
+use native.Mathlib.Nat.{mul_assoc, mul-le-mul, mul-le-mul_right, le-mul_of_pos_right, le_trans}
 use native.Mathlib.Omega.{arith}
 use lib.ListN.{length}
 use Rattle.kernel.proofs.Rows.{row_before}
@@ -13,13 +13,9 @@ use Rattle.layout.proofs.Facts.{bounds}
 use Rattle.blocks.specs.Inner.{room_limit, Block, Steady}
 use Rattle.blocks.proofs.Cycles.{run_low, columns_low, turns_low, width_is, columns_in}
 use Rattle.blocks.proofs.Digits.{run_pos}
-use Rattle.blocks.proofs.Room.{room_of, room_long}
 use Rattle.syndrome.specs.Inner.{Listed}
 use Rattle.solving.specs.Inner.{Workspace}
 use Rattle.rack_solving.specs.Inner.{WholeRacks, Wide}
-
-pub racks_in : (u : ℕ) (es : List ℕ) → length es / u * u ≤ length es
-racks_in u es = let q = div-add-mod' (length es) u in omega arith
 
 -- what the buffers have room for
 pub record Rooms (l : Layout) (w : ℕ) (es : List ℕ) (n : ℕ) (sums found points coefs : List ℕ) : Type 0 where
@@ -32,9 +28,6 @@ pub record Rooms (l : Layout) (w : ℕ) (es : List ℕ) (n : ℕ) (sums found po
 
 pub row_left : (w : ℕ) (was is : List ℕ) → w ≤ length was → length is ≡ length was → w ≤ length is
 row_left w was is h e = omega arith
-
-pub whole_room : room_limit ≤ length room_of
-whole_room = let q = room_long in omega arith
 
 module _ (l : Layout) (w first : ℕ) (es : List ℕ) (n : ℕ) (sums found points coefs row : List ℕ) (b : Block l w first) (k : Listed l es) (r : WholeRacks l.size n es)
     (g : Workspace l w sums found points coefs row) where

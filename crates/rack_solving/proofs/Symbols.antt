@@ -3,11 +3,11 @@
 use mathlib.Core.Path.{◌≡◌, refl, sym, ap, ap₂, ◌∙◌, subst}
 use mathlib.Core.List.{List}
 use Prim.Native.Nat.{ℕ, zero, suc, ◌+◌, ◌-◌, ◌*◌, ◌/◌, ◌%◌, ◌^◌, ◌<◌, ◌≤◌}
-use native.Mathlib.Nat.{mul_comm as times_comm, add-mul as plus_mul, mul-pos, mul-le-mul_left, mul-le-mul_right, le-mul_of_pos_right, le_trans, div-add-mod', mod-lt, div-lt_iff_lt-mul, not-suc-le-zero}
+use native.Mathlib.Nat.{mul_comm as times_comm, add-mul as plus_mul, mul-pos, mul-le-mul_left, le_trans, div-add-mod', mod-lt, div-lt_iff_lt-mul}
 use native.Mathlib.Decide.{ℕ_discrete}
 use native.Mathlib.Omega.{arith}
 use mir.Val.{Fits}
-use mir.Syntax.{w8, w64}
+use mir.Syntax.{w8}
 use lib.Arith.{digits_mod}
 use lib.ListN.{length, get_or}
 use Rattle.algebra.specs.Below.{below}
@@ -29,7 +29,7 @@ use Rattle.kernel.specs.Inner.{cell, Run, copied}
 use Rattle.kernel.proofs.Rows.{row_before, cell_is, cell_other}
 use Rattle.weigh.specs.Inner.{weight, weighted_term, Weighed}
 use Rattle.layout.specs.declared.Layout.{Layout}
-use Rattle.layout.specs.Layout.{Cabinet, trays, digits}
+use Rattle.layout.specs.Layout.{Cabinet, digits}
 use Rattle.layout.proofs.Facts.{bounds, rack_in}
 use Rattle.codeword.specs.Codeword.{shape_of, point_at}
 use Rattle.syndrome.specs.Inner.{Listed}
@@ -68,58 +68,13 @@ opposite_apart u m n h k d e = d (sym (opposite_twice u n k) ∙ ap (opposite u)
 
 -- ---- the sums of a weight over the rows of a rack
 module _ (u w from m : ℕ) (ys row : List ℕ) where
-  pub three_in : u ≡ 3 → from + u * w ≤ length ys → from + w + w + w ≤ length ys
-  three_in e h = let q : u * w ≡ 3 * w = ap (λ y. y * w) e in omega arith
-
-  pub five_in : Small u → ¬ (u ≡ 3) → from + u * w ≤ length ys → from + w + w + w + w + w ≤ length ys
-  five_in s d h = let q : u * w ≡ 5 * w = ap (λ y. y * w) (s.other d) in omega arith
-
-  pub five_low : Small u → ¬ (u ≡ 3) → m < u → m < 5
-  five_low s d h = let q = s.other d in omega arith
-
-  pub three_weighed : u ≡ 3 → Weighed gf256 3 m ys from w w row → Weighed gf256 u m ys from w w row
-  three_weighed e = subst (λ n. Weighed gf256 n m ys from w w row) (sym e)
-
-  pub five_weighed : Small u → ¬ (u ≡ 3) → Weighed gf256 5 m ys from w w row → Weighed gf256 u m ys from w w row
-  five_weighed s d = subst (λ n. Weighed gf256 n m ys from w w row) (sym (s.other d))
-
-  pub last_three : u ≡ 3 → m ≡ 2 → (0 < m → Weighed gf256 u (m - 1) ys from w w row) → Weighed gf256 3 1 ys from w w row
-  last_three e t h = let q : m - 1 ≡ 1 = omega arith in subst (λ n. Weighed gf256 3 n ys from w w row) q (subst (λ n. Weighed gf256 n (m - 1) ys from w w row) e (h (omega arith)))
-
   pub last_more : Weighed gf256 u m ys from w w row → Weighed gf256 u (m + 1 - 1) ys from w w row
   last_more = let q : m ≡ m + 1 - 1 = omega arith in subst (λ n. Weighed gf256 u n ys from w w row) q
-
--- where these lie
-module _ (u w i : ℕ) (xs : List ℕ) (h : (i * u + u) * w ≤ length xs) where
-  pub rows_there : i * u * w + u * w ≤ length xs
-  rows_there = let q = plus_mul (i * u) u w in omega arith
-
-  pub start_fits : 0 < w → Fits w64 (length xs) → Fits w64 (i * u)
-  start_fits p f = let q = rows_there in let t : i * u ≤ i * u * w = le-mul_of_pos_right (i * u) p in omega arith
-
-  pub rack_fits : Fits w64 (length xs) → Fits w64 (i * u * w)
-  rack_fits f = let q = rows_there in omega arith
-
-  module _ (g : ℕ) (k : g < u) where
-    place_end : g * w + w ≤ u * w
-    place_end = row_before g u w k
-
-    pub place_fits : Fits w64 (length xs) → Fits w64 (g * w)
-    place_fits f = let q = rows_there in let t = place_end in omega arith
-
-    pub place_starts : Fits w64 (length xs) → Fits w64 (i * u * w + g * w)
-    place_starts f = let q = rows_there in let t = place_end in omega arith
-
-    pub place_there : (ys : List ℕ) → length ys ≡ length xs → i * u * w + g * w + w ≤ length ys
-    place_there ys e = let q = rows_there in let t = place_end in omega arith
 
 -- ---- the places of a rack
 module _ {A : Type 0} (f : Field A) (u w i : ℕ) (ys : List ℕ) where
   open f use {ops}
   open f.coding use {elem}
-
-  pub places_none : (was : List ℕ) → RackFound f u w i ys was was 0
-  places_none was = record { at = λ m j h k. absurd (not-suc-le-zero h); before = λ k j h b. refl }
 
   pub places_more : (m g : ℕ) (was is new row : List ℕ) → m < u → g ≡ opposite u m → RackFound f u w i ys was is m → Weighed f u m ys (i * u * w) w w row →
       Run (copied row 0) is new (i * u * w + g * w) w → RackFound f u w i ys was new (m + 1)
@@ -145,14 +100,8 @@ module _ {A : Type 0} (f : Field A) (u w i : ℕ) (ys : List ℕ) where
           (λ e. opposite_apart u m n hm (omega arith) d (let q : opposite u n ≡ g = omega arith in q ∙ eg))
           ∙ r.at n j (omega arith) b
 
-  pub places_end : (m : ℕ) (was is : List ℕ) → RackFound f u w i ys was is m → m ≤ u → u ≤ m → RackFound f u w i ys was is u
-  places_end m was is r h k = let q : m ≡ u = omega arith in subst (RackFound f u w i ys was is) q r
-
 -- ---- the racks
 module _ {A : Type 0} (f : Field A) (u w : ℕ) (ys : List ℕ) where
-  pub racks_none : (found : List ℕ) → RacksFound f u w 0 ys found
-  racks_none found = record { at = λ i m j h k b. absurd (not-suc-le-zero h) }
-
   pub racks_more : (i : ℕ) (was is : List ℕ) → RacksFound f u w i ys was → RackFound f u w i ys was is u → RacksFound f u w (i + 1) ys is
   racks_more i was is g r = record { at = λ n m j h k b. go n m j h k b (ℕ_discrete n i) }
     where
@@ -161,15 +110,8 @@ module _ {A : Type 0} (f : Field A) (u w : ℕ) (ys : List ℕ) where
       go n m j h k b (no d) =
           r.before (n * u + opposite u m) j (let q = row_before n i u (omega arith) in let o = opposite_below u m k in omega arith) b ∙ g.at n m j (omega arith) k b
 
-  pub racks_end : (i n : ℕ) (found : List ℕ) → RacksFound f u w i ys found → n ≤ i → RacksFound f u w n ys found
-  racks_end i n found g h = record { at = λ k m j a b c. g.at k m j (omega arith) b c }
-
 pub bytes_of : (xs : List ℕ) → ((i : ℕ) → Fits w8 (get_or xs i 0)) → Bytes xs
 bytes_of xs f = record { at = λ i. (f i).fits }
-
--- rack i lies in a buffer of n
-pub rack_there : (u w n i : ℕ) (was is : List ℕ) → n * u * w ≤ length was → length is ≡ length was → i < n → (i * u + u) * w ≤ length is
-rack_there u w n i was is h e k = let q : (i * u + u) * w ≤ n * u * w = mul-le-mul_right w (row_before i n u k) in omega arith
 
 -- ---- a layer
 module _ {A : Type 0} {f : Field A} (W : Working f) (l : Layout) (w first : ℕ) (es : List ℕ) (n : ℕ) (a : Cabinet l) (k : Listed l es) (r : WholeRacks l.size n es)

@@ -9,7 +9,6 @@ use mir.Val.{Fits}
 use mir.Syntax.{w64}
 use lib.ListN.{length, get_or}
 use Rattle.algebra.specs.Sum.{pow}
-use Rattle.algebra.specs.Lagrange.{solve}
 use Rattle.algebra.specs.Shape.{Field}
 use Rattle.algebra.specs.Plain.{Working}
 use Rattle.kernel.specs.Inner.{cell}
@@ -28,21 +27,6 @@ use Rattle.rack_solving.proofs.Lists.{first_in}
 
 -- ---- the widths
 module _ (u w n v run turns : ℕ) (ys sums points coefs wide : List ℕ) (s : Wide u w n v run turns ys sums points coefs wide) where
-  some_places : 0 < w
-  some_places = rw s.width (mul-pos (mul-pos s.columns_low s.turns_low) s.run_low)
-
-  pub systems_one : v ≡ 1 → Systems (u * w) v (u * w) 1 n ys sums coefs wide
-  systems_one e = record {
-    run_low = mul-pos s.some some_places;
-    columns_low = s.columns_low;
-    turns_low = omega arith;
-    width = rw e (let q : u * w ≡ 1 * 1 * (u * w) = omega arith in q);
-    found_long = s.ys_long;
-    sums_long = s.sums_long;
-    coefs_long = s.coefs_long;
-    row_long = s.wide_long;
-  }
-
   pub systems_wide : Systems (u * w) v run (turns * u) n ys sums coefs wide
   systems_wide = record {
     run_low = s.run_low;
@@ -71,16 +55,6 @@ module _ (u w n v run turns : ℕ) (ys sums points coefs wide : List ℕ) (s : W
       turned : turns * u * (v * run) ≡ u * w
       turned = ap (λ y. y * (v * run)) (mul_comm turns u) ∙ mul_assoc u turns (v * run)
           ∙ ap (λ y. u * y) (sym (mul_assoc turns v run) ∙ ap (λ y. y * run) (mul_comm turns v) ∙ sym s.width)
-
-module _ {A : Type 0} (f : Field A) where
-  pub solved_one : (w v run way n : ℕ) (sums points ys : List ℕ) → v ≡ 1 → Solved f w v way n sums points ys n → Solved f w v run n sums points ys n
-  solved_one w v run way n sums points ys e s = record {
-    at = λ i j h k. s.at i j h k ∙ ap (λ c. solve f.ops (column f v points c) n (λ t. f.ops.neg (cell f w sums t j)) i) (same (j / way) (j / run));
-    small = s.small;
-  }
-    where
-      same : (a b : ℕ) → a % v ≡ b % v
-      same a b = let p = mod-lt a (let q : 0 < v = omega arith in q) in let r = mod-lt b (let q : 0 < v = omega arith in q) in omega arith
 
 -- the columns of a block are those of every block of a row
 column_same : (m w v turns run j : ℕ) → w ≡ v * turns * run → 0 < v → 0 < run → (m * w + j) / run % v ≡ j / run % v

@@ -29,12 +29,10 @@ fn is_rack(l: Layout, es: &[u32], i: usize) -> bool
     if x % u != 0 {
         return false;
     }
-    let mut g = 1u32;
-    while g < u {
+    for g in 1..u {
         if es[k + g as usize] != x + g {
             return false;
         }
-        g += 1;
     }
     true
 }
@@ -54,12 +52,10 @@ fn are_racks(l: Layout, es: &[u32], n: usize) -> bool
     if es.len() != n * u {
         return false;
     }
-    let mut i = 0usize;
-    while i < n {
+    for i in 0..n {
         if !is_rack(l, es, i) {
             return false;
         }
-        i += 1;
     }
     true
 }
@@ -90,11 +86,9 @@ fn rack_points(
     ensures { RackPoints gf256 l first es.now v run n points.new }
 {
     let u = l.size as usize;
-    let mut i = 0usize;
-    while i < n {
+    for i in 0..n {
         power_row(row, l, w, first, es[i * u]);
         kernel::sample(points, i * v, v, row, run);
-        i += 1;
     }
 }
 
@@ -145,10 +139,8 @@ fn lower_rows(ys: &mut [u8], l: Layout, w: usize, first: usize, es: &[u32], row:
     requires { Block l w first × Small l.size × Listed l es.now × (length es.now * w ≤ length ys.old) × (w ≤ length row.old) }
     ensures { Lowered gf256 l w first es.now (length es.now) ys.old ys.new }
 {
-    let mut k = 0usize;
-    while k < es.len() {
+    for k in 0..es.len() {
         lower_row(ys, l, w, first, es, k, row);
-        k += 1;
     }
 }
 
@@ -180,11 +172,9 @@ fn rack_symbols(found: &mut [u8], u: u32, w: usize, i: usize, ys: &[u8], row: &m
     ensures { RackFound gf256 u w i ys.now found.old found.new u }
 {
     let from = i * u as usize * w;
-    let mut m = 0u32;
-    while m < u {
+    for m in 0..u {
         weigh_rows(row, u, w, ys, from, m);
         kernel::copy(found, from + opposite_place(u, m) as usize * w, w, row, 0);
-        m += 1;
     }
 }
 
@@ -193,10 +183,8 @@ fn racks_symbols(found: &mut [u8], u: u32, w: usize, n: usize, ys: &[u8], row: &
     requires { Small u × (0 < w) × (n * u * w ≤ length found.old) × (n * u * w ≤ length ys.now) × (w ≤ length row.old) }
     ensures { RacksFound gf256 u w n ys.now found.new × Bytes found.new }
 {
-    let mut i = 0usize;
-    while i < n {
+    for i in 0..n {
         rack_symbols(found, u, w, i, ys, row);
-        i += 1;
     }
 }
 

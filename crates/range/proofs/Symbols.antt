@@ -9,9 +9,8 @@ use native.Mathlib.Decide.{dec_lt, ℕ_discrete}
 use native.Mathlib.Omega.{arith}
 use lib.Dec.{ltb}
 use lib.ListN.{length, get_or}
-use Rattle.lists.specs.Lists.{all}
 use Rattle.lists.proofs.Bools.{not_true_false, all_holds, all_true, all_false, told_false}
-use Rattle.algebra.specs.Coding.{Coding, InRange}
+use Rattle.algebra.specs.Coding.{InRange}
 use Rattle.algebra.specs.Shape.{Field}
 use Rattle.kernel.proofs.Rows.{row_before}
 use Rattle.range.specs.Range.{symbols_from, symbol_rows}
@@ -40,9 +39,6 @@ module _ (xs : List ℕ) (from : ℕ) where
       go : (j : ℕ) → j < k + 1 → Dec (j ≡ k) → get_or xs (from + j) 0 ≤ r
       go j h (yes d) = rw d (omega arith)
       go j h (no d) = let i = t.above j (omega arith) in omega arith
-
-  pub highest_end : (k len top : ℕ) → Highest xs from k top → len ≤ k → k ≤ len → Highest xs from len top
-  highest_end k len top t a b = subst (λ n. Highest xs from n top) (omega arith) t
 
   -- in four parts at once
   module _ (gap : ℕ) where
@@ -130,7 +126,7 @@ symbols_highest f xs from a b len top rest r pos e t u p q g = go (dec_lt r f.co
         (symbols_all f xs from len z (a + j) (omega arith)))))))
 
 -- ---- rows
-pub row_in : (xs : List ℕ) (rows width first count r : ℕ) → length xs ≡ rows * width → first + count ≤ width → r < rows → r * width + first + count ≤ length xs
+pub row_in : {X : Type 0} (xs : List X) (rows width first count r : ℕ) → length xs ≡ rows * width → first + count ≤ width → r < rows → r * width + first + count ≤ length xs
 row_in xs rows width first count r e w h = rw e (omega (arith, row_before r rows width h))
 
 module _ {A : Type 0} (f : Field A) (xs : List ℕ) (rows width first count : ℕ) where

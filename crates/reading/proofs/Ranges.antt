@@ -95,9 +95,6 @@ module _ (l : Layout) (lost done tray first end : ℕ) where
   pub asked : Readable l lost done tray first end → Asked l lost first end
   asked r = record { adm = r.adm; tray_in = r.lost_in; rises = r.rises; end_in = r.end_in }
 
-  pub done_high : Readable l lost done tray first end → done ≤ layer_limit
-  done_high r = let b = bounds l r.adm in omega (arith, r.done_in, b.groups_high)
-
   pub from_store : (tray ≡ lost → ⊥) → true ≡ available l lost done tray first end
   unfolding available
   from_store d = simp (ne_eqb tray lost d)

@@ -18,12 +18,10 @@ fn all_done(l: Layout, x: u32, done: u32, first: u32, end: u32) -> bool
     ensures { result ≡ all_done l x done first end }
 {
     let h = x / l.size;
-    let mut j = first;
-    while j < end {
+    for j in first..end {
         if done <= layout::group_of(l, h, j) {
             return false;
         }
-        j += 1;
     }
     true
 }

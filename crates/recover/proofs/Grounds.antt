@@ -1,15 +1,15 @@
 -- The grounds for refusing a recovery, one after the other.
 -- Assumes nothing.
-use mathlib.Core.Path.{◌≡◌, refl, sym, ap, ◌∙◌}
+use mathlib.Core.Path.{◌≡◌, sym, ap, ◌∙◌}
 use mathlib.Core.Bool.{Bool, true, false, cond, not, ◌&&◌, false≢true}
 use mathlib.Core.List.{List}
 use Prim.Native.Nat.{ℕ, ◌+◌, ◌*◌, ◌<◌, ◌≤◌}
 use native.Mathlib.Omega.{arith}
-use borrow.Author.Tests.{eq-eqb, ne_eqb, eqb-true, le-leb, leb-true, not-true, not-false}
+use borrow.Author.Tests.{eq-eqb, eqb-true, le-leb, leb-true, not-true}
 use lib.Dec.{eqb, leb}
 use lib.ListN.{length}
-use Rattle.lists.specs.Lists.{all, absent, all_below, strictly_rising}
-use Rattle.lists.proofs.Bools.{passed, both, not_true_false, all_holds, all_true, all_false}
+use Rattle.lists.specs.Lists.{absent, all_below, strictly_rising}
+use Rattle.lists.proofs.Bools.{passed, both, all_holds, all_true, all_false}
 use Rattle.algebra.specs.Shape.{Field}
 use Rattle.algebra.specs.Plain.{Working}
 use Rattle.layout.specs.declared.Layout.{Layout}
@@ -26,18 +26,6 @@ use Rattle.recover.proofs.Restored.{list_listed}
 pub tray_in : (l : Layout) (c : List ℕ) (x n total : ℕ) → n ≡ trays l → total ≡ layers l → x < n → length c ≡ trays l * layers l → x * total + total ≤ length c
 tray_in l c x n total e t h k = rw (t, k) (row_before x (trays l) (layers l) (omega arith))
 
-module _ {A : Type 0} (f : Field A) (es c : List ℕ) (total x : ℕ) where
-  pub tray_listed : (b : Bool) → b ≡ absent es x → not b ≡ true → true ≡ kept_tray f es c total x
-  unfolding kept_tray
-  tray_listed b e n = simp (sym e ∙ not-true b n)
-
-  pub tray_tested : (b r : Bool) → b ≡ absent es x → not b ≡ false → r ≡ symbols_from f c (x * total) total → r ≡ kept_tray f es c total x
-  unfolding kept_tray
-  tray_tested b r e n q = q ∙ simp (sym e ∙ not-false b n)
-
-  pub tray_so : (r : Bool) → r ≡ kept_tray f es c total x → not r ≡ false → kept_tray f es c total x ≡ true
-  tray_so r q t = sym q ∙ not-false r t
-
 module _ {A : Type 0} (f : Field A) (l : Layout) (es c : List ℕ) where
   pub kept_false : (x n total : ℕ) (r : Bool) → n ≡ trays l → total ≡ layers l → x < n → r ≡ kept_tray f es c total x → not r ≡ true → false ≡ kept_symbols f l es c
   unfolding kept_symbols kept_tray
@@ -53,43 +41,10 @@ module _ {A : Type 0} (f : Field A) (l : Layout) (es c : List ℕ) where
       sym (ap (λ b. cond b (symbols_from f c (x * layers l) (layers l)) true) a)
       ∙ all_holds (λ x. cond (absent es x) (symbols_from f c (x * layers l) (layers l)) true) (trays l) t x h
 
--- ---- the grounds
 module _ {A : Type 0} (f : Field A) (l : Layout) (es c : List ℕ) where
-  pub ground_1 : admissible f.order l ≡ false → 1 ≡ recover_refusal f l es c
+  pub ground_0 : admissible f.order l ≡ true → length c ≡ trays l * layers l → all_below es (trays l) ≡ true → kept_symbols f l es c ≡ true → strictly_rising es ≡ true → length es ≤ checks l → 0 ≡ recover_refusal f l es c
   unfolding recover_refusal
-  ground_1 h = simp h
-
-  module _ (h : admissible f.order l ≡ true) where
-    pub ground_2 : (length c ≡ trays l * layers l → ⊥) → 2 ≡ recover_refusal f l es c
-    unfolding recover_refusal
-    ground_2 k = simp (h, ne_eqb _ _ k)
-
-    module _ (e : length c ≡ trays l * layers l) where
-      pub ground_3 : all_below es (trays l) ≡ false → 3 ≡ recover_refusal f l es c
-      unfolding recover_refusal
-      ground_3 k = simp (h, eq-eqb _ _ e, k)
-
-      module _ (b : all_below es (trays l) ≡ true) where
-        pub ground_3_symbols : kept_symbols f l es c ≡ false → 3 ≡ recover_refusal f l es c
-        unfolding recover_refusal
-        ground_3_symbols k = simp (h, eq-eqb _ _ e, b, k)
-
-        module _ (y : kept_symbols f l es c ≡ true) where
-          pub ground_4 : strictly_rising es ≡ false → 4 ≡ recover_refusal f l es c
-          unfolding recover_refusal
-          ground_4 k = simp (h, eq-eqb _ _ e, b, y, k)
-
-          module _ (r : strictly_rising es ≡ true) where
-            pub ground_5 : checks l < length es → 5 ≡ recover_refusal f l es c
-            unfolding recover_refusal
-            ground_5 k = simp (h, eq-eqb _ _ e, b, y, r, too_many)
-              where
-                too_many : leb (length es) (checks l) ≡ false
-                too_many = sym (not_true_false (leb (length es) (checks l)) (λ t. let q = leb-true (length es) (checks l) t in omega arith))
-
-            pub ground_0 : length es ≤ checks l → 0 ≡ recover_refusal f l es c
-            unfolding recover_refusal
-            ground_0 k = simp (h, eq-eqb _ _ e, b, y, r, le-leb _ _ k)
+  ground_0 h e b y r k = simp (h, eq-eqb _ _ e, b, y, r, le-leb _ _ k)
 
 -- what holds where there is no ground
 pub record Recoverable {A : Type 0} (f : Field A) (l : Layout) (es c : List ℕ) : Type 0 where

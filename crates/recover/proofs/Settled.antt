@@ -8,11 +8,9 @@ use Prim.Native.Nat.{ℕ, ◌*◌, ◌<◌}
 use mathlib.Core.Logic.{◌↔◌}
 use native.Mathlib.Decide.{ℕ_discrete}
 use lib.Dec.{ltb}
-use lib.ListN.{length}
-use Rattle.lists.specs.Lists.{all, absent}
+use Rattle.lists.specs.Lists.{absent}
 use Rattle.lists.proofs.Bools.{all_same}
 use Rattle.lists.proofs.Numbered.{absent_all}
-use Rattle.algebra.specs.Coding.{Coding}
 use Rattle.algebra.specs.Shape.{Field}
 use Rattle.layout.specs.declared.Layout.{Layout}
 use Rattle.layout.specs.Layout.{trays, layers}

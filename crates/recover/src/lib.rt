@@ -30,12 +30,10 @@ fn kept_symbols(l: Layout, es: &[u32], c: &[u8]) -> bool
 {
     let n = layout::tray_count(l);
     let total = layout::layer_count(l) as usize;
-    let mut x = 0u32;
-    while x < n {
+    for x in 0..n {
         if !kept_tray(es, c, total, x) {
             return false;
         }
-        x += 1;
     }
     true
 }

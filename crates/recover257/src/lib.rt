@@ -21,7 +21,7 @@ fn kept_tray(es: &[u32], c: &[u16], total: usize, x: u32) -> bool
     if !lists::is_absent(es, x) {
         return true;
     }
-    range257::are_symbols(c, x as usize * total, total)
+    range::are_symbols(c, x as usize * total, total)
 }
 
 // Whether all numbers of the trays that are not listed are symbols.
@@ -31,12 +31,10 @@ fn kept_symbols(l: Layout, es: &[u32], c: &[u16]) -> bool
 {
     let n = layout::tray_count(l);
     let total = layout::layer_count(l) as usize;
-    let mut x = 0u32;
-    while x < n {
+    for x in 0..n {
         if !kept_tray(es, c, total, x) {
             return false;
         }
-        x += 1;
     }
     true
 }

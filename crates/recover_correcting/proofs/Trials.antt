@@ -1,44 +1,38 @@
 -- Trying each tray that is not erased, over any field.
 -- Assumes nothing.
 use mathlib.Core.Path.{◌≡◌, refl, sym, ◌∙◌, subst}
-use mathlib.Core.Bool.{Bool, true, false, not, false≢true}
+use mathlib.Core.Bool.{Bool, true, false, false≢true}
 use mathlib.Core.List.{List}
 use Prim.Native.Nat.{ℕ, ◌+◌, ◌-◌, ◌<◌, ◌≤◌}
 use native.Mathlib.Omega.{arith}
-use borrow.Author.Tests.{not-true, not-false}
 use borrow.Author.Count.{below_more}
-use lib.ListN.{length, get_or, set, take, length-take}
+use lib.ListN.{length, set}
 use Rattle.lists.specs.Lists.{absent}
 use Rattle.lists.proofs.Numbered.{absent_true, absent_all}
-use Rattle.lists.proofs.Loops.{Upto}
 use Rattle.algebra.specs.Shape.{Field}
 use Rattle.layout.specs.declared.Layout.{Layout}
-use Rattle.layout.specs.Layout.{trays, layers, tray_limit, Admissible}
+use Rattle.layout.specs.Layout.{trays, layers, Admissible}
 use Rattle.restore.specs.Inner.{LayerFits, Says, Erasing, RestoredTo}
 use Rattle.restore.proofs.Says.{says_true, says_false}
 use Rattle.recover_correcting.specs.RecoverCorrecting.{with_tray, Surviving}
 use Rattle.recover_correcting.specs.Inner.{Trying, Begun, Fitting, Tried, Found, Replaced}
 use Rattle.recover_correcting.proofs.WithTray.{with_listed, put_is, put_begun}
 
-pub begun_of : (es list₀ list : List ℕ) (i : ℕ) → Upto (λ k. get_or es k 0) list₀ list i → length list₀ ≡ length es + 1 → length es ≤ i →
-    Begun es list
-begun_of es list₀ list i u e h = record { long = u.same ∙ e; at = λ k b. u.low k (omega arith) }
-
 module _ {A : Type 0} (f : Field A) (l : Layout) (es c : List ℕ) (x : ℕ) where
-  tray_of : (b : Bool) → b ≡ absent es x → not b ≡ false → x < trays l → Surviving l es x
-  tray_of b e n h = record { inside = h; kept = λ k q z. absent_all es x (sym e ∙ not-false b n) k q (sym z) }
+  tray_of : (b : Bool) → b ≡ absent es x → b ≡ true → x < trays l → Surviving l es x
+  tray_of b e n h = record { inside = h; kept = λ k q z. absent_all es x (sym e ∙ n) k q (sym z) }
 
   -- an erased tray is not tried
-  pub tried_listed : (list : List ℕ) (b : Bool) → b ≡ absent es x → not b ≡ true → Begun es list → Tried f l es c x list false
+  pub tried_listed : (list : List ℕ) (b : Bool) → b ≡ absent es x → b ≡ false → Begun es list → Tried f l es c x list false
   tried_listed list b e n q = record {
     begun = q;
     yes_list = λ z. absurd (false≢true z);
     yes_fits = λ z. absurd (false≢true z);
-    no_fits = λ z w. false≢true (sym (sym e ∙ not-true b n) ∙ sym (absent_true es x (λ k h y. w.tray.kept k h (sym y))));
+    no_fits = λ z w. false≢true (sym (sym e ∙ n) ∙ sym (absent_true es x (λ k h y. w.tray.kept k h (sym y))));
   }
 
   module _ (total : ℕ) (list now : List ℕ) (told : Trying f.order l total es c) (begun : Begun es list) (h : x < trays l) (b : Bool)
-      (e : b ≡ absent es x) (n : not b ≡ false)
+      (e : b ≡ absent es x) (n : b ≡ true)
       (put : now ≡ set list (length list - 1) x) where
     is_with : now ≡ with_tray es x
     is_with = put ∙ put_is es list x begun
@@ -122,11 +116,3 @@ module _ {A : Type 0} (f : Field A) (l : Layout) (es c : List ℕ) where
         none = λ z. absurd (omega arith);
         kept = λ z. absurd (omega arith);
       }
-
--- ---- the room
-module _ (N : ℕ) (l : Layout) (total : ℕ) (es c room : List ℕ) (told : Trying N l total es c) (h : tray_limit ≤ length room) where
-  room_in : length es + 1 ≤ length room
-  room_in = let q = told.wrong.few in let a = told.wrong.adm.cabinet.trays_high in omega arith
-
-  pub room_cut : length (take (length es + 1) room) ≡ length es + 1
-  room_cut = let q = room_in in simp length-take (omega arith)

@@ -50,12 +50,10 @@ fn find_wrong(l: Layout, total: u32, c: &[u8], es: &[u32], list: &mut [u32]) -> 
     ensures { Found gf256 l es.now c.now list.new result }
 {
     let n = layout::tray_count(l);
-    let mut x = 0u32;
-    while x < n {
+    for x in 0..n {
         if fits_without(l, total, c, es, list, x) {
             return x;
         }
-        x += 1;
     }
     n
 }

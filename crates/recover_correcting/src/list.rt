@@ -7,11 +7,7 @@ pub fn begin(list: &mut [u32], es: &[u32])
     requires { length list.old ≡ length es.now + 1 }
     ensures { Begun es.now list.new }
 {
-    let mut i = 0usize;
-    while i < es.len() {
-        list[i] = es[i];
-        i += 1;
-    }
+    list[..es.len()].copy_from_slice(es);
 }
 
 // A tray in the last place.

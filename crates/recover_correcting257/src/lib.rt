@@ -36,12 +36,10 @@ fn find_wrong(l: Layout, total: u32, c: &[u16], es: &[u32], list: &mut [u32]) ->
     ensures { Found gf257 l es.now c.now list.new result }
 {
     let n = layout::tray_count(l);
-    let mut x = 0u32;
-    while x < n {
+    for x in 0..n {
         if fits_without(l, total, c, es, list, x) {
             return x;
         }
-        x += 1;
     }
     n
 }

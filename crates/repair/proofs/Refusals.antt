@@ -156,5 +156,5 @@ accepted f l lost helpers shares host spare first budget high r y =
     (sym (below_true helpers l.racks (λ k h. H.inside k (omega (arith, H.many))))) y
     (sym (rising_true lost (length lost) (omega arith) (λ k h. L.rising k h))) (sym (rising_true helpers (length helpers) (omega arith) (λ k h. H.rising k (omega (arith, H.many))))))
     refl
-    (pass_7 l lost helpers first H.many (sym (fits l (length lost) L.some L.few))
-    (sym (absent_true helpers (first_lost l lost / l.size) (λ k h. H.other k (omega (arith, H.many))))) r.first_in))
+    (pass_7 l lost helpers first H.many true (fits l (length lost) L.some L.few) refl
+    true (absent_true helpers (first_lost l lost / l.size) (λ k h. H.other k (omega (arith, H.many)))) refl (groups l) refl r.first_in))

@@ -10,7 +10,7 @@ use lib.Dec.{leb, ltb}
 use lib.ListN.{length, get_or}
 use Rattle.lists.specs.Lists.{absent}
 use Rattle.lists.proofs.Numbered.{absent_all}
-use Rattle.algebra.specs.Coding.{Coding, InRange}
+use Rattle.algebra.specs.Coding.{InRange}
 use Rattle.algebra.specs.Shape.{Field}
 use Rattle.algebra.specs.Layers.{group_of}
 use Rattle.kernel.proofs.Rows.{row_before}

@@ -38,7 +38,7 @@ fn number_refusal(
     if !lists::all_below(helpers, b) {
         return 3;
     }
-    if !seen257::piece_symbols(l, lost, shares, host, first, budget) {
+    if !seen::piece_symbols(l, lost, shares, host, first, budget) {
         return 3;
     }
     if !lists::strictly_rising(lost) {

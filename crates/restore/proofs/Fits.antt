@@ -7,10 +7,7 @@ use Prim.Native.Nat.{ℕ, ◌+◌, ◌-◌, ◌*◌, ◌/◌, ◌%◌, ◌<◌, 
 use native.Mathlib.Nat.{zero-add, mod-lt, div-add-mod', div-lt_iff_lt-mul}
 use native.Mathlib.Decide.{dec_lt}
 use native.Mathlib.Omega.{arith}
-use mir.Val.{Fits}
-use mir.Syntax.{w64}
 use lib.ListN.{length, get_or}
-use Rattle.algebra.specs.Field.{Ops}
 use Rattle.algebra.specs.Sum.{pow}
 use Rattle.algebra.specs.Lagrange.{check}
 use Rattle.algebra.specs.Erasure.{recover}
@@ -23,24 +20,15 @@ use Rattle.algebra.specs.Shape.{Field}
 use Rattle.algebra.specs.Plain.{Working}
 use Rattle.kernel.specs.Inner.{cell, Run, copied, all_zero}
 use Rattle.kernel.proofs.Runs.{zero_all, zero_from}
-use Rattle.kernel.proofs.Rows.{row_end, row_before, row_in, cell_is}
+use Rattle.kernel.proofs.Rows.{row_end, row_before, cell_is}
 use Rattle.layout.specs.declared.Layout.{Layout}
 use Rattle.layout.specs.Layout.{trays, checks, layers, Admissible}
 use Rattle.codeword.specs.Codeword.{shape_of, symbol_at, point_at}
 use Rattle.codeword.proofs.Usable.{usable}
-use Rattle.syndrome.specs.Inner.{entry_of, Listed, survivor_at, Room, TrayPoints, Terms, Sums}
+use Rattle.syndrome.specs.Inner.{entry_of, survivor_at, TrayPoints, Terms, Sums}
 use Rattle.restore.specs.Inner.{restored_at, LayerFits, Says, Erasing, erased_at, FoundTerms, BlockFits}
 use Rattle.solving.specs.Inner.{FoundBlock}
 use Rattle.restore.proofs.Solve.{sums_check, found_erased}
-
-pub term_tray : (l : Layout) (es : List ℕ) (k : ℕ) → Listed l es → k < length es → get_or es k 0 < trays l
-term_tray l es k s h = s.places.inside k h
-
-pub term_from : (w : ℕ) (es found : List ℕ) (k : ℕ) → length es * w ≤ length found → k < length es → k * w + w ≤ length found
-term_from w es found k h l = row_in found (length es) w k h l
-
-pub term_fits : (w : ℕ) (es found : List ℕ) (k : ℕ) → length es * w ≤ length found → k < length es → Fits w64 (length found) → Fits w64 (k * w)
-term_fits w es found k h l f = let e = term_from w es found k h l in omega arith
 
 module _ {A : Type 0} {f : Field A} (W : Working f) where
   open f use {ops}
@@ -72,10 +60,6 @@ module _ {A : Type 0} {f : Field A} (W : Working f) where
         ∙ add_assoc ops laws (cell f w was t j) _ _
         ∙ ap (ops.add (cell f w was t j)) (sym (check_more (λ i. point_at f l (first + j) (get_or es i 0)) (λ i. cell f w found i j) k t));
   }
-
-  pub terms_end : (l : Layout) (w first r : ℕ) (es found was is : List ℕ) (k : ℕ) → FoundTerms f l w first r es found was is k → k ≤ length es → length es ≤ k →
-      FoundTerms f l w first r es found was is (length es)
-  terms_end l w first r es found was is k g h n = let e : k ≡ length es = omega arith in subst (λ m. FoundTerms f l w first r es found was is m) e g
 
   -- ---- a block
   module _ (l : Layout) (w first total r : ℕ) (es c sums found new : List ℕ) (p : Erasing l total es c) (er : r ≡ checks l)

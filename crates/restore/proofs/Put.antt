@@ -3,13 +3,10 @@
 use mathlib.Core.Path.{◌≡◌, refl, sym, ap, ◌∙◌, subst}
 use mathlib.Core.List.{List}
 use Prim.Native.Nat.{ℕ, ◌+◌, ◌-◌, ◌*◌, ◌<◌, ◌≤◌}
-use native.Mathlib.Nat.{not-suc-le-zero, add_assoc, mul-le-mul_right, le_trans}
+use native.Mathlib.Nat.{add_assoc, mul-le-mul_right, le_trans}
 use native.Mathlib.Decide.{ℕ_discrete, dec_lt}
 use native.Mathlib.Omega.{arith}
-use mir.Val.{Fits}
-use mir.Syntax.{w64}
 use lib.ListN.{length, get_or}
-use Rattle.algebra.specs.Field.{Ops}
 use Rattle.algebra.specs.Erasure.{zeros, Alike, Places, recover}
 use Rattle.algebra.specs.Repair.{restored}
 use Rattle.algebra.proofs.Erasure.{fill_at, fill_outside, fill_values, fill_congr, erased_congr, place_cases}
@@ -21,21 +18,12 @@ use Rattle.layout.specs.declared.Layout.{Layout}
 use Rattle.layout.specs.Layout.{trays, checks, layers}
 use Rattle.blocks.specs.Inner.{Block}
 use Rattle.codeword.specs.Codeword.{symbol_at, point_at}
-use Rattle.syndrome.specs.Inner.{entry_of, Listed, Sums}
+use Rattle.syndrome.specs.Inner.{entry_of, Sums}
 use Rattle.restore.specs.Inner.{restored_at, Erasing, RestoredTo, erased_at, Cells, PutBlock, BlockRestored}
-use Rattle.solving.specs.Inner.{FoundBlock, Workspace}
+use Rattle.solving.specs.Inner.{FoundBlock}
 use Rattle.restore.proofs.Solve.{found_erased}
 
 -- ---- a row of what was found
-pub put_none : (total w first : ℕ) (es found was : List ℕ) → PutBlock total w first es found was was 0
-put_none total w first es found was = record {
-  long = refl;
-  here = λ k j h b. absurd (not-suc-le-zero h);
-  kept = λ x j h n. refl;
-  before = λ x j h. refl;
-  after = λ x j h n. refl;
-}
-
 module _ (total w first e : ℕ) (g : ℕ → ℕ) (was is : List ℕ) (inside : first + w ≤ total) (r : Run g was is (e * total + first) w) where
   -- another tray, or another layer of this one, stays
   other_tray : (x j : ℕ) → j < total → ¬ (x ≡ e) → get_or is (x * total + j) 0 ≡ get_or was (x * total + j) 0
@@ -78,9 +66,6 @@ put_more total w first es found was is new k s hk g r = record {
         other_tray total w first (get_or es k 0) _ is new s.inside r (get_or es i 0) (first + j) (let q = s.inside in omega arith) (λ e. d (s.apart i k (omega arith) hk e))
         ∙ g.here i j (omega arith) b
 
-pub put_end : (total w first : ℕ) (es found was is : List ℕ) (k : ℕ) → PutBlock total w first es found was is k → k ≤ length es → length es ≤ k → PutBlock total w first es found was is (length es)
-put_end total w first es found was is k g h l = let e : k ≡ length es = omega arith in subst (λ n. PutBlock total w first es found was is n) e g
-
 pub cells_of : (l : Layout) (total w first : ℕ) (es c found : List ℕ) → Block l w first → Erasing l total es c → checks l * w ≤ length found → Cells total w first es c found
 cells_of l total w first es c found b p h = record {
   apart = p.listed.places.apart;
@@ -99,15 +84,6 @@ put_in total w first es found was is k s e h = let q = s.trays_in k h in let i =
 
 pub put_from : (total w first : ℕ) (es found c : List ℕ) (k : ℕ) → Cells total w first es c found → k < length es → k * w + w ≤ length found
 put_from total w first es found c k s h = row_in found (length es) w k s.found_long h
-
-pub put_fits : (total w first : ℕ) (es found c : List ℕ) (k : ℕ) → Cells total w first es c found → k < length es → Fits w64 (length c) → Fits w64 (get_or es k 0 * total)
-put_fits total w first es found c k s h f = let q = s.trays_in k h in omega arith
-
-pub put_fits_2 : (total w first : ℕ) (es found c : List ℕ) (k : ℕ) → Cells total w first es c found → k < length es → Fits w64 (length c) → Fits w64 (get_or es k 0 * total + first)
-put_fits_2 total w first es found c k s h f = let q = s.trays_in k h in let i = s.inside in omega arith
-
-pub put_fits_3 : (total w first : ℕ) (es found c : List ℕ) (k : ℕ) → Cells total w first es c found → k < length es → Fits w64 (length found) → Fits w64 (k * w)
-put_fits_3 total w first es found c k s h f = let q = put_from total w first es found c k s h in omega arith
 
 module _ {A : Type 0} {f : Field A} (W : Working f) where
   open f use {ops}

@@ -2,11 +2,10 @@
 -- Assumes nothing.
 use mathlib.Core.Path.{◌≡◌, refl, sym, ap, ◌∙◌}
 use mathlib.Core.List.{List}
-use Prim.Native.Nat.{ℕ, zero, ◌+◌, ◌<◌, ◌≤◌}
+use Prim.Native.Nat.{ℕ, ◌+◌, ◌<◌, ◌≤◌}
 use native.Mathlib.Omega.{arith}
 use lib.ListN.{length}
-use Rattle.algebra.specs.Field.{Ops}
-use Rattle.algebra.specs.Lagrange.{check, solve}
+use Rattle.algebra.specs.Lagrange.{check}
 use Rattle.algebra.specs.Erasure.{zeros, rest, erased}
 use Rattle.algebra.proofs.Ring.{zero_add}
 use Rattle.algebra.specs.Shape.{Field}

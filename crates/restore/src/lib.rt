@@ -18,10 +18,8 @@ fn put_block(c: &mut [u8], total: usize, w: usize, first: usize, es: &[u32], fou
     requires { Cells total w first es.now c.old found.now }
     ensures { PutBlock total w first es.now found.now c.old c.new (length es.now) }
 {
-    let mut k = 0usize;
-    while k < es.len() {
-        kernel::copy(c, es[k] as usize * total + first, w, found, k * w);
-        k += 1;
+    for (k, x) in es.iter().enumerate() {
+        kernel::copy(c, *x as usize * total + first, w, found, k * w);
     }
 }
 
@@ -69,9 +67,7 @@ fn restore_blocks(
     ensures { RestoredTo gf256 l es.now c.old (layers l) c.new }
 {
     let w = blocks::block_width(l, e);
-    let count = total / w;
-    let mut q = 0usize;
-    while q < count {
+    for q in 0..total / w {
         restore_block(
             c,
             l,
@@ -87,7 +83,6 @@ fn restore_blocks(
             row,
             cur,
         );
-        q += 1;
     }
 }
 
@@ -133,12 +128,10 @@ fn found_terms(
     requires { Block l w first × Listed l es.now × Room w r sums.old cur.old row.old × (length es.now * w ≤ length found.now) }
     ensures { FoundTerms gf256 l w first r es.now found.now sums.old sums.new (length es.now) }
 {
-    let mut k = 0usize;
-    while k < es.len() {
+    for (k, x) in es.iter().enumerate() {
         kernel::copy(cur, 0, w, found, k * w);
-        syndrome::tray_points(row, l, w, first, es[k]);
+        syndrome::tray_points(row, l, w, first, *x);
         syndrome::add_terms(sums, w, r, cur, row);
-        k += 1;
     }
 }
 
@@ -188,9 +181,7 @@ fn blocks_fit(
     ensures { Says result ((j : ℕ) → j < layers l → LayerFits gf256 l es.now c.now j) }
 {
     let w = blocks::block_width(l, e);
-    let count = total / w;
-    let mut q = 0usize;
-    while q < count {
+    for q in 0..total / w {
         if !block_fits(
             c,
             l,
@@ -208,7 +199,6 @@ fn blocks_fit(
         ) {
             return false;
         }
-        q += 1;
     }
     true
 }

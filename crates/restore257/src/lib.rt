@@ -19,10 +19,8 @@ fn put_block(c: &mut [u16], total: usize, w: usize, first: usize, es: &[u32], fo
     requires { Cells total w first es.now c.old found.now }
     ensures { PutBlock total w first es.now found.now c.old c.new (length es.now) }
 {
-    let mut k = 0usize;
-    while k < es.len() {
-        kernel257::copy(c, es[k] as usize * total + first, w, found, k * w);
-        k += 1;
+    for (k, x) in es.iter().enumerate() {
+        kernel::copy(c, *x as usize * total + first, w, found, k * w);
     }
 }
 
@@ -46,7 +44,7 @@ fn restore_block(
         × Workspace l w sums.old found.old points.old coefs.old row.old × (w ≤ length cur.old) }
     ensures { BlockRestored gf257 l w first es.now c.old c.new }
 {
-    syndrome257::sum_kept(sums, l, w, first, es.len(), c, es, cur, row);
+    syndrome::sum_kept(sums, l, w, first, es.len(), c, es, cur, row);
     solving257::solve_block(found, l, e, w, first, es, sums, points, coefs, row);
     put_block(c, total, w, first, es, found);
 }
@@ -70,9 +68,7 @@ fn restore_blocks(
     ensures { RestoredTo gf257 l es.now c.old (layers l) c.new }
 {
     let w = blocks::block_width(l, e);
-    let count = total / w;
-    let mut q = 0usize;
-    while q < count {
+    for q in 0..total / w {
         restore_block(
             c,
             l,
@@ -88,7 +84,6 @@ fn restore_blocks(
             row,
             cur,
         );
-        q += 1;
     }
 }
 
@@ -134,12 +129,10 @@ fn found_terms(
     requires { Block l w first × Listed l es.now × Room w r sums.old cur.old row.old × (length es.now * w ≤ length found.now) }
     ensures { FoundTerms gf257 l w first r es.now found.now sums.old sums.new (length es.now) }
 {
-    let mut k = 0usize;
-    while k < es.len() {
-        kernel257::copy(cur, 0, w, found, k * w);
-        syndrome257::tray_points(row, l, w, first, es[k]);
-        syndrome257::add_terms(sums, w, r, cur, row);
-        k += 1;
+    for (k, x) in es.iter().enumerate() {
+        kernel::copy(cur, 0, w, found, k * w);
+        syndrome::tray_points(row, l, w, first, *x);
+        syndrome::add_terms(sums, w, r, cur, row);
     }
 }
 
@@ -164,10 +157,10 @@ pub fn block_fits(
     ensures { Says result (BlockFits gf257 l w first es.now c.now) }
 {
     let r = layout::check_count(l) as usize;
-    syndrome257::sum_kept(sums, l, w, first, r, c, es, cur, row);
+    syndrome::sum_kept(sums, l, w, first, r, c, es, cur, row);
     solving257::solve_block(found, l, e, w, first, es, sums, points, coefs, row);
     found_terms(sums, l, w, first, r, es, found, row, cur);
-    kernel257::all_zero(sums, r * w)
+    kernel::all_zero(sums, r * w)
 }
 
 // Block after block.
@@ -189,9 +182,7 @@ fn blocks_fit(
     ensures { Says result ((j : ℕ) → j < layers l → LayerFits gf257 l es.now c.now j) }
 {
     let w = blocks::block_width(l, e);
-    let count = total / w;
-    let mut q = 0usize;
-    while q < count {
+    for q in 0..total / w {
         if !block_fits(
             c,
             l,
@@ -209,7 +200,6 @@ fn blocks_fit(
         ) {
             return false;
         }
-        q += 1;
     }
     true
 }

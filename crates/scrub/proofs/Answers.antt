@@ -7,7 +7,7 @@ use Prim.Native.Nat.{ℕ, ◌*◌, ◌<◌, ◌≤◌}
 use borrow.Author.Tests.{lt-ltb, le-ltb, le-leb, eq-eqb, ne_eqb, eqb-true, leb-true, not-false}
 use lib.Dec.{eqb, ltb, leb, lit<}
 use lib.ListN.{length}
-use Rattle.lists.proofs.Bools.{all_holds, all_true, all_false, not_true_false, both, passed}
+use Rattle.lists.proofs.Bools.{all_holds, all_true, all_false, both, passed}
 use Rattle.algebra.specs.Coding.{Coded}
 use Rattle.algebra.specs.Shape.{Field}
 use Rattle.layout.specs.declared.Layout.{Layout}
@@ -39,9 +39,6 @@ module _ {A : Type 0} (f : Field A) (ok : Coded f.coding) (l : Layout) (c : List
       (all_holds (λ t. eqb (f.coding.val (check_at f l c j t)) (f.coding.val f.ops.zero)) (checks l) (not-false _ h) t k))
 
 module _ (L : ℕ) (w : Walk) where
-  pub implausible : (plausible L w ≡ true → ⊥) → false ≡ plausible L w
-  implausible = not_true_false (plausible L w)
-
   pub none_so_far : w.next ≤ L → w.bad ≤ w.next → w.bad ≡ 0 → eqb w.first L ≡ plausible L w
   unfolding plausible
   none_so_far p q e = simp (le-leb _ _ p, le-leb _ _ q, eq-eqb _ _ e)

@@ -1,31 +1,16 @@
 -- Looking at block after block.
 -- Assumes nothing.
-use mathlib.Core.Path.{◌≡◌, sym, ap, ◌∙◌}
+use mathlib.Core.Path.{◌≡◌, ap, ◌∙◌}
 use mathlib.Core.List.{List}
-use Prim.Native.Nat.{ℕ, ◌+◌, ◌-◌, ◌*◌, ◌≤◌}
+use Prim.Native.Nat.{ℕ, ◌+◌, ◌-◌}
 use native.Mathlib.Omega.{arith}
-use lib.ListN.{length}
 use Rattle.algebra.specs.Shape.{Field}
 use Rattle.layout.specs.declared.Layout.{Layout}
-use Rattle.layout.specs.Layout.{checks}
-use Rattle.blocks.specs.Inner.{block_limit, room_limit, Allowed}
-use Rattle.syndrome.specs.Inner.{Room}
+use Rattle.blocks.specs.Inner.{Allowed}
 use Rattle.scrub.specs.declared.Walk.{Walk}
 use Rattle.scrub.specs.Scrub.{bad_layer, after}
 use Rattle.scrub.specs.Inner.{Ahead}
 use Rattle.scrub.proofs.Layers.{after_next, after_high, after_on}
-
--- ---- room to work in
-pub room_here : (l : Layout) (p left r w : ℕ) (sums₀ cur₀ row₀ sums cur row : List ℕ) → r ≡ checks l → Allowed p left r w → room_limit ≤ length sums₀ → block_limit ≤ length cur₀ →
-    block_limit ≤ length row₀ → length sums ≡ length sums₀ → length cur ≡ length cur₀ → length row ≡ length row₀ → Room w (checks l) sums cur row
-room_here l p left r w sums₀ cur₀ row₀ sums cur row er a s u v es eu ev = record {
-  sums_long = rw (sym er) (omega (arith, a.fits));
-  cur_long = omega (arith, a.small);
-  row_long = omega (arith, a.small);
-}
-
-pub sums_in : (l : Layout) (w r : ℕ) (sums new cur row : List ℕ) → Room w (checks l) sums cur row → r ≡ checks l → length new ≡ length sums → r * w ≤ length new
-sums_in l w r sums new cur row g er e = rw (e, er) g.sums_long
 
 -- ---- a block of w layers more: what is to go, and that it leads to the same record
 pub more : {A : Type 0} (f : Field A) (l : Layout) (total : ℕ) (c : List ℕ) (walk : Walk) (count : ℕ) (seen s : Walk) (p left r w : ℕ) → Allowed p left r w → s ≡ after (bad_layer f l c) seen w →

@@ -104,18 +104,6 @@ first_look true (suc n) j e least = simp (ne_eqb (suc n + 1) 0 (λ z. omega arit
 first_look false n j e least = rw (add-zero n) refl
 
 module _ (t : Bool) (w : Walk) where
-  pub look_good : t ≡ false → record { next = w.next + 1; bad = w.bad; first = w.first } ≡ look t w
-  unfolding look
-  look_good e = rw e (same refl (sym (add-zero w.bad)) refl)
-
-  pub look_first : t ≡ true → w.bad ≡ 0 → record { next = w.next + 1; bad = 1; first = w.next } ≡ look t w
-  unfolding look
-  look_first e z = simp (e, z)
-
-  pub look_bad : t ≡ true → (w.bad ≡ 0 → ⊥) → record { next = w.next + 1; bad = w.bad + 1; first = w.first } ≡ look t w
-  unfolding look
-  look_bad e d = simp (e, ne_eqb _ _ d)
-
   pub look_high : w.bad ≤ w.next → (look t w).bad ≤ (look t w).next
   unfolding look
   look_high h = go t

@@ -8,7 +8,7 @@ use native.Mathlib.Nat.{mul-zero, mod-lt, div-add-mod', div-lt_iff_lt-mul}
 use native.Mathlib.Decide.{dec_lt}
 use native.Mathlib.Omega.{arith}
 use lib.ListN.{length, get_or}
-use Rattle.algebra.specs.Coding.{Coding, InRange}
+use Rattle.algebra.specs.Coding.{InRange}
 use Rattle.algebra.specs.Shape.{Field}
 use Rattle.range.specs.Range.{symbol_rows}
 use Rattle.range.proofs.Symbols.{rows_all, rows_range}
@@ -59,12 +59,6 @@ module _ {A : Type 0} (f : Field A) (l : Layout) (c : List ℕ) where
 
 -- ---- the code's test of them: n rows of total numbers, and k layers
 module _ (l : Layout) (total : ℕ) (c : List ℕ) (w : Walk) (budget n k : ℕ) (p : Scannable l total c) (en : n ≡ trays l) (ek : k ≡ step_layers total w budget) where
-  pub rows_fit : w.next ≤ total → w.next + k ≤ total
-  rows_fit h = omega arith
-
-  pub rows_long : length c ≡ n * total
-  rows_long = p.long ∙ ap₂ ◌*◌ (sym en) (sym p.total_is)
-
   pub rows_seen : {A : Type 0} (f : Field A) (b : Bool) → b ≡ symbol_rows f c n total w.next k → b ≡ step_symbols f l c w budget
   unfolding step_symbols
   rows_seen f b e =

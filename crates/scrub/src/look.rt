@@ -16,12 +16,10 @@ fn bad_column(sums: &[u8], w: usize, r: usize, j: usize) -> bool
     requires { (r * w ≤ length sums.now) × (j < w) }
     ensures { result ≡ column_bad gf256 w r sums.now j }
 {
-    let mut t = 0usize;
-    while t < r {
+    for t in 0..r {
         if index(kernel::at(sums, t * w + j)) != 0 {
             return true;
         }
-        t += 1;
     }
     false
 }
@@ -61,10 +59,8 @@ fn look_along(walk: Walk, w: usize, r: usize, sums: &[u8]) -> Walk
     ensures { (p : ℕ → Bool) → ((j : ℕ) → j < w → column_bad gf256 w r sums.now j ≡ p (walk.next + j)) → result ≡ after p walk w }
 {
     let mut seen = walk;
-    let mut j = 0usize;
-    while j < w {
+    for j in 0..w {
         seen = look_at(seen, bad_column(sums, w, r, j));
-        j += 1;
     }
     seen
 }
@@ -107,6 +103,7 @@ fn look_blocks(
     let r = layout::check_count(l);
     let mut seen = walk;
     let mut left = count;
+    // no plainer: the width of a block hangs on where the one before it ended
     while left > 0 {
         let first = seen.next;
         let w = blocks::block_at(l, first, left, r);

@@ -45,7 +45,7 @@ fn step_symbols(l: Layout, total: u32, c: &[u16], walk: Walk, budget: u64) -> bo
     let first = walk.next;
     let n = layout::tray_count(l);
     let count = step_layers(total, walk, budget);
-    range257::rows_are_symbols(
+    range::rows_are_symbols(
         c,
         n as usize,
         total as usize,

@@ -17,12 +17,10 @@ fn bad_column(sums: &[u16], w: usize, r: usize, j: usize) -> bool
     requires { (r * w ≤ length sums.now) × (j < w) }
     ensures { result ≡ column_bad gf257 w r sums.now j }
 {
-    let mut t = 0usize;
-    while t < r {
-        if index(kernel257::at(sums, t * w + j)) != 0 {
+    for t in 0..r {
+        if index(kernel::at(sums, t * w + j)) != 0 {
             return true;
         }
-        t += 1;
     }
     false
 }
@@ -62,10 +60,8 @@ fn look_along(walk: Walk, w: usize, r: usize, sums: &[u16]) -> Walk
     ensures { (p : ℕ → Bool) → ((j : ℕ) → j < w → column_bad gf257 w r sums.now j ≡ p (walk.next + j)) → result ≡ after p walk w }
 {
     let mut seen = walk;
-    let mut j = 0usize;
-    while j < w {
+    for j in 0..w {
         seen = look_at(seen, bad_column(sums, w, r, j));
-        j += 1;
     }
     seen
 }
@@ -86,7 +82,7 @@ fn look_block(
 {
     let r = layout::check_count(l) as usize;
     let first = walk.next;
-    syndrome257::sum_kept(sums, l, w, first as usize, r, c, none, cur, row);
+    syndrome::sum_kept(sums, l, w, first as usize, r, c, none, cur, row);
     look_along(walk, w, r, sums)
 }
 
@@ -108,6 +104,7 @@ fn look_blocks(
     let r = layout::check_count(l);
     let mut seen = walk;
     let mut left = count;
+    // no plainer: the width of a block hangs on where the one before it ended
     while left > 0 {
         let first = seen.next;
         let w = blocks::block_at(l, first, left, r);

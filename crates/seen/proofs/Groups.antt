@@ -12,7 +12,6 @@ use lib.ListN.{get_or}
 use borrow.Author.Tests.{lt-ltb, ltb-true}
 use Rattle.lists.specs.Lists.{all}
 use Rattle.lists.proofs.Bools.{told_false, told_true, not_true_false, all_true, all_holds}
-use Rattle.algebra.specs.Coding.{Coding}
 use Rattle.algebra.specs.Shape.{Field}
 use Rattle.range.specs.Range.{symbols_from}
 use Rattle.range.proofs.Symbols.{symbols_true, symbols_all}

@@ -4,21 +4,17 @@ use mathlib.Core.Path.{◌≡◌, refl, sym, ap, ◌∙◌, subst}
 use mathlib.Core.Bool.{Bool, true, false, cond, not, ◌&&◌}
 use mathlib.Core.List.{List}
 use Prim.Native.Nat.{ℕ, ◌+◌, ◌-◌, ◌*◌, ◌/◌, ◌<◌, ◌≤◌, min}
-use native.Mathlib.Nat.{mul_assoc, le-mul_of_pos_right}
 use native.Mathlib.Omega.{arith}
-use mir.Val.{Fits}
-use mir.Syntax.{w64}
 use lib.Dec.{eqb, leb, ltb}
 use lib.ListN.{length, get_or}
 use borrow.Author.Tests.{eq-eqb, ne_eqb, leb-true, ltb-true}
 use Rattle.lists.specs.Lists.{all, absent, all_below}
 use Rattle.lists.proofs.Bools.{and_true, not_both, told_false, told_true, all_true}
 use Rattle.lists.proofs.Numbered.{below_all}
-use Rattle.algebra.specs.Coding.{Coding}
 use Rattle.algebra.specs.Shape.{Field}
 use Rattle.algebra.specs.Layers.{group_of}
 use Rattle.layout.specs.declared.Layout.{Layout}
-use Rattle.layout.specs.Layout.{trays, digits, layers, groups, traffic, Cabinet}
+use Rattle.layout.specs.Layout.{trays, digits, layers, groups, Cabinet}
 use Rattle.layout.proofs.Facts.{rack_in}
 use Rattle.range.specs.Range.{symbols_from, symbol_rows}
 use Rattle.range.proofs.Symbols.{symbols_true}
@@ -27,17 +23,7 @@ use Rattle.seen.specs.Seen.{layer_symbol, sound_symbols, piece_symbols}
 use Rattle.seen.specs.Inner.{Looking}
 
 -- ---- what the loops over a piece are told
-module _ (l : Layout) (lost shares : List ℕ) (total : ℕ) (long : length shares ≡ length lost * traffic l) (e : total ≡ groups l) where
-  pub rows_told : length shares ≡ length lost * l.helpers * total
-  rows_told = long ∙ sym (mul_assoc (length lost) l.helpers (groups l)) ∙ ap (λ n. length lost * l.helpers * n) (sym e)
-
-  pub rows_fit : (first : ℕ) → first < total → Fits w64 (length shares) → Fits w64 (length lost * l.helpers)
-  rows_fit first k t = record { fits = omega (arith, rows_told, le-mul_of_pos_right {m = total} (length lost * l.helpers) (omega arith), t.fits) }
-
-pub rows_within : (total first count budget : ℕ) → count ≡ min budget (total - first) → first < total → first + count ≤ total
-rows_within total first count budget ec k = omega arith
-
-pub looking_of : (l : Layout) (lost host : List ℕ) (total first count budget : ℕ) → Cabinet l → all_below lost (trays l) ≡ true → length host ≡ l.size * layers l → ¬ (length lost ≡ 0) →
+pub looking_of : {X : Type 0} (l : Layout) (lost : List ℕ) (host : List X) (total first count budget : ℕ) → Cabinet l → all_below lost (trays l) ≡ true → length host ≡ l.size * layers l → ¬ (length lost ≡ 0) →
     total ≡ groups l → count ≡ min budget (total - first) → first < total → Looking l (get_or lost 0 0 / l.size) host first count
 looking_of l lost host total first count budget a b e some et ec k = record {
   adm = a;

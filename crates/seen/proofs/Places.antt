@@ -9,7 +9,7 @@ use lib.ListN.{length}
 use Rattle.seen.specs.Inner.{Places}
 use Rattle.seen.proofs.Runs.{block_layer_lem, last_multiple, multiples_ordered}
 
-module _ (host : List ℕ) (at s unit : ℕ) where
+module _ {X : Type 0} (host : List X) (at s unit : ℕ) where
   pub places_less : (m n : ℕ) → Places host at s unit n → m ≤ n → Places host at s unit m
   places_less m n t h = record {
     unit_pos = t.unit_pos;
@@ -24,9 +24,6 @@ module _ (host : List ℕ) (at s unit : ℕ) where
     run_in a h =
         let e = block_layer_lem s unit t.unit_pos p w (w - 1) a block (omega arith) in
         omega (arith, t.inside (p + (w - 1)) a (omega arith) h)
-
-    pub digit_small : (a : ℕ) → p / unit * s + a ≤ (p / unit * s + a) * unit
-    digit_small a = le-mul_of_pos_right (p / unit * s + a) t.unit_pos
 
   -- the three parts of groups that go beyond a block
   pub record Parts (first count : ℕ) : Type 0 where
@@ -52,7 +49,3 @@ module _ (host : List ℕ) (at s unit : ℕ) where
         small = le-mul_of_pos_right (first + count) t.digits_pos;
         long = t.long;
       }
-
-  -- before it is known whether they do
-  pub low_count : (first count : ℕ) → Places host at s unit (first + count) → first % unit + count ≤ length host
-  low_count first count t = omega (arith, mod-le first unit, le-mul_of_pos_right (first + count) t.digits_pos, t.long)

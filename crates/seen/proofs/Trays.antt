@@ -6,21 +6,18 @@ use mathlib.Core.List.{List}
 use Prim.Native.Nat.{ℕ, ◌+◌, ◌*◌, ◌^◌, ◌<◌, ◌≤◌}
 use native.Mathlib.Nat.{mul-le-mul_right, div-mul-le_self}
 use native.Mathlib.Omega.{arith}
-use mir.Val.{Fits}
-use mir.Syntax.{w32, w64}
 use lib.Dec.{leb, ltb}
 use lib.ListN.{get_or}
 use borrow.Author.Tests.{leb-true, ltb-true, le-leb, lt-ltb}
 use Rattle.lists.specs.Lists.{all, absent}
 use Rattle.lists.proofs.Bools.{both, and_true, told_false, told_true, all_true, all_false, all_holds}
-use Rattle.lists.proofs.Numbers.{cell_in, mul_below}
-use Rattle.algebra.specs.Coding.{Coding}
+use Rattle.lists.proofs.Numbers.{cell_in}
 use Rattle.algebra.specs.Shape.{Field}
 use Rattle.algebra.specs.Layers.{digit, group_of, layer_of}
 use Rattle.algebra.proofs.Layers.{power_pos, digit_below, layer_group, layer_back}
 use Rattle.kernel.proofs.Rows.{row_before}
 use Rattle.layout.specs.declared.Layout.{Layout}
-use Rattle.layout.specs.Layout.{digits, layers, groups, tray_limit, layer_limit}
+use Rattle.layout.specs.Layout.{digits, layers, groups}
 use Rattle.layout.proofs.Facts.{bounds}
 use Rattle.layout.proofs.Numbers.{layer_below}
 use Rattle.range.specs.Range.{symbols_from}
@@ -34,7 +31,7 @@ block_is : (s h p a : ℕ) → block_layer s (s ^ h) p a ≡ layer_of s h p a
 unfolding block_layer layer_of
 block_is s h p a = refl
 
-module _ (l : Layout) (h : ℕ) (host : List ℕ) (first count : ℕ) (told : Looking l h host first count) where
+module _ {X : Type 0} (l : Layout) (h : ℕ) (host : List X) (first count : ℕ) (told : Looking l h host first count) where
   abbrev some : 0 < digits l
   some = (bounds l told.adm).digits_low
 
@@ -56,16 +53,7 @@ module _ (l : Layout) (h : ℕ) (host : List ℕ) (first count : ℕ) (told : Lo
       subst (λ n. Places host (g * n) s unit (first + count)) (sym et) (subst (λ n. Places host (g * layers l) n unit (first + count)) (sym es)
       (subst (λ n. Places host (g * layers l) (digits l) n (first + count)) (sym eu) (places g hg)))
 
-  pub tray_fits : Fits w32 (h * l.size)
-  tray_fits = let b = bounds l told.adm in record { fits = mul_below tray_limit tray_limit (omega (arith, told.host_in)) (omega arith) tt }
-
-  pub place_fits : (g : ℕ) → g < l.size → Fits w32 (h * l.size + g)
-  place_fits g hg = record { fits = omega (arith, cell_in l.racks l.size h g told.host_in hg, told.adm.trays_high) }
-
-  pub start_fits : (g total : ℕ) → total ≡ layers l → g < l.size → Fits w64 (g * total)
-  start_fits g total et hg = let b = bounds l told.adm in record { fits = mul_below tray_limit layer_limit (omega arith) (omega (arith, told.adm.layers_high)) tt }
-
-module _ {A : Type 0} (f : Field A) (l : Layout) (h : ℕ) (host : List ℕ) (first count : ℕ) (told : Looking l h host first count) (g : ℕ) where
+module _ {A X : Type 0} (f : Field A) (l : Layout) (h : ℕ) (host : List ℕ) (xs : List X) (first count : ℕ) (told : Looking l h xs first count) (g : ℕ) where
   abbrev s : ℕ
   s = digits l
 
@@ -124,14 +112,14 @@ module _ {A : Type 0} (f : Field A) (lost : List ℕ) (tray : ℕ) (host : List 
 -- ---- all trays
 module _ {A : Type 0} (f : Field A) (l : Layout) (lost : List ℕ) (h : ℕ) (host : List ℕ) (first count : ℕ) where
   -- what the test of a tray answers, with the layout's numbers as worked out
-  pub tray_sound : Looking l h host first count → (g total s unit : ℕ) (r : Bool) → total ≡ layers l → s ≡ digits l → unit ≡ digits l ^ h →
+  pub tray_sound : {X : Type 0} {xs : List X} → Looking l h xs first count → (g total s unit : ℕ) (r : Bool) → total ≡ layers l → s ≡ digits l → unit ≡ digits l ^ h →
       r ≡ tray_symbols f lost (h * l.size + g) host (g * total) s unit first count →
       r ≡ sound_symbols f l lost h host first count g
-  tray_sound told g total s unit r et es eu q =
+  tray_sound {X} {xs} told g total s unit r et es eu q =
       q ∙ ap (λ n. tray_symbols f lost (h * l.size + g) host (g * n) s unit first count) et
       ∙ ap (λ n. tray_symbols f lost (h * l.size + g) host (g * layers l) n unit first count) es
       ∙ ap (λ n. tray_symbols f lost (h * l.size + g) host (g * layers l) (digits l) n first count) eu
-      ∙ sound_is f l h host first count told g lost
+      ∙ sound_is f l h host xs first count told g lost
 
   pub trays_false : (g : ℕ) (r : Bool) → g < l.size → r ≡ sound_symbols f l lost h host first count g → not r ≡ true → false ≡ all (sound_symbols f l lost h host first count) l.size
   trays_false g r k q m = all_false _ l.size g k (λ z. false≢true (sym (told_false q m) ∙ z))

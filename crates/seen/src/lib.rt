@@ -4,37 +4,49 @@
 
 ghost use Rattle.std.specs.Prelude.{◌≡◌, true, ◌+◌, ◌*◌, ◌%◌, ◌<◌, ◌≤◌, length};
 ghost use Rattle.lists.specs.Lists.{all, all_below};
-ghost use Rattle.symbol.specs.Elem.{gf256};
 ghost use Rattle.layout.specs.Layout.{trays, layers, traffic, Cabinet};
 ghost use Rattle.seen.specs.Seen.{sound_symbols, piece_symbols};
 ghost use Rattle.seen.specs.Inner.{group_symbols, tray_symbols, Places, Looking};
 
+use field::FieldNumber;
 use layout::Layout;
 
 // Whether a tray's numbers of w groups from p on, all of one block, are symbols; the tray begins at the place `at`.
-fn part_symbols(host: &[u8], at: usize, s: usize, unit: usize, p: usize, w: usize) -> bool
+fn part_symbols<N: FieldNumber>(
+    host: &[N],
+    at: usize,
+    s: usize,
+    unit: usize,
+    p: usize,
+    w: usize,
+) -> bool
     requires { Places host.now at s unit (p + w) × (p % unit + w ≤ unit) }
-    ensures { result ≡ group_symbols gf256 host.now at s unit p w }
+    ensures { result ≡ group_symbols N.field (N.codes host.now) at s unit p w }
 {
     if w == 0 {
         return true;
     }
     let low = p % unit;
     let block = p / unit * s;
-    let mut a = 0usize;
-    while a < s {
+    for a in 0..s {
         if !range::are_symbols(host, at + (block + a) * unit + low, w) {
             return false;
         }
-        a += 1;
     }
     true
 }
 
 // The same for any groups: a part of a block, whole blocks, and a part of a block.
-fn groups_symbols(host: &[u8], at: usize, s: usize, unit: usize, first: usize, count: usize) -> bool
+fn groups_symbols<N: FieldNumber>(
+    host: &[N],
+    at: usize,
+    s: usize,
+    unit: usize,
+    first: usize,
+    count: usize,
+) -> bool
     requires { Places host.now at s unit (first + count) }
-    ensures { result ≡ group_symbols gf256 host.now at s unit first count }
+    ensures { result ≡ group_symbols N.field (N.codes host.now) at s unit first count }
 {
     let low = first % unit;
     if low + count <= unit {
@@ -53,10 +65,10 @@ fn groups_symbols(host: &[u8], at: usize, s: usize, unit: usize, first: usize, c
 }
 
 // Whether a tray is listed, or its numbers of these groups are symbols.
-pub fn tray_symbols(
+pub fn tray_symbols<N: FieldNumber>(
     lost: &[u32],
     tray: u32,
-    host: &[u8],
+    host: &[N],
     at: usize,
     s: usize,
     unit: usize,
@@ -64,7 +76,7 @@ pub fn tray_symbols(
     count: usize,
 ) -> bool
     requires { Places host.now at s unit (first + count) }
-    ensures { result ≡ tray_symbols gf256 lost.now tray host.now at s unit first count }
+    ensures { result ≡ tray_symbols N.field lost.now tray (N.codes host.now) at s unit first count }
 {
     if !lists::is_absent(lost, tray) {
         return true;
@@ -73,16 +85,22 @@ pub fn tray_symbols(
 }
 
 // Tray after tray.
-fn host_symbols(l: Layout, lost: &[u32], h: u32, host: &[u8], first: usize, count: usize) -> bool
+fn host_symbols<N: FieldNumber>(
+    l: Layout,
+    lost: &[u32],
+    h: u32,
+    host: &[N],
+    first: usize,
+    count: usize,
+) -> bool
     requires { Looking l h host.now first count }
-    ensures { result ≡ all (sound_symbols gf256 l lost.now h host.now first count) l.size }
+    ensures { result ≡ all (sound_symbols N.field l lost.now h (N.codes host.now) first count) l.size }
 {
     let u = l.size;
     let total = layout::layer_count(l) as usize;
     let s = layout::digit_count(l) as usize;
     let unit = blocks::block_width(l, h);
-    let mut g = 0u32;
-    while g < u {
+    for g in 0..u {
         if !tray_symbols(
             lost,
             h * u + g,
@@ -95,22 +113,21 @@ fn host_symbols(l: Layout, lost: &[u32], h: u32, host: &[u8], first: usize, coun
         ) {
             return false;
         }
-        g += 1;
     }
     true
 }
 
 // Whether what a call looks at are symbols.
-pub fn piece_symbols(
+pub fn piece_symbols<N: FieldNumber>(
     l: Layout,
     lost: &[u32],
-    shares: &[u8],
-    host: &[u8],
+    shares: &[N],
+    host: &[N],
     first: u64,
     budget: u64,
 ) -> bool
     requires { Cabinet l × (all_below lost.now (trays l) ≡ true) × (length shares.now ≡ length lost.now * traffic l) × (length host.now ≡ l.size * layers l) }
-    ensures { result ≡ piece_symbols gf256 l lost.now shares.now host.now first budget }
+    ensures { result ≡ piece_symbols N.field l lost.now (N.codes shares.now) (N.codes host.now) first budget }
 {
     let u = l.size;
     let d = l.helpers as usize;
@@ -122,7 +139,7 @@ pub fn piece_symbols(
     if total as u64 <= first {
         return true;
     }
-    let count = lists::smaller(budget, total as u64 - first);
+    let count = budget.min(total as u64 - first);
     if !range::rows_are_symbols(
         shares,
         e * d,

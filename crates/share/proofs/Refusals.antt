@@ -41,13 +41,6 @@ pub record Shareable (N : ℕ) (l : Layout) (e lent host helper given room : ℕ
   pub few : e + l.dimension % l.size ≤ l.size
   pub differ : ¬ (host ≡ helper)
 
--- two tests, one after the other
-pub first_false : (b s t : Bool) → b ≡ s → not b ≡ true → false ≡ (s && t)
-first_false b s t e n = ap (λ y. y && t) (sym (told_false e n))
-
-pub second_told : (b s r t : Bool) → b ≡ s → not b ≡ false → r ≡ t → r ≡ (s && t)
-second_told b s r t e n q = ap₂ ◌&&◌ (sym (told_true e n)) q
-
 -- a whole buffer
 pub symbols_in : {A : Type 0} (f : Field A) (xs : List ℕ) → ((k : ℕ) → k < length xs → get_or xs k 0 < f.coding.size) → symbols_from f xs 0 (length xs) ≡ true
 symbols_in f xs h = sym (symbols_true f xs 0 (length xs) (λ k t. subst (λ n. get_or xs n 0 < f.coding.size) (sym (zero-add k)) (h k t)))
@@ -69,9 +62,6 @@ seen_so e b h t = sym (ap (λ y. cond y true b) (ne_eqb e 0 (λ q. omega arith))
 
 seen_all : (e : ℕ) (b : Bool) → 0 < e → b ≡ true → cond (eqb e 0) true b ≡ true
 seen_all e b h t = ap (λ y. cond y true b) (ne_eqb e 0 (λ q. omega arith)) ∙ t
-
-pub none_seen : (e : ℕ) (b : Bool) → e ≡ 0 → true ≡ cond (eqb e 0) true b
-none_seen e b q = sym (ap (λ y. cond y true b) (eq-eqb e 0 q))
 
 pub some_seen : (e : ℕ) (b : Bool) → (e ≡ 0 → ⊥) → b ≡ cond (eqb e 0) true b
 some_seen e b q = sym (ap (λ y. cond y true b) (ne_eqb e 0 q))

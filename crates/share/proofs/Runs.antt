@@ -1,37 +1,25 @@
 -- A tray and sums in runs: where they lie, and a turn of each loop over them.
 -- Assumes nothing.
-use mathlib.Core.Path.{◌≡◌, refl, sym, ap, ap₂, ◌∙◌, subst}
+use mathlib.Core.Path.{◌≡◌, ap, ap₂, ◌∙◌, subst}
 use mathlib.Core.List.{List}
-use Prim.Native.Nat.{ℕ, ◌+◌, ◌*◌, ◌%◌, ◌<◌, ◌≤◌}
-use native.Mathlib.Nat.{not-suc-le-zero, add_comm, add-mul, mul_assoc, mul_comm, le-mul_of_pos_right}
+use Prim.Native.Nat.{ℕ, ◌+◌, ◌*◌, ◌<◌, ◌≤◌}
+use native.Mathlib.Nat.{add_comm, add-mul, mul_assoc}
 use native.Mathlib.Decide.{ℕ_discrete}
 use native.Mathlib.Omega.{arith}
 use lib.ListN.{length, get_or}
 use Rattle.lists.proofs.Numbers.{cell_in, cell_same}
-use Rattle.algebra.specs.Field.{Ops}
 use Rattle.algebra.specs.Sum.{sum}
 use Rattle.algebra.proofs.Sum.{sum_congr}
-use Rattle.algebra.specs.Coding.{Coded}
-use Rattle.algebra.specs.Shape.{Field, FieldLaws}
+use Rattle.algebra.specs.Shape.{Field}
 use Rattle.algebra.specs.Plain.{Working}
-use Rattle.kernel.specs.Inner.{Run, apart, grid, Gridding, added_grid, Spaced, Spacing, added_spaced, Parts}
+use Rattle.kernel.specs.Inner.{Run, apart, grid, Gridding, added_grid, Spaced, Spacing, added_spaced}
 use Rattle.kernel.proofs.Rows.{row_before, row_end}
 use Rattle.share.specs.Inner.{InTrays, AcrossAdded, layered, TraysAdded}
-
--- the widths of blocks
-pub parts_none : (run : ℕ) → Parts run 0
-parts_none run = record { narrow = omega arith; whole = λ h. absurd (omega arith) }
-
-pub parts_four : (run : ℕ) → run % 4 ≡ 0 → Parts run 4
-parts_four run e = record { narrow = omega arith; whole = λ h. e }
-
-pub parts_sixteen : (run : ℕ) → run % 16 ≡ 0 → Parts run 16
-parts_sixteen run e = record { narrow = omega arith; whole = λ h. e }
 
 -- m trays
 module _ {A : Type 0} {f : Field A} (s run count : ℕ) (symbols : List ℕ) (at far m : ℕ) (sums : List ℕ) (t : InTrays f s run count symbols at far m sums) where
   -- run q of the sums, and where the runs of a tray lie that go to it
-  pub sums_run : (q : ℕ) → q < count → q * run + run ≤ length sums
+  sums_run : (q : ℕ) → q < count → q * run + run ≤ length sums
   sums_run q h = omega (arith, row_before q count run h, t.room)
 
   tray_runs : (q : ℕ) → q < count → q * s * run + s * run ≤ far
@@ -43,22 +31,12 @@ module _ {A : Type 0} {f : Field A} (s run count : ℕ) (symbols : List ℕ) (at
   one_tray : far ≤ m * far
   one_tray = omega (arith, row_before 0 m far t.some_trays)
 
-  pub run_in : (q : ℕ) → q < count → at + q * s * run + run ≤ length symbols
+  run_in : (q : ℕ) → q < count → at + q * s * run + run ≤ length symbols
   run_in q h = omega (arith, tray_runs q h, one_run, one_tray, t.long)
 
-  -- its number is a number
-  pub run_number : (q : ℕ) → q < count → q * s ≤ length symbols
-  run_number q h = omega (arith, run_in q h, le-mul_of_pos_right (q * s) t.some)
-
   -- tray g
-  pub tray_in : (g : ℕ) → g < m → at + g * far + far ≤ length symbols
+  tray_in : (g : ℕ) → g < m → at + g * far + far ≤ length symbols
   tray_in g h = omega (arith, row_before g m far h, t.long)
-
-  pub period_in : at + s * run ≤ length symbols
-  period_in = omega (arith, tray_runs 0 t.some_runs, one_tray, t.long)
-
-  pub first_in : (i : ℕ) → i < run → at + i ≤ length symbols
-  first_in i h = omega (arith, one_run, period_in)
 
   -- what the kernel is told of number i of each run
   pub spacing : (i : ℕ) (is : List ℕ) → i < run → AcrossAdded f s run count i symbols at far m sums is → Spacing f is i run count symbols (at + i) (s * run) run s far m
@@ -84,35 +62,12 @@ module _ {A : Type 0} {f : Field A} (s run count : ℕ) (symbols : List ℕ) (at
     few = t.few;
   }
 
-module _ {A : Type 0} (f : Field A) (run count : ℕ) (symbols : List ℕ) (at far : ℕ) (was : List ℕ) where
-  -- a number of digits or of trays that is written out
-  pub same_digits : (s n m : ℕ) → s ≡ n → InTrays f s run count symbols at far m was → InTrays f n run count symbols at far m was
-  same_digits s n m e t = rw (sym e) t
-
-  pub same_trays : (s m n : ℕ) → m ≡ n → InTrays f s run count symbols at far m was → InTrays f s run count symbols at far n was
-  same_trays s m n e t = rw (sym e) t
-
-  pub digits_back : (s n m : ℕ) (is : List ℕ) → s ≡ n → TraysAdded f n run count symbols at far m was is → TraysAdded f s run count symbols at far m was is
-  digits_back s n m is e d = rw e d
-
-  pub trays_back : (s m n : ℕ) (is : List ℕ) → m ≡ n → TraysAdded f s run count symbols at far n was is → TraysAdded f s run count symbols at far m was is
-  trays_back s m n is e d = rw e d
-
 module _ {A : Type 0} {f : Field A} (W : Working f) where
   open f use {ops}
   open f.coding use {elem, size}
 
   -- across the runs
   module _ (s run count : ℕ) (symbols : List ℕ) (at far m : ℕ) (was : List ℕ) where
-    pub across_none : AcrossAdded f s run count 0 symbols at far m was was
-    across_none = record {
-      same = refl;
-      done = λ q i h l. absurd (not-suc-le-zero l);
-      small = λ q i h l. absurd (not-suc-le-zero l);
-      later = λ q i h l. refl;
-      rest = λ k h. refl;
-    }
-
     -- number n of each run
     pub across_more : (n : ℕ) (is new : List ℕ) → n < run → AcrossAdded f s run count n symbols at far m was is →
         Spaced (added_spaced f is n run symbols (at + n) (s * run) run s far m) is new n run count → AcrossAdded f s run count (n + 1) symbols at far m was new
@@ -148,9 +103,6 @@ module _ {A : Type 0} {f : Field A} (W : Working f) where
 
   -- run after run
   module _ (s run : ℕ) (symbols : List ℕ) (at far m : ℕ) (was : List ℕ) where
-    pub runs_none : TraysAdded f s run 0 symbols at far m was was
-    runs_none = record { same = refl; done = λ q i h. absurd (not-suc-le-zero h); small = λ p q i h. absurd (not-suc-le-zero h); rest = λ n h. refl }
-
     pub runs_more : (q : ℕ) (is new : List ℕ) → TraysAdded f s run q symbols at far m was is → Run (added_grid f is (q * run) symbols (at + q * s * run) run s far m) is new (q * run) run →
         TraysAdded f s run (q + 1) symbols at far m was new
     unfolding added_grid grid apart layered

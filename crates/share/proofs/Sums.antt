@@ -3,13 +3,12 @@
 use mathlib.Core.Path.{◌≡◌, sym, ap, ap₂, ◌∙◌, subst}
 use mathlib.Core.List.{List}
 use Prim.Native.Nat.{ℕ, suc, ◌+◌, ◌-◌, ◌*◌, ◌/◌, ◌%◌, ◌^◌, min, ◌<◌, ◌≤◌}
-use native.Mathlib.Nat.{mul_assoc, mul_comm, mul-pos, mul-div_cancel, mul-le-mul, le-mul_of_pos_right, div-lt_iff_lt-mul, mod-lt, div-add-mod', pow-suc, le_of_lt}
+use native.Mathlib.Nat.{mul_assoc, mul_comm, mul-div_cancel, mul-le-mul, div-lt_iff_lt-mul, mod-lt, div-add-mod', pow-suc, le_of_lt}
 use native.Mathlib.Omega.{arith}
-use lib.ListN.{length, get_or, drop}
+use lib.ListN.{get_or, drop}
 use lib.Seq.{get_or-take, get_or-drop}
 use lib.Pow.{pow-add}
 use Rattle.lists.proofs.Numbers.{cell_in}
-use Rattle.algebra.specs.Field.{Ops}
 use Rattle.algebra.specs.Sum.{sum}
 use Rattle.algebra.specs.Layers.{layer_of}
 use Rattle.algebra.proofs.Layers.{power_pos}
@@ -21,6 +20,7 @@ use Rattle.layout.specs.declared.Layout.{Layout}
 use Rattle.layout.specs.Layout.{digits, layers, groups, layer_limit, Cabinet, Admissible}
 use Rattle.layout.proofs.Facts.{bounds, power_in}
 use Rattle.layout.proofs.Numbers.{groups_are}
+use Rattle.layout.proofs.Parts.{power_known}
 use Rattle.codeword.specs.Codeword.{shape_of}
 use Rattle.codeword.proofs.Usable.{usable}
 use Rattle.share.specs.Inner.{CountsOf, RunsOf, InTrays, cut, layered, TraysAdded, sum_at, Summing, Summed}
@@ -33,13 +33,9 @@ pub cut_at : (l : Layout) (symbols : List ℕ) (from j : ℕ) → j < layers l �
 unfolding cut
 cut_at l symbols from j h = get_or-take (layers l) (drop from symbols) j 0 h ∙ get_or-drop from symbols j 0
 
--- the length of a run
-run_of : (l : Layout) (h s run : ℕ) → Cabinet l → h < l.racks → s ≡ digits l → run ≡ min (s ^ h) (layer_limit + 1) → run ≡ digits l ^ h
-run_of l h s run a host es er = er ∙ ap (λ b. min (b ^ h) (layer_limit + 1)) es ∙ omega (arith, power_in l a h (le_of_lt host))
-
--- it is not zero
+-- the length of a run is not zero
 pub run_some : (l : Layout) (h s run : ℕ) → Cabinet l → h < l.racks → s ≡ digits l → run ≡ min (s ^ h) (layer_limit + 1) → 0 < run
-run_some l h s run a host es er = rw (run_of l h s run a host es er) (power_pos (digits l) h (bounds l a).digits_low)
+run_some l h s run a host es er = rw (power_known l h s run es er a host) (power_pos (digits l) h (bounds l a).digits_low)
 
 pub runs_are : (l : Layout) (h s total many run : ℕ) → Cabinet l → h < l.racks → CountsOf l s total many → run ≡ min (s ^ h) (layer_limit + 1) → RunsOf l h s run (many / run) total
 runs_are l h s total many run a host n er = record {
@@ -50,7 +46,7 @@ runs_are l h s total many run a host n er = record {
 }
   where
     run_is : run ≡ digits l ^ h
-    run_is = run_of l h s run a host n.digits_are er
+    run_is = power_known l h s run n.digits_are er a host
 
     -- L/s is a power of s, of which the run is a factor
     whole : digits l ^ (l.racks - 1) ≡ digits l ^ (l.racks - 1 - h) * digits l ^ h

@@ -87,8 +87,7 @@ fn add_runs(
     requires { InTrays gf256 s run count symbols.now at far m sums.old × Parts run width }
     ensures { TraysAdded gf256 s run count symbols.now at far m sums.old sums.new }
 {
-    let mut q = 0usize;
-    while q < count {
+    for q in 0..count {
         kernel::add_row(
             sums,
             q * run,
@@ -101,7 +100,6 @@ fn add_runs(
             m,
             width,
         );
-        q += 1;
     }
 }
 
@@ -305,8 +303,7 @@ fn add_across(
     requires { InTrays gf256 s run count symbols.now at far m sums.old }
     ensures { TraysAdded gf256 s run count symbols.now at far m sums.old sums.new }
 {
-    let mut i = 0usize;
-    while i < run {
+    for i in 0..run {
         kernel::add_spaced(
             sums,
             i,
@@ -320,7 +317,6 @@ fn add_across(
             far,
             m,
         );
-        i += 1;
     }
 }
 
@@ -373,12 +369,10 @@ fn add_weighted(l: Layout, count: u32, x: u32, sums: &[u8], shares: &mut [u8])
 {
     let u = l.size;
     let total = layout::group_count(l);
-    let mut m = 1u32;
-    while m < count {
+    for m in 1..count {
         let weight = points::place_power(l, x % u, m);
         let to = codeword::cell(total, m, 0);
         kernel::add_multiple(shares, to, total as usize, sums, 0, weight);
-        m += 1;
     }
 }
 
@@ -417,11 +411,9 @@ fn add_rest(
     ensures { Rested gf256 l count h x symbols.now at m shares.old shares.new }
 {
     let total = layout::layer_count(l);
-    let mut k = 0u32;
-    while k < m {
+    for k in 0..m {
         let from = at + codeword::cell(total, k, 0);
         add_later(l, count, h, x + k, r, symbols, from, shares);
-        k += 1;
     }
 }
 
@@ -593,6 +585,7 @@ fn gather(l: Layout, n: Counts, count: u32, h: u32, helper: u32, rack: &[u8], ou
     let r = runs_of(l, n, h);
     let total = r.layers;
     kernel::fill(out, 0, out.len(), 0);
+    // a turn goes on by as many trays as it feeds: no plainer form was found
     let mut g = 0u32;
     while g < u {
         let m = at_once(u - g);

@@ -18,7 +18,7 @@ use layout::power::capped_power;
 use layout::{Layout, Rack, Tray};
 use symbol257::plain::ORDER;
 
-// Runs shorter than this are added across. Longer ones are added in blocks, of kernel257::BLOCK symbols or of so many, where the run is a multiple of that.
+// Runs shorter than this are added across. Longer ones are added in blocks, of kernel::BLOCK symbols or of so many, where the run is a multiple of that.
 const SHORT: usize = 4;
 
 // The most trays that are fed at once.
@@ -88,9 +88,8 @@ fn add_runs(
     requires { InTrays gf257 s run count symbols.now at far m sums.old × Parts run width }
     ensures { TraysAdded gf257 s run count symbols.now at far m sums.old sums.new }
 {
-    let mut q = 0usize;
-    while q < count {
-        kernel257::add_row(
+    for q in 0..count {
+        kernel::add_row(
             sums,
             q * run,
             run,
@@ -102,7 +101,6 @@ fn add_runs(
             m,
             width,
         );
-        q += 1;
     }
 }
 
@@ -151,27 +149,27 @@ fn add_two(
     requires { InTrays gf257 2 run count symbols.now at far m sums.old × (run % 4 ≡ 0) }
     ensures { TraysAdded gf257 2 run count symbols.now at far m sums.old sums.new }
 {
-    if run % kernel257::BLOCK != 0 {
+    if run % kernel::BLOCK != 0 {
         add_two_short(run, count, symbols, at, far, m, sums);
         return;
     }
     if m == 1 {
-        add_runs(2, run, count, symbols, at, far, 1, kernel257::BLOCK, sums);
+        add_runs(2, run, count, symbols, at, far, 1, kernel::BLOCK, sums);
         return;
     }
     if m == 2 {
-        add_runs(2, run, count, symbols, at, far, 2, kernel257::BLOCK, sums);
+        add_runs(2, run, count, symbols, at, far, 2, kernel::BLOCK, sums);
         return;
     }
     if m == 3 {
-        add_runs(2, run, count, symbols, at, far, 3, kernel257::BLOCK, sums);
+        add_runs(2, run, count, symbols, at, far, 3, kernel::BLOCK, sums);
         return;
     }
     if m == 4 {
-        add_runs(2, run, count, symbols, at, far, 4, kernel257::BLOCK, sums);
+        add_runs(2, run, count, symbols, at, far, 4, kernel::BLOCK, sums);
         return;
     }
-    add_runs(2, run, count, symbols, at, far, m, kernel257::BLOCK, sums);
+    add_runs(2, run, count, symbols, at, far, m, kernel::BLOCK, sums);
 }
 
 // The same for three digits, where runs are no multiples of a block.
@@ -219,27 +217,27 @@ fn add_four(
     requires { InTrays gf257 4 run count symbols.now at far m sums.old × (run % 4 ≡ 0) }
     ensures { TraysAdded gf257 4 run count symbols.now at far m sums.old sums.new }
 {
-    if run % kernel257::BLOCK != 0 {
+    if run % kernel::BLOCK != 0 {
         add_runs(4, run, count, symbols, at, far, m, SHORT, sums);
         return;
     }
     if m == 1 {
-        add_runs(4, run, count, symbols, at, far, 1, kernel257::BLOCK, sums);
+        add_runs(4, run, count, symbols, at, far, 1, kernel::BLOCK, sums);
         return;
     }
     if m == 2 {
-        add_runs(4, run, count, symbols, at, far, 2, kernel257::BLOCK, sums);
+        add_runs(4, run, count, symbols, at, far, 2, kernel::BLOCK, sums);
         return;
     }
     if m == 3 {
-        add_runs(4, run, count, symbols, at, far, 3, kernel257::BLOCK, sums);
+        add_runs(4, run, count, symbols, at, far, 3, kernel::BLOCK, sums);
         return;
     }
     if m == 4 {
-        add_runs(4, run, count, symbols, at, far, 4, kernel257::BLOCK, sums);
+        add_runs(4, run, count, symbols, at, far, 4, kernel::BLOCK, sums);
         return;
     }
-    add_runs(4, run, count, symbols, at, far, m, kernel257::BLOCK, sums);
+    add_runs(4, run, count, symbols, at, far, m, kernel::BLOCK, sums);
 }
 
 // The same for any number of digits, where the run is a multiple of a short block.
@@ -306,9 +304,8 @@ fn add_across(
     requires { InTrays gf257 s run count symbols.now at far m sums.old }
     ensures { TraysAdded gf257 s run count symbols.now at far m sums.old sums.new }
 {
-    let mut i = 0usize;
-    while i < run {
-        kernel257::add_spaced(
+    for i in 0..run {
+        kernel::add_spaced(
             sums,
             i,
             run,
@@ -321,7 +318,6 @@ fn add_across(
             far,
             m,
         );
-        i += 1;
     }
 }
 
@@ -374,12 +370,10 @@ fn add_weighted(l: Layout, count: u32, x: u32, sums: &[u16], shares: &mut [u16])
 {
     let u = l.size;
     let total = layout::group_count(l);
-    let mut m = 1u32;
-    while m < count {
-        let weight = points257::place_power(l, x % u, m);
+    for m in 1..count {
+        let weight = points::place_power(l, x % u, m);
         let to = codeword::cell(total, m, 0);
-        kernel257::add_multiple(shares, to, total as usize, sums, 0, weight);
-        m += 1;
+        kernel::add_multiple(shares, to, total as usize, sums, 0, weight);
     }
 }
 
@@ -418,11 +412,9 @@ fn add_rest(
     ensures { Rested gf257 l count h x symbols.now at m shares.old shares.new }
 {
     let total = layout::layer_count(l);
-    let mut k = 0u32;
-    while k < m {
+    for k in 0..m {
         let from = at + codeword::cell(total, k, 0);
         add_later(l, count, h, x + k, r, symbols, from, shares);
-        k += 1;
     }
 }
 
@@ -452,10 +444,10 @@ fn feed(
 fn both_symbols(a: &[u16], b: &[u16]) -> bool
     ensures { result ≡ symbols_from gf257 a.now 0 (length a.now) && symbols_from gf257 b.now 0 (length b.now) }
 {
-    if !range257::are_symbols(a, 0, a.len()) {
+    if !range::are_symbols(a, 0, a.len()) {
         return false;
     }
-    range257::are_symbols(b, 0, b.len())
+    range::are_symbols(b, 0, b.len())
 }
 
 // With no share asked for nothing is looked at.
@@ -600,7 +592,8 @@ fn gather(l: Layout, n: Counts, count: u32, h: u32, helper: u32, rack: &[u16], o
     let u = l.size;
     let r = runs_of(l, n, h);
     let total = r.layers;
-    kernel257::fill(out, 0, out.len(), 0);
+    kernel::fill(out, 0, out.len(), 0);
+    // a turn goes on by as many trays as it feeds: no plainer form was found
     let mut g = 0u32;
     while g < u {
         let m = at_once(u - g);
@@ -627,7 +620,7 @@ fn make_shares(l: Layout, count: u32, host: Rack, helper: Rack, rack: &[u16], ou
 {
     let h = host.number();
     let i = helper.number();
-    let symbols = range257::are_symbols(rack, 0, rack.len());
+    let symbols = range::are_symbols(rack, 0, rack.len());
     if !layout::admitted(ORDER as u32, l) {
         return 1;
     }

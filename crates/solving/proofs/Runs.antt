@@ -2,7 +2,7 @@
 -- Assumes nothing.
 use mathlib.Core.Path.{◌≡◌, sym, ap, ap₂, ◌∙◌, subst}
 use mathlib.Core.List.{List}
-use Prim.Native.Nat.{ℕ, ◌+◌, ◌-◌, ◌*◌, ◌/◌, ◌%◌, ◌^◌, ◌<◌, ◌≤◌}
+use Prim.Native.Nat.{ℕ, ◌+◌, ◌*◌, ◌/◌, ◌%◌, ◌^◌, ◌<◌, ◌≤◌}
 use native.Mathlib.Nat.{mul_comm, mul_assoc, mul-pos, mul-div_cancel, add_assoc, add-mul, add-mul-div_left, div-add-mod', mod-lt, mod-mod, mul-le-mul, le_trans, not-suc-le-zero}
 use native.Mathlib.Decide.{ℕ_discrete, dec_lt}
 use native.Mathlib.Omega.{arith}
@@ -10,7 +10,6 @@ use mir.Val.{Fits}
 use mir.Syntax.{w64}
 use lib.Arith.{digits_div, mod-mul}
 use lib.ListN.{length, get_or}
-use Rattle.algebra.specs.Field.{Ops}
 use Rattle.algebra.specs.Shape.{Field}
 use Rattle.algebra.specs.Plain.{Working}
 use Rattle.kernel.specs.Inner.{cell, Run, sampled}
@@ -24,21 +23,6 @@ use Rattle.blocks.proofs.Cycles.{run_low, columns_low, period_is, whole, width_i
 use Rattle.syndrome.specs.Inner.{Listed, TrayPoints}
 use Rattle.syndrome.proofs.Digits.{point_run, point_cycle}
 use Rattle.solving.specs.Inner.{Columns, ListedPoints, Workspace}
-
-pub listed_tray : (l : Layout) (w first : ℕ) (es : List ℕ) (v run k : ℕ) (points row : List ℕ) → Columns l w first es v run points row → k < length es → get_or es k 0 < trays l
-listed_tray l w first es v run k points row s h = s.listed.places.inside k h
-
-pub listed_in : (l : Layout) (w first : ℕ) (es : List ℕ) (v run k : ℕ) (was is row : List ℕ) → Columns l w first es v run was row → length is ≡ length was → k < length es → k * v + v ≤ length is
-listed_in l w first es v run k was is row s e h = rw e (row_in was (length es) v k s.points_long h)
-
-pub listed_fits : (l : Layout) (w first : ℕ) (es : List ℕ) (v run k : ℕ) (points row : List ℕ) → Columns l w first es v run points row → k < length es → Fits w64 (length points) → Fits w64 (k * v)
-listed_fits l w first es v run k points row s h f = let q = row_in points (length es) v k s.points_long h in omega arith
-
-pub sampled_in : (l : Layout) (w first : ℕ) (es : List ℕ) (v run : ℕ) (points was is : List ℕ) → Columns l w first es v run points was → length is ≡ length was → v * run ≤ length is
-sampled_in l w first es v run points was is s e = let a = s.width in let b = s.row_long in omega arith
-
-pub row_next : (l : Layout) (w first : ℕ) (es : List ℕ) (v run : ℕ) (points was is : List ℕ) → Columns l w first es v run points was → length is ≡ length was → w ≤ length is
-row_next l w first es v run points was is s e = let b = s.row_long in omega arith
 
 -- the layers of a run have the same points
 pub same_run : (run a j : ℕ) → 0 < run → (a * run + j / run * run) / run ≡ (a * run + j) / run
@@ -63,9 +47,6 @@ module _ {A : Type 0} {f : Field A} (W : Working f) where
   open f.coding use {elem}
 
   -- ---- the points of the trays listed
-  pub listed_none : (l : Layout) (first : ℕ) (es : List ℕ) (v run : ℕ) (points : List ℕ) → ListedPoints f l first es v run 0 points
-  listed_none l first es v run points = record { at = λ k c h b. absurd (not-suc-le-zero h) }
-
   pub listed_more : (l : Layout) (w first : ℕ) (es : List ℕ) (v run k : ℕ) (row was is : List ℕ) → v * run ≤ w → 0 < run → ListedPoints f l first es v run k was →
       TrayPoints f l w first (get_or es k 0) row → Run (sampled row run) was is (k * v) v → ListedPoints f l first es v run (k + 1) is
   unfolding sampled
@@ -76,10 +57,6 @@ module _ {A : Type 0} {f : Field A} (W : Working f) where
           subst (λ n. cell f v is n c ≡ point_at f l (first + c * run) (get_or es n 0)) (sym q)
           (sym (cell_is f v is k c) ∙ ap elem (r.done c b) ∙ p.at (c * run) (let q = row_before c v run b in omega arith))
       go i c h b (no d) = cell_other f _ was is k v r i c b d ∙ g.at i c (omega arith) b
-
-  pub listed_end : (l : Layout) (first : ℕ) (es : List ℕ) (v run k : ℕ) (points : List ℕ) → ListedPoints f l first es v run k points → length es ≤ k →
-      ListedPoints f l first es v run (length es) points
-  listed_end l first es v run k points g h = record { at = λ i c b d. g.at i c (omega arith) d }
 
   -- and so have those of every turn
   module _ (l : Layout) (es : List ℕ) (e w first run v turns : ℕ) (b : Block l w first) (ew : w ≡ digits l ^ e) (s : Steady l es e run v turns) (i : ℕ) (hi : i < length es) where

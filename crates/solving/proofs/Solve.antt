@@ -7,7 +7,6 @@ use native.Mathlib.Nat.{mod-lt, mul-le-mul, mul-le-mul_right, le_trans}
 use native.Mathlib.Omega.{arith}
 use lib.Dec.{eqb}
 use lib.ListN.{length, get_or}
-use Rattle.algebra.specs.Field.{Ops}
 use Rattle.algebra.specs.Poly.{coeff}
 use Rattle.algebra.specs.Lagrange.{factor, basis, solve}
 use Rattle.algebra.proofs.Sum.{sum_congr}

@@ -24,11 +24,9 @@ fn listed_points(
     requires { Columns l w first es.now v run points.old row.old }
     ensures { ListedPoints gf256 l first es.now v run (length es.now) points.new }
 {
-    let mut k = 0usize;
-    while k < es.len() {
-        syndrome::tray_points(row, l, w, first, es[k]);
+    for (k, x) in es.iter().enumerate() {
+        syndrome::tray_points(row, l, w, first, *x);
         kernel::sample(points, k * v, v, row, run);
-        k += 1;
     }
 }
 

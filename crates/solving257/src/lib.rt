@@ -25,11 +25,9 @@ fn listed_points(
     requires { Columns l w first es.now v run points.old row.old }
     ensures { ListedPoints gf257 l first es.now v run (length es.now) points.new }
 {
-    let mut k = 0usize;
-    while k < es.len() {
-        syndrome257::tray_points(row, l, w, first, es[k]);
-        kernel257::sample(points, k * v, v, row, run);
-        k += 1;
+    for (k, x) in es.iter().enumerate() {
+        syndrome::tray_points(row, l, w, first, *x);
+        kernel::sample(points, k * v, v, row, run);
     }
 }
 
@@ -54,5 +52,5 @@ pub fn solve_block(
     let v = p.columns;
     let turns = p.turns;
     listed_points(points, l, w, first, es, v, run, row);
-    columns257::solve(found, w, v, run, turns, es.len(), sums, points, coefs, row);
+    columns::solve(found, w, v, run, turns, es.len(), sums, points, coefs, row);
 }

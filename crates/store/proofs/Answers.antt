@@ -1,7 +1,7 @@
 -- The grounds for refusing to store, and the answers.
 -- Assumes nothing.
 use mathlib.Core.Path.{◌≡◌, refl, sym, subst}
-use mathlib.Core.Bool.{true, false, ◌&&◌}
+use mathlib.Core.Bool.{true, ◌&&◌}
 use mathlib.Core.List.{List}
 use Prim.Native.Nat.{ℕ, ◌*◌, ◌<◌, ◌≤◌}
 use native.Mathlib.Nat.{zero-add, mul-le-mul_right}
@@ -9,8 +9,8 @@ use native.Mathlib.Omega.{arith}
 use borrow.Author.Tests.{eq-eqb, eqb-true}
 use lib.Dec.{eqb}
 use lib.ListN.{length, get_or}
-use Rattle.lists.proofs.Bools.{both, not_both, passed}
-use Rattle.algebra.specs.Coding.{Coding, InRange}
+use Rattle.lists.proofs.Bools.{both, passed}
+use Rattle.algebra.specs.Coding.{InRange}
 use Rattle.algebra.specs.Shape.{Field}
 use Rattle.algebra.specs.Plain.{Working}
 use Rattle.layout.specs.declared.Layout.{Layout}
@@ -21,22 +21,9 @@ use Rattle.range.proofs.Symbols.{symbols_all}
 use Rattle.store.specs.Store.{store_refusal, Stores, StoreAnswer}
 
 module _ {A : Type 0} (f : Field A) (l : Layout) (given : List ℕ) (room : ℕ) where
-  pub ground_1 : admissible f.order l ≡ false → 1 ≡ store_refusal f l given room
+  pub ground_0 : admissible f.order l ≡ true → length given ≡ l.dimension * layers l → room ≡ trays l * layers l → symbols_from f given 0 (length given) ≡ true → 0 ≡ store_refusal f l given room
   unfolding store_refusal
-  ground_1 h = simp h
-
-  pub ground_2 : admissible f.order l ≡ true → (length given ≡ l.dimension * layers l → room ≡ trays l * layers l → ⊥) → 2 ≡ store_refusal f l given room
-  unfolding store_refusal
-  ground_2 h k = simp (h, not_both _ _ (λ p q. k (eqb-true _ _ p) (eqb-true _ _ q)))
-
-  module _ (h : admissible f.order l ≡ true) (p : length given ≡ l.dimension * layers l) (q : room ≡ trays l * layers l) where
-    pub ground_3 : symbols_from f given 0 (length given) ≡ false → 3 ≡ store_refusal f l given room
-    unfolding store_refusal
-    ground_3 k = simp (h, eq-eqb _ _ p, eq-eqb _ _ q, k)
-
-    pub ground_0 : symbols_from f given 0 (length given) ≡ true → 0 ≡ store_refusal f l given room
-    unfolding store_refusal
-    ground_0 k = simp (h, eq-eqb _ _ p, eq-eqb _ _ q, k)
+  ground_0 h p q k = simp (h, eq-eqb _ _ p, eq-eqb _ _ q, k)
 
 -- what holds where there is no ground
 pub record Storable {A : Type 0} (f : Field A) (l : Layout) (given : List ℕ) (room : ℕ) : Type 0 where

@@ -11,7 +11,7 @@ use lib.Seq.{length-take-le}
 use Rattle.lists.specs.Lists.{table}
 use Rattle.lists.proofs.Numbers.{cell_in, cell_read}
 use Rattle.lists.proofs.Tables.{table_length, table_at}
-use Rattle.algebra.specs.Coding.{Coding, InRange}
+use Rattle.algebra.specs.Coding.{InRange}
 use Rattle.algebra.specs.Shape.{Field}
 use Rattle.algebra.specs.Plain.{Working}
 use Rattle.kernel.specs.Inner.{Run, copied}

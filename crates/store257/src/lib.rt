@@ -33,7 +33,7 @@ fn refusal(l: Layout, given: &[u16], room: usize) -> u8
     if room != layout::tray_count(l) as usize * total {
         return 2;
     }
-    if !range257::are_symbols(given, 0, given.len()) {
+    if !range::are_symbols(given, 0, given.len()) {
         return 3;
     }
     0
@@ -44,10 +44,8 @@ fn count_from(first: u32, list: &mut [u32])
     requires { (first ≤ tray_limit) × (length list.old ≤ tray_limit) }
     ensures { list.new ≡ table (λ i. first + i) (length list.old) }
 {
-    let mut i = 0usize;
-    while i < list.len() {
-        list[i] = first + i as u32;
-        i += 1;
+    for (i, tray) in list.iter_mut().enumerate() {
+        *tray = first + i as u32;
     }
 }
 
@@ -76,7 +74,7 @@ fn put_data(given: &[u16], out: &mut [u16])
     requires { length given.now ≤ length out.old }
     ensures { Run (copied given.now 0) out.old out.new 0 (length given.now) }
 {
-    kernel257::copy(out, 0, given.len(), given, 0);
+    kernel::copy(out, 0, given.len(), given, 0);
 }
 
 // Writes the codeword of the data, or refuses and writes nothing.

@@ -21,7 +21,6 @@ use Rattle.algebra.proofs.Erasure.{fill_same, fill_outside, check_congr, check_f
 use Rattle.algebra.proofs.Skip.{join_add, skip_unskip}
 use Rattle.algebra.proofs.Free.{free_other}
 use Rattle.algebra.proofs.Repair.{helpers_rising, rising_places}
-use Rattle.algebra.specs.Field.{Ops}
 use Rattle.algebra.specs.Shape.{Field}
 use Rattle.algebra.specs.Plain.{Working}
 use Rattle.layout.specs.declared.Layout.{Layout}

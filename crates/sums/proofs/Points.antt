@@ -6,10 +6,7 @@ use Prim.Native.Nat.{ℕ, ◌+◌, ◌-◌, ◌*◌, ◌/◌, ◌%◌, ◌<◌, 
 use native.Mathlib.Nat.{mul-one, div-one, mod-eq_of_lt, not-suc-le-zero, le-mul_of_pos_right, le_refl, le_trans, mul-le-mul}
 use native.Mathlib.Decide.{ℕ_discrete}
 use native.Mathlib.Omega.{arith}
-use mir.Val.{Fits}
-use mir.Syntax.{w64}
 use lib.ListN.{length, get_or}
-use Rattle.algebra.specs.Field.{Ops}
 use Rattle.algebra.specs.Sum.{pow}
 use Rattle.algebra.specs.Points.{point}
 use Rattle.algebra.specs.Layers.{layer_of}
@@ -17,7 +14,7 @@ use Rattle.algebra.specs.Group.{skip, unskip, free, group_point}
 use Rattle.algebra.specs.Repair.{helper_place}
 use Rattle.algebra.proofs.Skip.{skip_other, join_low, join_high}
 use Rattle.algebra.proofs.Free.{free_below, free_low}
-use Rattle.algebra.specs.Shape.{Field, FieldLaws}
+use Rattle.algebra.specs.Shape.{Field}
 use Rattle.algebra.specs.Plain.{Working}
 use Rattle.kernel.specs.Inner.{cell, Run, filled, sampled}
 use Rattle.kernel.proofs.Rows.{row_before, cell_is, cell_other}
@@ -26,9 +23,8 @@ use Rattle.layout.specs.Layout.{digits, parity_racks, tray_limit, Cabinet}
 use Rattle.layout.proofs.Facts.{bounds}
 use Rattle.layout.proofs.Numbers.{total_plain}
 use Rattle.codeword.specs.Codeword.{shape_of, point_at}
-use Rattle.blocks.specs.Inner.{Block}
-use Rattle.sums.specs.Inner.{helper_at, place_point, unknown_point, Chosen, Groups, Choosing, RackPowers, Cycle, Pointed, PointsTo, PointRow, Workspace}
-use Rattle.sums.proofs.Steps.{rack_point_lem, other_in, unknowns_high}
+use Rattle.sums.specs.Inner.{helper_at, place_point, unknown_point, Chosen, Groups, RackPowers, Cycle, Pointed, PointsTo, PointRow, Workspace}
+use Rattle.sums.proofs.Steps.{rack_point_lem, other_in}
 use Rattle.sums.proofs.Sides.{width_pos}
 
 pub unknown_below : (l : Layout) (h : ℕ) (helpers : List ℕ) (x s n i : ℕ) → Cabinet l → l.errors ≡ 0 → x ≡ free (helper_place s h (helper_at helpers)) n i →
@@ -157,50 +153,7 @@ module _ (l : Layout) (h w first : ℕ) (helpers : List ℕ) (v run : ℕ) (poin
   pub pointed_layout : Cabinet l
   pointed_layout = g.chosen.adm
 
-  pub pointed_host : h < l.racks
-  pointed_host = g.chosen.host_in
-
-  pub pointed_block : Block l w first
-  pointed_block = g.block.block
-
-  pub pointed_size : l.size ≤ tray_limit
-  pointed_size = let b = bounds l pointed_layout in omega arith
-
-  pub row_there : (row' : List ℕ) → length row' ≡ length row → v * run ≤ length row'
-  row_there row' e = let q = g.width in let r = g.row_long in omega arith
-
-  pub run_there : 0 < run
-  run_there = g.run_low
-
-  pub pointed_next : (points' row' : List ℕ) → length points' ≡ length points → length row' ≡ length row → Pointed l h w first helpers v run points' row'
-  pointed_next points' row' ep er = record {
-    chosen = g.chosen;
-    block = g.block;
-    run_low = g.run_low;
-    width = g.width;
-    points_long = rw ep g.points_long;
-    row_long = rw er g.row_long;
-  }
-
   module _ (i : ℕ) (hi : i < parity_racks l) where
-    pub point_row : i * v + v ≤ length points
-    point_row = le_trans (row_before i (parity_racks l) v hi) g.points_long
-
-    pub point_fits : Fits w64 (length points) → Fits w64 (i * v)
-    point_fits f = let q = point_row in omega arith
-
-    pub choosing_of : (s : ℕ) → s ≡ digits l → Choosing s h helpers i
-    choosing_of s es =
-        let b = bounds l pointed_layout in
-        let n = g.chosen.many in
-        record {
-          base_high = omega arith;
-          few = omega (arith, pointed_layout.helpers_high);
-          low = omega (arith, unknowns_high l pointed_layout);
-          inside = λ k q. omega (arith, g.chosen.inside k (omega arith));
-          other = λ k q. g.chosen.other k (omega arith);
-        }
-
     module _ (x s : ℕ) (es : s ≡ digits l) (ex : x ≡ free (helper_place s h (helper_at helpers)) (length helpers) i) where
       below : x < digits l + (l.racks - 1)
       below = unknown_below l h helpers x s (length helpers) i pointed_layout g.chosen.plain ex g.chosen.many hi

@@ -2,15 +2,14 @@
 -- Assumes nothing.
 use mathlib.Core.Path.{◌≡◌, refl, sym, ap, ap₂, ◌∙◌, subst}
 use mathlib.Core.List.{List}
-use Prim.Native.Nat.{ℕ, ◌+◌, ◌-◌, ◌*◌, ◌/◌, ◌%◌, ◌<◌, ◌≤◌}
+use Prim.Native.Nat.{ℕ, ◌+◌, ◌*◌, ◌/◌, ◌%◌, ◌<◌, ◌≤◌}
 use native.Mathlib.Nat.{mod-lt, not-suc-le-zero, mul-one, mul-le-mul, le_refl, le_trans}
 use native.Mathlib.Decide.{ℕ_discrete}
 use native.Mathlib.Omega.{arith}
 use mir.Val.{Fits}
-use mir.Syntax.{w32, w64}
+use mir.Syntax.{w32}
 use lib.ListN.{length, get_or}
 use Rattle.lists.proofs.Numbers.{cell_in}
-use Rattle.algebra.specs.Field.{Ops}
 use Rattle.algebra.specs.Sum.{pow}
 use Rattle.algebra.specs.Lagrange.{solve}
 use Rattle.algebra.specs.Points.{point}
@@ -24,25 +23,15 @@ use Rattle.kernel.proofs.Rows.{row_before, cell_is, cell_other}
 use Rattle.columns.specs.Inner.{column, Systems, Solved}
 use Rattle.layout.specs.declared.Layout.{Layout}
 use Rattle.layout.specs.Layout.{digits, parity_racks, tray_limit, Cabinet}
-use Rattle.layout.proofs.Facts.{bounds}
 use Rattle.codeword.specs.Codeword.{shape_of}
 use Rattle.blocks.specs.Inner.{room_limit}
-use Rattle.sums.specs.Inner.{unknown_point, right_side, sum_at, Chosen, Cycle, PointsTo, Workspace, FoundSums, RowTimes, Weighing, Weighed, SidesTo, SumsTo, Summing}
+use Rattle.sums.specs.Inner.{unknown_point, right_side, sum_at, Chosen, Cycle, PointsTo, Workspace, FoundSums, RowTimes, Weighing, Weighed, SidesTo, SumsTo}
 use Rattle.sums.proofs.Steps.{digits_under, sums_high}
 use Rattle.sums.proofs.Points.{columns_in}
 use Rattle.sums.proofs.Formula.{solved_is}
 
 -- a row lies within all of them
 module _ (l : Layout) (h w e m : ℕ) (found sums : List ℕ) (g : Weighing l h w e m found sums) where
-  pub weigh_layout : Cabinet l
-  weigh_layout = g.adm
-
-  pub weigh_host : h < l.racks
-  weigh_host = g.host_in
-
-  pub weigh_under : m ≤ tray_limit
-  weigh_under = let b = bounds l g.adm in let f = g.few in let t = g.weight_in in omega arith
-
   module _ (a s : ℕ) (ha : a < s) (es : s ≡ digits l) where
     row_number : m * s + a < e * digits l
     row_number = rw es (cell_in e (digits l) m a g.weight_in (rw (sym es) ha))
@@ -56,12 +45,6 @@ module _ (l : Layout) (h w e m : ℕ) (found sums : List ℕ) (g : Weighing l h 
     pub row_fits_2 : Fits w32 (m * s + a)
     row_fits_2 = record { fits = omega (arith, row_small) }
 
-    pub row_wide : Fits w64 (m * s + a)
-    row_wide = record { fits = omega (arith, row_small) }
-
-    pub digit_low : a < digits l
-    digit_low = rw (sym es) ha
-
     pub sums_row : (is : List ℕ) → length is ≡ length sums → (m * s + a) * w + w ≤ length is
     sums_row is k = rw k (le_trans (row_before (m * s + a) (e * digits l) w row_number) g.sums_long)
 
@@ -69,49 +52,6 @@ module _ (l : Layout) (h w e m : ℕ) (found sums : List ℕ) (g : Weighing l h 
     found_row = le_trans (row_before a (parity_racks l) w (let d = digits_under l g.adm in omega arith)) g.found_long
 
 -- ---- places
-module _ (l : Layout) (h w first : ℕ) (helpers shares : List ℕ) (e : ℕ) (sums sides found points coefs row cur : List ℕ)
-    (g : Summing l h w first helpers shares e sums sides found points coefs row cur) where
-  pub space_of : (sides' row' : List ℕ) → length sides' ≡ length sides → length row' ≡ length row → Workspace l w sides' found points coefs row'
-  space_of sides' row' es er = record {
-    few = g.room.few;
-    sides_long = rw es g.room.sides_long;
-    found_long = g.room.found_long;
-    points_long = g.room.points_long;
-    coefs_long = g.room.coefs_long;
-    row_long = rw er g.room.row_long;
-  }
-
-  pub weight_fits : (m : ℕ) → m < e → Fits w32 (m + 1)
-  weight_fits m h = let b = bounds l g.received.chosen.adm in record { fits = omega (arith, g.received.few) }
-
-  pub weighing_of : (m : ℕ) (found' : List ℕ) → m < e → length found' ≡ length found → Weighing l h w e m found' sums
-  weighing_of m found' hm ef = record {
-    adm = g.received.chosen.adm;
-    host_in = g.received.chosen.host_in;
-    few = g.received.few;
-    weight_in = hm;
-    found_long = rw ef g.room.found_long;
-    sums_long = g.sums_long;
-  }
-
-  pub summing_next : (sums' sides' found' points' coefs' row' cur' : List ℕ) → length sums' ≡ length sums → length sides' ≡ length sides → length found' ≡ length found →
-      length points' ≡ length points → length coefs' ≡ length coefs → length row' ≡ length row → length cur' ≡ length cur →
-      Summing l h w first helpers shares e sums' sides' found' points' coefs' row' cur'
-  summing_next sums' sides' found' points' coefs' row' cur' e1 e2 e3 e4 e5 e6 e7 = record {
-    received = g.received;
-    block = g.block;
-    sums_long = rw e1 g.sums_long;
-    room = record {
-      few = g.room.few;
-      sides_long = rw e2 g.room.sides_long;
-      found_long = rw e3 g.room.found_long;
-      points_long = rw e4 g.room.points_long;
-      coefs_long = rw e5 g.room.coefs_long;
-      row_long = rw e6 g.room.row_long;
-    };
-    cur_long = rw e7 g.cur_long;
-  }
-
 module _ {A : Type 0} {f : Field A} (W : Working f) where
   open f use {ops}
   open f.coding use {elem}

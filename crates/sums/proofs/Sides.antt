@@ -2,13 +2,10 @@
 -- Assumes nothing.
 use mathlib.Core.Path.{◌≡◌, sym, ap, ap₂, ◌∙◌, subst}
 use mathlib.Core.List.{List}
-use Prim.Native.Nat.{ℕ, ◌+◌, ◌*◌, ◌%◌, ◌<◌, ◌≤◌}
+use Prim.Native.Nat.{ℕ, ◌+◌, ◌*◌, ◌<◌, ◌≤◌}
 use native.Mathlib.Nat.{zero-add, add_assoc}
 use native.Mathlib.Omega.{arith}
-use mir.Val.{Fits}
-use mir.Syntax.{w32, w64}
 use lib.ListN.{length, get_or}
-use Rattle.algebra.specs.Field.{Ops}
 use Rattle.algebra.specs.Sum.{pow}
 use Rattle.algebra.specs.Layers.{layer_of}
 use Rattle.algebra.proofs.Ring.{zero_add as nothing-add, one_mul, mul_comm, mul_assoc}
@@ -24,7 +21,6 @@ use Rattle.layout.specs.declared.Layout.{Layout}
 use Rattle.layout.specs.Layout.{digits, groups, parity_racks, tray_limit, layer_limit, Cabinet}
 use Rattle.layout.proofs.Facts.{bounds}
 use Rattle.codeword.specs.Codeword.{point_at}
-use Rattle.blocks.specs.Inner.{Block}
 use Rattle.blocks.proofs.Digits.{run_pos}
 use Rattle.syndrome.specs.Inner.{Room, Terms}
 use Rattle.rule.specs.Lost.{sent_symbol}
@@ -108,9 +104,6 @@ groups_high l n a e = omega (arith, (bounds l a).groups_high)
 pub first_in : (l : Layout) (w first n : ℕ) → Groups l w first → n ≡ groups l → first < n
 first_in l w first n g e = let p = width_pos l w first g in let i = g.inside in omega arith
 
-pub weight_high : (l : Layout) (e m : ℕ) → Cabinet l → e + l.dimension % l.size ≤ l.size → m < e → m ≤ tray_limit
-weight_high l e m a few h = let b = bounds l a in omega arith
-
 pub size_high : (l : Layout) → Cabinet l → l.size ≤ tray_limit
 size_high l a = let b = bounds l a in omega arith
 
@@ -121,58 +114,8 @@ module _ (l : Layout) (h w first : ℕ) (helpers shares : List ℕ) (e m k : ℕ
   pub share_row : k * e + m < tray_limit
   share_row = row_in l layout_of e m k g.received.few g.weight_in helper_in
 
-  pub share_fits : Fits w32 (k * e)
-  share_fits = record { fits = omega (arith, share_row) }
-
-  pub share_fits_2 : Fits w32 (k * e + m)
-  share_fits_2 = record { fits = omega (arith, share_row) }
-
   pub share_there : (n at : ℕ) → n ≡ groups l → at ≡ (k * e + m) * n + first → at + w ≤ length shares
   share_there n at en ea = rw (ea, en, g.received.shares_long) (share_in l layout_of e m k g.received.few g.weight_in helper_in first w g.block.inside)
 
-  pub helper_rack : get_or helpers k 0 < l.racks
-  helper_rack = g.received.chosen.inside k helper_in
-
-  pub helper_other : ¬ (get_or helpers k 0 ≡ h)
-  helper_other = g.received.chosen.other k helper_in
-
-  pub block_there : Block l w first
-  block_there = g.block.block
-
-  pub host_there : h < l.racks
-  host_there = g.received.chosen.host_in
-
-  pub weight_under : m ≤ tray_limit
-  weight_under = weight_high l e m layout_of g.received.few g.weight_in
-
-  pub size_under : l.size ≤ tray_limit
-  size_under = let b = bounds l layout_of in omega arith
-
   pub room_of : (r : ℕ) (sides cur' row' : List ℕ) → parity_racks l * w ≤ length sides → r ≡ parity_racks l → length cur' ≡ length cur → length row' ≡ length row → Room w r sides cur' row'
   room_of r sides cur' row' q er ec el = record { sums_long = rw er q; cur_long = rw ec g.cur_long; row_long = rw el g.row_long }
-
-  pub row_next : (row' : List ℕ) → length row' ≡ length row → w ≤ length row'
-  row_next row' e = rw e g.row_long
-
-module _ (l : Layout) (h w first : ℕ) (helpers shares : List ℕ) (e m : ℕ) (sides cur row : List ℕ) (g : Sharing l h w first helpers shares e m cur row)
-    (room : parity_racks l * w ≤ length sides) where
-  pub sides_high : (r : ℕ) → r ≡ parity_racks l → Fits w64 (length sides) → Fits w64 (r * w)
-  sides_high r er f = let t : r * w ≡ parity_racks l * w = ap (λ n. n * w) er in omega arith
-
-  pub sides_in : (r : ℕ) → r ≡ parity_racks l → 0 + r * w ≤ length sides
-  sides_in r er = let t : r * w ≡ parity_racks l * w = ap (λ n. n * w) er in omega arith
-
-  pub sharing_of : (cur' row' : List ℕ) → length cur' ≡ length cur → length row' ≡ length row → Sharing l h w first helpers shares e m cur' row'
-  sharing_of cur' row' ec el = record {
-    received = g.received;
-    block = g.block;
-    weight_in = g.weight_in;
-    cur_long = rw ec g.cur_long;
-    row_long = rw el g.row_long;
-  }
-
-  pub helper_of : (k : ℕ) → k < length helpers → k < l.helpers
-  helper_of k h = rw (sym g.received.chosen.many) h
-
-  pub count_fits : (k : ℕ) → k < length helpers → Fits w64 (k + 1)
-  count_fits k h = let b = bounds l g.received.chosen.adm in record { fits = omega (arith, g.received.chosen.many, g.received.chosen.adm.helpers_high) }

@@ -13,7 +13,6 @@ use lib.Arith.{digits_div}
 use lib.Pow.{pow-add}
 use lib.ListN.{get_or}
 use Rattle.lists.proofs.Numbers.{cell_in, mul_below}
-use Rattle.algebra.specs.Field.{Ops}
 use Rattle.algebra.specs.Sum.{pow}
 use Rattle.algebra.specs.Points.{point, tray_point}
 use Rattle.algebra.specs.Layers.{digit, layer_of}
@@ -160,12 +159,6 @@ module _ {A : Type 0} {f : Field A} (W : Working f) where
               ∙ ap (pow ops root) (exponents (i * digits l) n (order / l.size) t)
               ∙ pow_mul ops laws root (i * digits l + n + 0 * (order / l.size)) t
 
-pub block_layout : (l : Layout) (w first : ℕ) → Block l w first → Cabinet l
-block_layout l w first b = b.adm
-
-pub digits_some : (l : Layout) (w first : ℕ) → Block l w first → 0 < digits l
-digits_some l w first b = (bounds l b.adm).digits_low
-
 pub place_fits : (s h i r : ℕ) → s ≤ tray_limit → i < tray_limit → ¬ (i ≡ h) → r ≡ unskip h i → Fits w32 (s + r)
 place_fits s h i r a b c e = record { fits = omega (arith, digit_small) }
   where
@@ -181,17 +174,8 @@ module _ (l : Layout) (adm : Cabinet l) (i a s : ℕ) (inside : i < l.racks) (di
   bound : i * s < 241
   bound = let d = digits_small l adm in let r = (bounds l adm).racks_high in mul_below 60 4 (omega arith) (omega arith) tt
 
-  pub point_fits : Fits w32 (i * s)
-  point_fits = record { fits = omega (arith, bound) }
-
-  pub point_fits_2 : Fits w32 (i * s + a)
-  point_fits_2 = record { fits = (let d = digits_small l adm in omega (arith, bound)) }
-
   power_high : (t : ℕ) → t ≤ tray_limit → (i * s + a) * t < 14701
   power_high t h = (let d = digits_small l adm in mul_below 245 60 (omega (arith, bound)) h tt)
-
-  pub power_fits : (t : ℕ) → t ≤ tray_limit → Fits w32 ((i * s + a) * t)
-  power_fits t h = record { fits = omega (arith, power_high t h) }
 
   pub power_wide : (t : ℕ) → t ≤ tray_limit → Fits w64 ((i * s + a) * t)
   power_wide t h = record { fits = omega (arith, power_high t h) }

@@ -8,7 +8,6 @@ use Rattle.algebra.specs.Points.{point}
 use Rattle.algebra.specs.Layers.{digit, layer_of}
 use Rattle.algebra.specs.Group.{free, group_point}
 use Rattle.algebra.specs.Repair.{helper_place, host_sum}
-use Rattle.algebra.specs.Field.{Ops}
 use Rattle.algebra.specs.Shape.{Field}
 use Rattle.kernel.specs.Inner.{cell}
 use Rattle.layout.specs.declared.Layout.{Layout}

@@ -63,11 +63,9 @@ fn free_place(s: u32, h: u32, helpers: &[u32], i: u32) -> u32
     ensures { result ≡ free (helper_place s h (helper_at helpers.now)) (length helpers.now) i }
 {
     let mut x = i;
-    let mut k = 0usize;
-    while k < helpers.len() {
-        let q = rack_place(s, h, helpers[k]);
+    for helper in helpers {
+        let q = rack_place(s, h, *helper);
         x = skipped(q, x);
-        k += 1;
     }
     x
 }
@@ -162,10 +160,8 @@ fn block_sides(
     ensures { SidesTo gf256 l h w first helpers.now shares.now e m l.helpers sides.new }
 {
     kernel::fill(sides, 0, unknown_count(l) as usize * w, 0);
-    let mut k = 0usize;
-    while k < helpers.len() {
+    for k in 0..helpers.len() {
         add_share(sides, l, h, w, first, helpers, shares, e, m, k, cur, row);
-        k += 1;
     }
 }
 
@@ -213,10 +209,8 @@ pub fn unknown_points(
     ensures { PointsTo gf256 l h first helpers.now v run (parity_racks l) points.new }
 {
     let n = unknown_count(l) as usize;
-    let mut i = 0usize;
-    while i < n {
+    for i in 0..n {
         unknown_row(points, l, h, w, first, helpers, v, run, i, row);
-        i += 1;
     }
 }
 
@@ -289,11 +283,9 @@ fn weigh_sums(sums: &mut [u8], l: Layout, h: u32, w: usize, e: u32, m: u32, foun
     ensures { Weighed gf256 l h w m (digits l) found.now sums.old sums.new }
 {
     let s = layout::digit_count(l);
-    let mut a = 0u32;
-    while a < s {
+    for a in 0..s {
         let v = difference(0, Symbol(digit_point(l, h, a, m)).inverse().0);
         times_row(sums, w, (m * s + a) as usize, found, a as usize, v);
-        a += 1;
     }
 }
 
@@ -344,11 +336,9 @@ pub fn block_sums(
     requires { Summing l h w first helpers.now shares.now e sums.old sides.old found.old points.old coefs.old row.old cur.old }
     ensures { SumsTo gf256 l h w first helpers.now shares.now e e sums.new }
 {
-    let mut m = 0u32;
-    while m < e {
+    for m in 0..e {
         weight_sums(
             sums, l, h, w, first, helpers, shares, e, m, sides, found, points, coefs, row, cur,
         );
-        m += 1;
     }
 }

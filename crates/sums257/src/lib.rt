@@ -64,11 +64,9 @@ fn free_place(s: u32, h: u32, helpers: &[u32], i: u32) -> u32
     ensures { result ≡ free (helper_place s h (helper_at helpers.now)) (length helpers.now) i }
 {
     let mut x = i;
-    let mut k = 0usize;
-    while k < helpers.len() {
-        let q = rack_place(s, h, helpers[k]);
+    for helper in helpers {
+        let q = rack_place(s, h, *helper);
         x = skipped(q, x);
-        k += 1;
     }
     x
 }
@@ -90,7 +88,7 @@ pub fn rack_powers(row: &mut [u16], l: Layout, h: u32, w: usize, first: usize, i
     let start = digit_point(l, i, 0, t);
     let z = root_power(t as usize);
     let at = group_digit(h, i);
-    syndrome257::digit_powers(row, l, w, first, at, start, z);
+    syndrome::digit_powers(row, l, w, first, at, start, z);
 }
 
 // Helper k's share of weight m in a block, each symbol times the m-th power of the helper's point, which is 1 where m is 0.
@@ -112,12 +110,12 @@ fn share_terms(
 {
     let at = codeword::cell(layout::group_count(l), k as u32 * e + m, first as u32);
     if m == 0 {
-        kernel257::copy(cur, 0, w, shares, at);
+        kernel::copy(cur, 0, w, shares, at);
         return;
     }
     rack_powers(row, l, h, w, first, helpers[k], m);
-    kernel257::fill(cur, 0, w, 0);
-    kernel257::add_product(cur, 0, w, shares, at, row, 0);
+    kernel::fill(cur, 0, w, 0);
+    kernel::add_product(cur, 0, w, shares, at, row, 0);
 }
 
 // Adds helper k's part to the right sides of weight m.
@@ -142,7 +140,7 @@ fn add_share(
     let r = unknown_count(l) as usize;
     share_terms(cur, l, h, w, first, helpers, shares, e, m, k, row);
     rack_powers(row, l, h, w, first, helpers[k], u);
-    syndrome257::add_terms(sides, w, r, cur, row);
+    syndrome::add_terms(sides, w, r, cur, row);
 }
 
 // The right sides of weight m.
@@ -162,11 +160,9 @@ fn block_sides(
     requires { Sharing l h w first helpers.now shares.now e m cur.old row.old × (parity_racks l * w ≤ length sides.old) }
     ensures { SidesTo gf257 l h w first helpers.now shares.now e m l.helpers sides.new }
 {
-    kernel257::fill(sides, 0, unknown_count(l) as usize * w, 0);
-    let mut k = 0usize;
-    while k < helpers.len() {
+    kernel::fill(sides, 0, unknown_count(l) as usize * w, 0);
+    for k in 0..helpers.len() {
         add_share(sides, l, h, w, first, helpers, shares, e, m, k, cur, row);
-        k += 1;
     }
 }
 
@@ -191,11 +187,11 @@ fn unknown_row(
     let x = free_place(s, h, helpers, i as u32);
     if x < s {
         let p = digit_point(l, h, x, u);
-        kernel257::fill(points, i * v, v, p);
+        kernel::fill(points, i * v, v, p);
         return;
     }
     rack_powers(row, l, h, w, first, skipped(h, x - s), u);
-    kernel257::sample(points, i * v, v, row, run);
+    kernel::sample(points, i * v, v, row, run);
 }
 
 // The points of all unknowns.
@@ -214,10 +210,8 @@ pub fn unknown_points(
     ensures { PointsTo gf257 l h first helpers.now v run (parity_racks l) points.new }
 {
     let n = unknown_count(l) as usize;
-    let mut i = 0usize;
-    while i < n {
+    for i in 0..n {
         unknown_row(points, l, h, w, first, helpers, v, run, i, row);
-        i += 1;
     }
 }
 
@@ -243,7 +237,7 @@ fn solve_columns(
     let n = unknown_count(l) as usize;
     let s = layout::digit_count(l) as usize;
     unknown_points(points, l, h, w, first, helpers, v, run, row);
-    columns257::solve_first(found, w, v, run, 1, n, s, sides, points, coefs, row);
+    columns::solve_first(found, w, v, run, 1, n, s, sides, points, coefs, row);
 }
 
 // The host's unknowns of every group. Where every other rack helps, there are no others, and their points are alike in all groups.
@@ -280,8 +274,8 @@ fn times_row(sums: &mut [u16], w: usize, q: usize, found: &[u16], a: usize, v: u
     requires { (q * w + w ≤ length sums.old) × (a * w + w ≤ length found.now) }
     ensures { RowTimes gf257 w q a v found.now sums.old sums.new }
 {
-    kernel257::fill(sums, q * w, w, 0);
-    kernel257::add_multiple(sums, q * w, w, found, a * w, v);
+    kernel::fill(sums, q * w, w, 0);
+    kernel::add_multiple(sums, q * w, w, found, a * w, v);
 }
 
 // Less the host's sums of weight m: what was found, divided by the m-th powers of the host's points.
@@ -290,11 +284,9 @@ fn weigh_sums(sums: &mut [u16], l: Layout, h: u32, w: usize, e: u32, m: u32, fou
     ensures { Weighed gf257 l h w m (digits l) found.now sums.old sums.new }
 {
     let s = layout::digit_count(l);
-    let mut a = 0u32;
-    while a < s {
+    for a in 0..s {
         let v = difference(0, Symbol(digit_point(l, h, a, m)).inverse().0);
         times_row(sums, w, (m * s + a) as usize, found, a as usize, v);
-        a += 1;
     }
 }
 
@@ -345,11 +337,9 @@ pub fn block_sums(
     requires { Summing l h w first helpers.now shares.now e sums.old sides.old found.old points.old coefs.old row.old cur.old }
     ensures { SumsTo gf257 l h w first helpers.now shares.now e e sums.new }
 {
-    let mut m = 0u32;
-    while m < e {
+    for m in 0..e {
         weight_sums(
             sums, l, h, w, first, helpers, shares, e, m, sides, found, points, coefs, row, cur,
         );
-        m += 1;
     }
 }

@@ -1,7 +1,7 @@
 -- The symbols are a field, and its root has 255 different powers.
 -- Assumes nothing.
-use Rattle.std.proofs.Common.{◌≡◌, ℕ, zero, suc, ◌-◌, ◌*◌, ◌%◌, ◌<◌, sym, refl, ap, ◌∙◌, ap₂, mod-lt, mod-eq_of_lt, mul_comm, arith, lit<}
-use Rattle.algebra.specs.Field.{Ops, Laws}
+use Rattle.std.proofs.Common.{◌≡◌, ℕ, zero, suc, ◌*◌, ◌%◌, ◌<◌, sym, refl, ap, ◌∙◌, ap₂, mod-lt, mod-eq_of_lt, arith, lit<}
+use Rattle.algebra.specs.Field.{Laws}
 use Rattle.algebra.specs.Coding.{Coded}
 use Rattle.algebra.specs.Sum.{pow}
 use Rattle.algebra.specs.Shape.{Root, FieldLaws}
@@ -12,7 +12,7 @@ use Rattle.symbol.specs.Arithmetic.{◌⊕◌, ◌⊗◌, mulz, shift_add, power
 use Rattle.symbol.specs.Elem.{Elem, elem, squares, ops, z, coding, gf256}
 use Rattle.symbol.proofs.Xor.{⊕-comm, ⊕-assoc, zero_⊕, ⊕-self, ⊕-lt, ⊕-mod}
 use Rattle.symbol.proofs.Laws.{⊗-comm, ⊗-assoc, ⊗-⊕, ⊗-lt, one_⊗}
-use Rattle.symbol.proofs.Power.{power_zero, power_suc, power_lt, power_square, power_zpow, zpow_lt}
+use Rattle.symbol.proofs.Power.{power_zero, power_suc, power_lt, power_square, power_zpow}
 use Rattle.symbol.proofs.Tables.{zpow_log, zpow_turns, zpow_inj, zpow_order, log}
 
 pub val_mod : (n : ℕ) → (elem n).val ≡ n % 256

@@ -1,9 +1,8 @@
 -- A symbol's bits from the highest down: each time a half, doubled, and the next bit.
 -- Assumes nothing.
-use Rattle.std.proofs.Common.{◌≡◌, ℕ, zero, suc, ◌-◌, ◌*◌, ◌/◌, ◌%◌, ◌^◌, ◌<◌, Bool, T, eqb, sym, ap, ◌∙◌, mod-lt, zero-lt-suc, one-mul, pow-suc, zero-mul, div-le_self, arith, eqb→eq}
+use Rattle.std.proofs.Common.{◌≡◌, ℕ, zero, suc, ◌-◌, ◌*◌, ◌/◌, ◌%◌, ◌^◌, ◌<◌, Bool, eqb, sym, ap, ◌∙◌, mod-lt, zero-lt-suc, one-mul, pow-suc, zero-mul, div-le_self, arith, eqb→eq}
 use native.Mathlib.Nat.{div-div-eq-div-mul}
 use Rattle.lists.proofs.Computed.{all_below_lem}
-use Rattle.algebra.specs.Field.{Ops}
 use Rattle.symbol.specs.Arithmetic.{◌⊕◌, ◌⊗◌, mulz, shift_add}
 use Rattle.symbol.specs.Elem.{elem, ops, z}
 use Rattle.symbol.proofs.Laws.{⊗-comm, ⊗-zero, ⊗-one, root_⊗}

@@ -1,6 +1,6 @@
 -- The laws of the field.
 -- Assumes nothing.
-use Rattle.std.proofs.Common.{◌≡◌, ℕ, zero, suc, ◌*◌, ◌/◌, ◌%◌, ◌^◌, ◌<◌, Bool, T, eqb, ltb, sym, refl, ap, ◌∙◌, ap₂, mod-lt, mod-eq_of_lt, zero-lt-suc, one-mul, mul-zero, zero-mul, add-one, arith, lit<, eqb→eq, ltb→lt}
+use Rattle.std.proofs.Common.{◌≡◌, ℕ, zero, suc, ◌*◌, ◌/◌, ◌%◌, ◌^◌, ◌<◌, Bool, eqb, ltb, sym, refl, ap, ◌∙◌, ap₂, mod-lt, mod-eq_of_lt, zero-lt-suc, one-mul, mul-zero, zero-mul, add-one, arith, lit<, eqb→eq, ltb→lt}
 use lib.Pow.{field, mod-mod-pow}
 use Rattle.symbol.specs.Arithmetic.{◌⊕◌, polynomial, mulz, shift_add, ◌⊗◌}
 use Rattle.lists.proofs.Computed.{all_below_lem}

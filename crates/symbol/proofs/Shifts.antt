@@ -1,6 +1,6 @@
 -- The product by shifts and masks.
 -- Assumes nothing.
-use Rattle.std.proofs.Common.{◌≡◌, ℕ, zero, suc, ◌+◌, ◌*◌, ◌/◌, ◌%◌, ◌^◌, ◌<◌, Bool, T, eqb, sym, ap, ◌∙◌, mod-lt, mod-eq_of_lt, zero-lt-suc, one-mul, zero-mul, div-one, arith, eqb→eq}
+use Rattle.std.proofs.Common.{◌≡◌, ℕ, zero, suc, ◌+◌, ◌*◌, ◌/◌, ◌%◌, ◌^◌, ◌<◌, Bool, eqb, sym, ap, ◌∙◌, mod-lt, mod-eq_of_lt, zero-lt-suc, one-mul, zero-mul, div-one, arith, eqb→eq}
 use native.Mathlib.Nat.{div-div-eq-div-mul}
 use lib.Bits.{bit_xor, bit_and, and_mask, and_zero_r}
 use Rattle.symbol.specs.Arithmetic.{◌⊕◌, mulz, shift_add, ◌⊗◌}

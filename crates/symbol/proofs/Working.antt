@@ -1,12 +1,10 @@
 -- The symbols as plain numbers: what the functions of src/plain.rt give, and that the field has what the code needs.
 -- Assumes nothing.
-use Rattle.std.proofs.Common.{◌≡◌, ℕ, ◌+◌, ◌<◌, sym, refl, ap, ◌∙◌, ap₂, lit≤}
-use Rattle.algebra.specs.Field.{Ops}
-use Rattle.algebra.specs.Sum.{pow}
+use Rattle.std.proofs.Common.{◌≡◌, ℕ, ◌<◌, sym, refl, ap, ◌∙◌, ap₂, lit≤}
 use Rattle.algebra.specs.Plain.{reduced, plus, minus, times, raised, root_power, Working}
 use Rattle.algebra.proofs.Plain.{elem_plus, elem_times}
 use Rattle.symbol.specs.Arithmetic.{◌⊕◌, ◌⊗◌, power, zpow}
-use Rattle.symbol.specs.Elem.{Elem, elem, ops, z, gf256}
+use Rattle.symbol.specs.Elem.{elem, ops, gf256}
 use Rattle.symbol.proofs.Laws.{⊗-lt}
 use Rattle.symbol.proofs.Power.{power_lt, zpow_lt}
 use Rattle.symbol.proofs.Tables.{log, log_lt, zpow_log}

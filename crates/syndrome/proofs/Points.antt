@@ -6,24 +6,22 @@ use Prim.Native.Nat.{ℕ, zero, suc, ◌+◌, ◌*◌, ◌/◌, ◌%◌, ◌^◌
 use native.Mathlib.Nat.{zero-add, zero-mul, mod-lt, mul-pos}
 use native.Mathlib.Numerals.{add-one}
 use native.Mathlib.Omega.{arith}
-use mir.Val.{Fits}
-use mir.Syntax.{w32, w64}
 use lib.Arith.{mod-mul, digits_div}
 use lib.ListN.{length, get_or}
-use Rattle.algebra.specs.Field.{Ops, Laws}
+use Rattle.algebra.specs.Field.{Laws}
 use Rattle.algebra.specs.Sum.{pow}
 use Rattle.algebra.specs.Layers.{digit}
 use Rattle.algebra.proofs.Ring.{ring, one_mul}
 use Rattle.algebra.proofs.Pow.{pow_zero, pow_suc, pow_one}
 use Rattle.algebra.specs.Shape.{Field}
-use Rattle.algebra.specs.Plain.{times, raised, Working}
-use Rattle.algebra.proofs.Plain.{elem_times, elem_raised}
+use Rattle.algebra.specs.Plain.{times, raised, root_power, Working}
+use Rattle.algebra.proofs.Plain.{elem_times, elem_raised, elem_root_power}
 use Rattle.kernel.specs.Inner.{Run, filled, repeated}
 use Rattle.kernel.proofs.Runs.{run_none, run_append}
-use Rattle.kernel.proofs.Rows.{row_end, row_before}
+use Rattle.kernel.proofs.Rows.{row_end}
 use Rattle.layout.specs.declared.Layout.{Layout}
 use Rattle.layout.specs.Layout.{trays, digits, layer_limit}
-use Rattle.layout.proofs.Facts.{bounds, size_pos, rack_in, power_in}
+use Rattle.layout.proofs.Facts.{bounds, rack_in, power_in}
 use Rattle.codeword.specs.Codeword.{point_at}
 use Rattle.blocks.specs.Inner.{Block}
 use Rattle.blocks.proofs.Digits.{run_pos, digit_stays, digit_repeats, count_whole, count_pos, period_in}
@@ -66,9 +64,6 @@ module _ {A : Type 0} {f : Field A} (W : Working f) where
       rw (row_end a run)
       (run_append (power_run f z first run) (filled v) was is new 0 (a * run) run r (subst (λ k. Run (filled v) is new k run) (sym (zero-add (a * run))) n)
       (λ i h. e ∙ ap (times_power f z first) (sym (digits_div a h))))
-
-  pub power_run_end : (z first run a s : ℕ) (was is : List ℕ) → Run (power_run f z first run) was is 0 (a * run) → a ≤ s → s ≤ a → Run (power_run f z first run) was is 0 (s * run)
-  power_run_end z first run a s was is r h l = let e : a ≡ s = omega arith in subst (λ n. Run (power_run f z first run) was is 0 (n * run)) e r
 
   -- ---- the powers of a low digit
   pub repeated_powers : (l : Layout) (w first i run s start z : ℕ) (was is new : List ℕ) → Block l w first → run ≡ digits l ^ i → run < w → s ≡ digits l →
@@ -115,6 +110,9 @@ module _ {A : Type 0} {f : Field A} (W : Working f) where
   }
 
   -- ---- the points of a tray
+  pub root_number : (z : ℕ) → z ≡ root_power f 1 → elem z ≡ root
+  root_number z e = ap elem e ∙ elem_root_power W 1 ∙ pow_one ops laws root
+
   pub points_of_lem : (l : Layout) (w first x p z : ℕ) (row : List ℕ) → elem z ≡ root → elem p ≡ pow ops (point_at f l 0 x) 1 → DigitPowers f l w first (x / l.size) p z row → TrayPoints f l w first x row
   points_of_lem l w first x p z row ez ep d = record {
     at = λ j k.
@@ -122,25 +120,16 @@ module _ {A : Type 0} {f : Field A} (W : Working f) where
         ∙ sym (point_digit W l x (first + j));
   }
 
-pub power_run_in : (run a s : ℕ) (was is : List ℕ) → s * run ≤ length was → length is ≡ length was → a < s → a * run + run ≤ length is
-power_run_in run a s was is h e l = let k = row_before a s run l in omega arith
-
-pub power_run_fits : (run a s : ℕ) (was : List ℕ) → s * run ≤ length was → a < s → Fits w64 (length was) → Fits w64 (a * run)
-power_run_fits run a s was h l f = let k = row_before a s run l in omega arith
-
-pub repeated_room : (l : Layout) (w first i run s : ℕ) (row : List ℕ) → Block l w first → run ≡ digits l ^ i → run < w → s ≡ digits l → w ≤ length row → s * run ≤ length row
+pub repeated_room : {X : Type 0} (l : Layout) (w first i run s : ℕ) (row : List X) → Block l w first → run ≡ digits l ^ i → run < w → s ≡ digits l → w ≤ length row → s * run ≤ length row
 repeated_room l w first i run s row b er h es k = let e : s * run ≤ w = rw (es, er) (period_in l w first b i (rw (sym er) h)) in omega arith
 
-pub repeated_count : (l : Layout) (w first i run s : ℕ) (was is : List ℕ) → Block l w first → run ≡ digits l ^ i → run < w → s ≡ digits l → w ≤ length was → length is ≡ length was →
+pub repeated_count : {X : Type 0} (l : Layout) (w first i run s : ℕ) (was is : List X) → Block l w first → run ≡ digits l ^ i → run < w → s ≡ digits l → w ≤ length was → length is ≡ length was →
     w / (s * run) * (s * run) ≤ length is
 repeated_count l w first i run s was is b er h es k q =
     let e : w / (s * run) * (s * run) ≡ w = rw (es, er) (count_whole l w first b i (rw (sym er) h)) in omega arith
 
 pub repeated_some : (l : Layout) (w first i run s : ℕ) → Block l w first → run ≡ digits l ^ i → run < w → s ≡ digits l → 0 < w / (s * run)
 repeated_some l w first i run s b er h es = rw (es, er) (count_pos l w first b i (rw (sym er) h))
-
-pub repeated_fits : (l : Layout) (w first i run s : ℕ) (row : List ℕ) → Block l w first → run ≡ digits l ^ i → run < w → s ≡ digits l → w ≤ length row → Fits w64 (length row) → Fits w64 (s * run)
-repeated_fits l w first i run s row b er h es k f = let e = repeated_room l w first i run s row b er h es k in omega arith
 
 pub repeated_run : (l : Layout) (w first i run : ℕ) → Block l w first → run ≡ digits l ^ i → 0 < run
 repeated_run l w first i run b er = rw er (run_pos l b.adm i)
@@ -150,12 +139,6 @@ repeated_period l w first i run s b er es = rw (es, er) (mul-pos (bounds l b.adm
 
 pub rack_of_lem : (l : Layout) (w first x : ℕ) → Block l w first → x < trays l → x / l.size < l.racks
 rack_of_lem l w first x b h = rack_in l b.adm x h
-
-pub size_of : (l : Layout) (w first : ℕ) → Block l w first → 0 < l.size
-size_of l w first b = size_pos l b.adm
-
-pub first_fits : (l : Layout) (w first : ℕ) → Block l w first → Fits w32 first
-first_fits l w first b = let e = b.inside in let a = b.adm in omega arith
 
 -- a digit that there is
 pub base_low : (l : Layout) (w first s : ℕ) → Block l w first → s ≡ digits l → 1 ≤ s

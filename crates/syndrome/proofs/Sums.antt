@@ -1,17 +1,14 @@
 -- The sums of the checks over the trays that are not listed.
 -- Assumes nothing.
-use mathlib.Core.Path.{◌≡◌, sym, ap, ap₂, ◌∙◌, subst}
+use mathlib.Core.Path.{◌≡◌, sym, ap, ap₂, ◌∙◌}
 use mathlib.Core.Bool.{true, false, false≢true}
 use mathlib.Core.List.{List}
 use Prim.Native.Nat.{ℕ, ◌+◌, ◌*◌, ◌<◌, ◌≤◌}
 use native.Mathlib.Nat.{zero-add, add_assoc}
 use native.Mathlib.Omega.{arith}
-use mir.Val.{Fits}
-use mir.Syntax.{w64}
 use lib.ListN.{length, get_or}
 use Rattle.lists.specs.Lists.{absent}
 use Rattle.lists.proofs.Numbered.{absent_all, absent_true}
-use Rattle.algebra.specs.Field.{Ops}
 use Rattle.algebra.specs.Sum.{pow}
 use Rattle.algebra.proofs.Ring.{add_zero, mul_zero}
 use Rattle.algebra.proofs.Pow.{pow_zero}
@@ -26,7 +23,7 @@ use Rattle.layout.specs.declared.Layout.{Layout}
 use Rattle.layout.specs.Layout.{trays, layers}
 use Rattle.blocks.specs.Inner.{Block}
 use Rattle.codeword.specs.Codeword.{symbol_at, point_at}
-use Rattle.syndrome.specs.Inner.{entry_of, Listed, survivor_at, Room, TrayPoints, Terms, TrayTerms, KeptTerms, Sums}
+use Rattle.syndrome.specs.Inner.{entry_of, Listed, survivor_at, TrayPoints, Terms, TrayTerms, KeptTerms, Sums}
 
 module _ {A : Type 0} {f : Field A} (W : Working f) where
   open f use {ops}
@@ -79,12 +76,12 @@ module _ {A : Type 0} {f : Field A} (W : Working f) where
   }
 
   -- tray after tray
-  pub sums_none : (l : Layout) (w first r : ℕ) (c es was is : List ℕ) → Run (filled 0) was is 0 (r * w) → Sums f l w first r c es 0 is
+  pub sums_none : (l : Layout) (w first r v : ℕ) (c es was is : List ℕ) → v ≡ 0 → Run (filled v) was is 0 (r * w) → Sums f l w first r c es 0 is
   unfolding filled
-  sums_none l w first r c es was is z = record {
+  sums_none l w first r v c es was is e z = record {
     at = λ t j ht hj.
         sym (cell_is f w is t j) ∙ ap (λ i. elem (get_or is i 0)) (sym (zero-add (t * w + j)))
-        ∙ ap elem (z.done (t * w + j) (let e = row_before t r w ht in omega arith)) ∙ elem_zero W ∙ sym (sum_zero ops _);
+        ∙ ap elem (z.done (t * w + j) (let b = row_before t r w ht in omega arith) ∙ e) ∙ elem_zero W ∙ sym (sum_zero ops _);
   }
 
   pub sums_more : (l : Layout) (w first r : ℕ) (c es : List ℕ) (x : ℕ) (was is : List ℕ) → Sums f l w first r c es x was → KeptTerms f l w first r c es x was is → Sums f l w first r c es (x + 1) is
@@ -94,26 +91,10 @@ module _ {A : Type 0} {f : Field A} (W : Working f) where
         ∙ sym (sum_add_one ops x (λ y. ops.mul (pow ops (point_at f l (first + j) y) t) (survivor_at f l es c (first + j) y)));
   }
 
-  pub sums_end : (l : Layout) (w first r : ℕ) (c es : List ℕ) (x n : ℕ) (sums : List ℕ) → Sums f l w first r c es x sums → x ≤ n → n ≤ x → n ≡ trays l → Sums f l w first r c es (trays l) sums
-  sums_end l w first r c es x n sums s h k e = let q : x ≡ trays l = omega arith in subst (λ y. Sums f l w first r c es y sums) q s
-
 -- ---- places
-pub tray_in : (l : Layout) (w first x total : ℕ) (c : List ℕ) → Block l w first → length c ≡ trays l * layers l → x < trays l → total ≡ layers l → x * total + first + w ≤ length c
+pub tray_in : {X : Type 0} (l : Layout) (w first x total : ℕ) (c : List X) → Block l w first → length c ≡ trays l * layers l → x < trays l → total ≡ layers l → x * total + first + w ≤ length c
 tray_in l w first x total c b e h t =
     let r : x * layers l + layers l ≤ trays l * layers l = row_before x (trays l) (layers l) h in
     let q : x * total ≡ x * layers l = ap (λ n. x * n) t in
     let i = b.inside in
     omega arith
-
-pub tray_fits : (l : Layout) (w first x total : ℕ) (c : List ℕ) → Block l w first → length c ≡ trays l * layers l → x < trays l → total ≡ layers l → Fits w64 (length c) → Fits w64 (x * total)
-tray_fits l w first x total c b e h t f = let q = tray_in l w first x total c b e h t in omega arith
-
-pub tray_fits_2 : (l : Layout) (w first x total : ℕ) (c : List ℕ) → Block l w first → length c ≡ trays l * layers l → x < trays l → total ≡ layers l →
-    Fits w64 (length c) → Fits w64 (x * total + first)
-tray_fits_2 l w first x total c b e h t f = let q = tray_in l w first x total c b e h t in omega arith
-
-pub sums_fits : (w r : ℕ) (sums cur row : List ℕ) → Room w r sums cur row → Fits w64 (length sums) → Fits w64 (r * w)
-sums_fits w r sums cur row m f = let e = m.sums_long in omega arith
-
-pub sums_in : (w r : ℕ) (sums cur row : List ℕ) → Room w r sums cur row → 0 + r * w ≤ length sums
-sums_in w r sums cur row m = let e = m.sums_long in omega arith

@@ -6,10 +6,7 @@ use Prim.Native.Nat.{ℕ, zero, suc, ◌+◌, ◌*◌, ◌<◌, ◌≤◌}
 use native.Mathlib.Nat.{zero-add}
 use native.Mathlib.Decide.{ℕ_discrete}
 use native.Mathlib.Omega.{arith}
-use mir.Val.{Fits}
-use mir.Syntax.{w64}
-use lib.ListN.{length, get_or}
-use Rattle.algebra.specs.Field.{Ops, Laws}
+use lib.ListN.{get_or}
 use Rattle.algebra.specs.Sum.{pow}
 use Rattle.algebra.proofs.Pow.{pow_zero, pow_one, pow_add_one}
 use Rattle.algebra.proofs.Ring.{one_mul, mul_comm, mul_assoc}
@@ -18,8 +15,8 @@ use Rattle.algebra.specs.Plain.{Working}
 use Rattle.algebra.proofs.Plain.{elem_plus}
 use Rattle.kernel.specs.Inner.{cell, Run, Standing, copied, added, accrued, stepped}
 use Rattle.kernel.proofs.Standing.{standing_run}
-use Rattle.kernel.proofs.Rows.{row_in, cell_other, row_zero, zero_cell}
-use Rattle.syndrome.specs.Inner.{Room, term, Terms, Later, Adding}
+use Rattle.kernel.proofs.Rows.{cell_other, row_zero, zero_cell}
+use Rattle.syndrome.specs.Inner.{term, Terms, Later, Adding}
 
 module _ {A : Type 0} {f : Field A} (W : Working f) where
   open f use {ops}
@@ -65,12 +62,6 @@ module _ {A : Type 0} {f : Field A} (W : Working f) where
           (accrued_row w t row is next old new r j k ∙ ap₂ ops.add (g.rest t j (omega arith) k) (g.current j k))
       go v j p h k (no d) = cell_other f _ is next t w run v j k d ∙ g.at v j p (omega arith) k
 
-  pub adding_end : (w r t : ℕ) (row cur was is old : List ℕ) → Adding f w row cur was is old t → r ≤ t → Later f w r row cur was is
-  adding_end w r t row cur was is old g h = record { first = g.first; at = λ v j p l k. g.at v j p (omega arith) k }
-
-  pub terms_none : (w r : ℕ) (row cur was : List ℕ) → r ≡ 0 → Terms f w r row cur was was
-  terms_none w r row cur was e = record { at = λ t j h k. absurd (omega arith) }
-
   added_at : (was cur : List ℕ) (j : ℕ) → elem (added f was 0 cur 0 j) ≡ ops.add (elem (get_or was (0 + j) 0)) (elem (get_or cur j 0))
   unfolding added
   added_at was cur j = elem_plus W (get_or was (0 + j) 0) (get_or cur (0 + j) 0) ∙ ap (λ i. ops.add (elem (get_or was (0 + j) 0)) (elem (get_or cur i 0))) (zero-add j)
@@ -93,17 +84,3 @@ module _ {A : Type 0} {f : Field A} (W : Working f) where
           l.at (suc t) j (omega arith) h k ∙ ap (λ y. ops.add y (term f row cur (suc t) j)) (cell_other f _ was mid 0 w at_zero (suc t) j k (λ e. omega arith))
 
 -- ---- places
-pub room_next : (w r : ℕ) (sums cur row sums' cur' row' : List ℕ) → Room w r sums cur row → length sums' ≡ length sums → length cur' ≡ length cur → length row' ≡ length row → Room w r sums' cur' row'
-room_next w r sums cur row sums' cur' row' m a b c = record { sums_long = rw a m.sums_long; cur_long = rw b m.cur_long; row_long = rw c m.row_long }
-
-pub term_in : (w r t : ℕ) (was is cur row : List ℕ) → Room w r was cur row → length is ≡ length was → t < r → t * w + w ≤ length is
-term_in w r t was is cur row m e h = rw e (row_in was r w t m.sums_long h)
-
-pub term_fits : (w r t : ℕ) (sums cur row : List ℕ) → Room w r sums cur row → t < r → Fits w64 (length sums) → Fits w64 (t * w)
-term_fits w r t sums cur row m h f = let k = row_in sums r w t m.sums_long h in omega arith
-
-pub first_in : (w r : ℕ) (sums cur row : List ℕ) → Room w r sums cur row → ¬ (r ≡ 0) → 0 + w ≤ length sums
-first_in w r sums cur row m h = let e = row_in sums r w 0 m.sums_long (omega arith) in omega arith
-
-pub cur_in : (w r : ℕ) (was is sums row : List ℕ) → Room w r sums was row → length is ≡ length was → w ≤ length is
-cur_in w r was is sums row m e = rw e m.cur_long

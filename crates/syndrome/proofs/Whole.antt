@@ -2,33 +2,19 @@
 -- Assumes nothing.
 use mathlib.Core.Path.{◌≡◌, ap, ◌∙◌}
 use mathlib.Core.List.{List}
-use Prim.Native.Nat.{ℕ, ◌+◌, ◌*◌, ◌<◌, ◌≤◌}
+use Prim.Native.Nat.{ℕ, ◌+◌, ◌<◌}
 use native.Mathlib.Omega.{arith}
-use mir.Val.{Fits}
-use mir.Syntax.{w64}
 use lib.ListN.{length}
-use Rattle.algebra.specs.Field.{Ops}
 use Rattle.algebra.specs.Sum.{pow}
 use Rattle.algebra.specs.Lagrange.{check}
 use Rattle.algebra.specs.Erasure.{fill}
 use Rattle.algebra.proofs.Sum.{sum_congr}
 use Rattle.algebra.specs.Shape.{Field}
 use Rattle.kernel.specs.Inner.{cell}
-use Rattle.kernel.proofs.Rows.{row_before}
 use Rattle.layout.specs.declared.Layout.{Layout}
 use Rattle.layout.specs.Layout.{trays}
 use Rattle.codeword.specs.Codeword.{symbol_at, point_at, check_at}
 use Rattle.syndrome.specs.Inner.{Listed, entry_of, survivor_at, Sums}
-
--- a row and a column lie in the sums
-pub sum_in : (sums : List ℕ) (w r t j : ℕ) → r * w ≤ length sums → t < r → j < w → t * w + j < length sums
-sum_in sums w r t j h ht hj = let e = row_before t r w ht in omega arith
-
-pub row_fits : (sums : List ℕ) (w r t j : ℕ) → r * w ≤ length sums → t < r → j < w → Fits w64 (length sums) → Fits w64 (t * w)
-row_fits sums w r t j h ht hj f = let e = sum_in sums w r t j h ht hj in omega arith
-
-pub sum_fits : (sums : List ℕ) (w r t j : ℕ) → r * w ≤ length sums → t < r → j < w → Fits w64 (length sums) → Fits w64 (t * w + j)
-sum_fits sums w r t j h ht hj f = let e = sum_in sums w r t j h ht hj in omega arith
 
 -- an empty list leaves no tray out
 pub none_listed : (l : Layout) (es : List ℕ) → length es ≡ 0 → Listed l es

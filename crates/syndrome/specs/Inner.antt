@@ -1,7 +1,6 @@
 -- The checks of a block of layers, over any field: what inner functions are told and give. Nothing here has to be believed.
 -- Assumes nothing.
 use Rattle.std.specs.Prelude.{◌≡◌, List, ℕ, zero, suc, ◌+◌, ◌*◌, ◌/◌, ◌<◌, ◌≤◌, length, get_or}
-use Rattle.algebra.specs.Field.{Ops}
 use Rattle.algebra.specs.Sum.{sum, pow}
 use Rattle.algebra.specs.Erasure.{fill, Places}
 use Rattle.algebra.specs.Layers.{digit}
@@ -22,7 +21,7 @@ pub record Listed (l : Layout) (es : List ℕ) : Type 0 where
   pub few : length es ≤ checks l
 
 -- room for the first r checks of w layers, and for w symbols and points
-pub record Room (w r : ℕ) (sums cur row : List ℕ) : Type 0 where
+pub record Room {X : Type 0} (w r : ℕ) (sums cur row : List X) : Type 0 where
   pub sums_long : r * w ≤ length sums
   pub cur_long : w ≤ length cur
   pub row_long : w ≤ length row

@@ -4,41 +4,38 @@
 
 ghost use Rattle.std.specs.Prelude.{◌≡◌, ℕ, ◌+◌, ◌*◌, ◌/◌, ◌^◌, ◌<◌, ◌≤◌, length};
 ghost use Rattle.kernel.specs.Inner.{Run};
-ghost use Rattle.symbol.specs.Elem.{gf256};
 ghost use Rattle.layout.specs.Layout.{trays, digits, layers};
 ghost use Rattle.blocks.specs.Inner.{Block};
 ghost use Rattle.syndrome.specs.Inner.{Listed, Room, power_run, DigitPowers, TrayPoints, Terms, Later, TrayTerms, KeptTerms, Sums};
 
+use field::FieldNumber;
 use layout::Layout;
-use symbol::plain::{ROOT, power, product};
 
 // s runs of equal symbols, each run z times the one before.
-fn power_runs(row: &mut [u8], run: usize, s: usize, first: u8, z: u8)
+fn power_runs<N: FieldNumber>(row: &mut [N], run: usize, s: usize, first: N, z: N)
     requires { (s * run ≤ length row.old) × (0 < run) }
-    ensures { Run (power_run gf256 z first run) row.old row.new 0 (s * run) }
+    ensures { Run (power_run N.field (N.code z) (N.code first) run) (N.codes row.old) (N.codes row.new) 0 (s * run) }
 {
-    let mut a = 0usize;
     let mut v = first;
-    while a < s {
+    for a in 0..s {
         kernel::fill(row, a * run, run, v);
-        v = product(v, z);
-        a += 1;
+        v = v.product(z);
     }
 }
 
 // A symbol times z to the power of digit i, which runs through the block.
-fn repeated_powers(
-    row: &mut [u8],
+fn repeated_powers<N: FieldNumber>(
+    row: &mut [N],
     l: Layout,
     w: usize,
     first: usize,
     i: u32,
     run: usize,
-    start: u8,
-    z: u8,
+    start: N,
+    z: N,
 )
     requires { Block l w first × (w ≤ length row.old) × (run ≡ digits l ^ i) × (run < w) }
-    ensures { DigitPowers gf256 l w first i start z row.new }
+    ensures { DigitPowers N.field l w first i (N.code start) (N.code z) (N.codes row.new) }
 {
     let s = layout::digit_count(l) as usize;
     power_runs(row, run, s, start, z);
@@ -46,9 +43,17 @@ fn repeated_powers(
 }
 
 // A symbol times z to the power of digit i, for each number of a block: of layers, or of groups.
-pub fn digit_powers(row: &mut [u8], l: Layout, w: usize, first: usize, i: u32, start: u8, z: u8)
+pub fn digit_powers<N: FieldNumber>(
+    row: &mut [N],
+    l: Layout,
+    w: usize,
+    first: usize,
+    i: u32,
+    start: N,
+    z: N,
+)
     requires { Block l w first × (i < l.racks) × (w ≤ length row.old) }
-    ensures { DigitPowers gf256 l w first i start z row.new }
+    ensures { DigitPowers N.field l w first i (N.code start) (N.code z) (N.codes row.new) }
 {
     let run = blocks::block_width(l, i);
     if run < w {
@@ -57,36 +62,34 @@ pub fn digit_powers(row: &mut [u8], l: Layout, w: usize, first: usize, i: u32, s
     }
     let s = layout::digit_count(l);
     let a = layout::digit_at(s, first as u32, i);
-    let v = product(power(z, a), start);
+    let v = z.power(a).product(start);
     kernel::fill(row, 0, w, v);
 }
 
 // The points of tray x in the layers of a block.
-pub fn tray_points(row: &mut [u8], l: Layout, w: usize, first: usize, x: u32)
+pub fn tray_points<N: FieldNumber>(row: &mut [N], l: Layout, w: usize, first: usize, x: u32)
     requires { Block l w first × (x < trays l) × (w ≤ length row.old) }
-    ensures { TrayPoints gf256 l w first x row.new }
+    ensures { TrayPoints N.field l w first x (N.codes row.new) }
 {
     let u = l.size;
     let p = points::point_power(l, x, 0, 1);
-    digit_powers(row, l, w, first, x / u, p, ROOT);
+    digit_powers(row, l, w, first, x / u, p, N::root_power(1));
 }
 
 // Adds the terms of a tray to the checks from 1 on: its symbols times the powers of its points.
-fn later_terms(sums: &mut [u8], w: usize, r: usize, cur: &mut [u8], row: &[u8])
+fn later_terms<N: FieldNumber>(sums: &mut [N], w: usize, r: usize, cur: &mut [N], row: &[N])
     requires { Room w r sums.old cur.old row.now × (0 < r) }
-    ensures { Later gf256 w r row.now cur.old sums.old sums.new }
+    ensures { Later N.field w r (N.codes row.now) (N.codes cur.old) (N.codes sums.old) (N.codes sums.new) }
 {
-    let mut t = 1usize;
-    while t < r {
+    for t in 1..r {
         kernel::accrue(sums, t * w, w, cur, row);
-        t += 1;
     }
 }
 
 // Adds the terms of a tray to the first r checks.
-pub fn add_terms(sums: &mut [u8], w: usize, r: usize, cur: &mut [u8], row: &[u8])
+pub fn add_terms<N: FieldNumber>(sums: &mut [N], w: usize, r: usize, cur: &mut [N], row: &[N])
     requires { Room w r sums.old cur.old row.now }
-    ensures { Terms gf256 w r row.now cur.old sums.old sums.new }
+    ensures { Terms N.field w r (N.codes row.now) (N.codes cur.old) (N.codes sums.old) (N.codes sums.new) }
 {
     if r == 0 {
         return;
@@ -96,19 +99,19 @@ pub fn add_terms(sums: &mut [u8], w: usize, r: usize, cur: &mut [u8], row: &[u8]
 }
 
 // Adds the terms of tray x of a codeword. Check 0 needs no points.
-fn tray_terms(
-    sums: &mut [u8],
+fn tray_terms<N: FieldNumber>(
+    sums: &mut [N],
     l: Layout,
     w: usize,
     first: usize,
     r: usize,
-    c: &[u8],
+    c: &[N],
     x: u32,
-    cur: &mut [u8],
-    row: &mut [u8],
+    cur: &mut [N],
+    row: &mut [N],
 )
     requires { Block l w first × Room w r sums.old cur.old row.old × (length c.now ≡ trays l * layers l) × (x < trays l) }
-    ensures { TrayTerms gf256 l w first r c.now x sums.old sums.new }
+    ensures { TrayTerms N.field l w first r (N.codes c.now) x (N.codes sums.old) (N.codes sums.new) }
 {
     let total = layout::layer_count(l) as usize;
     kernel::copy(cur, 0, w, c, x as usize * total + first);
@@ -121,20 +124,20 @@ fn tray_terms(
 }
 
 // Adds them unless the tray is listed: its symbols are not looked at.
-fn kept_terms(
-    sums: &mut [u8],
+fn kept_terms<N: FieldNumber>(
+    sums: &mut [N],
     l: Layout,
     w: usize,
     first: usize,
     r: usize,
-    c: &[u8],
+    c: &[N],
     es: &[u32],
     x: u32,
-    cur: &mut [u8],
-    row: &mut [u8],
+    cur: &mut [N],
+    row: &mut [N],
 )
     requires { Block l w first × Room w r sums.old cur.old row.old × (length c.now ≡ trays l * layers l) × Listed l es.now × (x < trays l) }
-    ensures { KeptTerms gf256 l w first r c.now es.now x sums.old sums.new }
+    ensures { KeptTerms N.field l w first r (N.codes c.now) es.now x (N.codes sums.old) (N.codes sums.new) }
 {
     if !lists::is_absent(es, x) {
         return;
@@ -143,25 +146,22 @@ fn kept_terms(
 }
 
 // The first r checks of a block's layers, over the trays that are not listed.
-pub fn sum_kept(
-    sums: &mut [u8],
+pub fn sum_kept<N: FieldNumber>(
+    sums: &mut [N],
     l: Layout,
     w: usize,
     first: usize,
     r: usize,
-    c: &[u8],
+    c: &[N],
     es: &[u32],
-    cur: &mut [u8],
-    row: &mut [u8],
+    cur: &mut [N],
+    row: &mut [N],
 )
     requires { Block l w first × Room w r sums.old cur.old row.old × (length c.now ≡ trays l * layers l) × Listed l es.now }
-    ensures { Sums gf256 l w first r c.now es.now (trays l) sums.new }
+    ensures { Sums N.field l w first r (N.codes c.now) es.now (trays l) (N.codes sums.new) }
 {
-    let n = layout::tray_count(l);
-    kernel::fill(sums, 0, r * w, 0);
-    let mut x = 0u32;
-    while x < n {
+    kernel::fill(sums, 0, r * w, N::zero());
+    for x in 0..layout::tray_count(l) {
         kept_terms(sums, l, w, first, r, c, es, x, cur, row);
-        x += 1;
     }
 }

@@ -1,15 +1,12 @@
 -- The first block that does not fit, and its first layer, over any field.
 -- Assumes nothing.
 use mathlib.Core.Path.{◌≡◌, refl, sym, ap, ◌∙◌, subst}
-use mathlib.Core.Bool.{Bool, true, false, not}
+use mathlib.Core.Bool.{Bool, true}
 use mathlib.Core.List.{List}
 use Prim.Native.Nat.{ℕ, suc, ◌+◌, ◌-◌, ◌*◌, ◌/◌, ◌^◌, ◌<◌, ◌≤◌}
-use native.Mathlib.Nat.{add-mul, mul_assoc, mul-one, zero-mul, zero-add, pow-zero, pow-succ', pow-le-pow_right, mul-le-mul_left, le_trans}
+use native.Mathlib.Nat.{add-mul, mul_assoc, zero-mul, zero-add, pow-zero, pow-succ', pow-le-pow_right, mul-le-mul_left, le_trans}
 use native.Mathlib.Decide.{dec_lt}
 use native.Mathlib.Omega.{arith}
-use borrow.Author.Tests.{not-true, not-false}
-use mir.Val.{Fits}
-use mir.Syntax.{w64}
 use lib.ListN.{length}
 use Rattle.kernel.proofs.Rows.{row_end, row_before}
 use Rattle.algebra.specs.Shape.{Field}
@@ -21,7 +18,7 @@ use Rattle.blocks.proofs.Digits.{run_pos}
 use Rattle.blocks.proofs.Whole.{width_pos, count_whole}
 use Rattle.solving.specs.Inner.{Workspace}
 use Rattle.restore.specs.Inner.{LayerFits, Says, Erasing, BlockFits}
-use Rattle.restore.proofs.Says.{says_true, says_false}
+use Rattle.restore.proofs.Says.{says_true}
 use Rattle.test_kept.specs.Inner.{Wide, Stretch, SomeUnfit, FirstUnfit, BadBlock, FirstLayer}
 
 -- ---- room for a block
@@ -57,28 +54,6 @@ module _ (l : Layout) (e w from count : ℕ) (s : Stretch l e w from count) (q :
     rows = s.rows;
   }
 
-  pub step_fits : Fits w64 (q * w)
-  step_fits = let b = block_inside in let a = s.adm in omega arith
-
-  pub start_fits : Fits w64 (from + q * w)
-  start_fits = let b = block_inside in let a = s.adm in omega arith
-
--- more than a layer each, and so few
-pub next_fits : (l : Layout) (e w from count q : ℕ) → Stretch l e w from count → q < count → Fits w64 (q + 1)
-next_fits l e w from count q s h =
-    let a = s.adm.layers_high in
-    let i = s.inside in
-    let p = run_pos l s.adm e in
-    let g = s.width_is in
-    let b = many in
-    omega arith
-  where
-    many : count ≤ count * w
-    many = many_of count w (subst (λ (n : ℕ). 0 < n) (sym s.width_is) (run_pos l s.adm e))
-      where
-        many_of : (n w : ℕ) → 0 < w → n ≤ n * w
-        many_of n w h = subst (λ (y : ℕ). y ≤ n * w) (mul-one n) (mul-le-mul_left n h)
-
 module _ {A : Type 0} (f : Field A) (l : Layout) (w from : ℕ) (es c : List ℕ) where
   -- the first n layers of these fit
   abbrev pub FitTo : ℕ → Type 0
@@ -94,14 +69,10 @@ module _ {A : Type 0} (f : Field A) (l : Layout) (w from : ℕ) (es c : List ℕ
           let e : from + q * w + (j - q * w) ≡ from + j = omega arith in
           subst (LayerFits f l es c) e (b (j - q * w) (omega arith))
 
-  pub fit_more : (q : ℕ) (b : Bool) → FitTo (q * w) → Says b (BlockFits f l w (from + q * w) es c) → not b ≡ false → FitTo ((q + 1) * w)
-  fit_more q b g says e = fit_next q g (says_true b (not-false b e) says)
+  pub fit_more : (q : ℕ) (b : Bool) → FitTo (q * w) → Says b (BlockFits f l w (from + q * w) es c) → b ≡ true → FitTo ((q + 1) * w)
+  fit_more q b g says e = fit_next q g (says_true b e says)
 
   module _ (count q : ℕ) (g : FitTo (q * w)) (h : q < count) where
-    pub first_unfit : (b : Bool) → Says b (BlockFits f l w (from + q * w) es c) → not b ≡ true → FirstUnfit f l w from count es c
-        (from + q * w)
-    first_unfit b says e = record { q = q; q_in = h; first_is = refl; earlier = g; unfit = says_false b (not-true b e) says }
-
     -- the last one where all before it fit
     pub last_unfit : SomeUnfit f l w from count es c → count ≤ q + 1 → FirstUnfit f l w from count es c (from + q * w)
     last_unfit some k = record {
@@ -206,7 +177,3 @@ module _ {A : Type 0} (f : Field A) (l : Layout) (es c : List ℕ) where
     where
       one : digits l ^ e ≡ 1
       one = (let z : e ≡ 0 = omega arith in ap (λ (y : ℕ). digits l ^ y) z) ∙ pow-zero (digits l)
-
-  -- a digit taken off
-  pub one_fewer : (e first : ℕ) → BadBlock f l e es c first → 0 < e → BadBlock f l (e - 1 + 1) es c first
-  one_fewer e first b h = let q : e ≡ e - 1 + 1 = omega arith in subst (λ y. BadBlock f l y es c first) q b

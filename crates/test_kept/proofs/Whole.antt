@@ -9,7 +9,7 @@ use native.Mathlib.Omega.{arith}
 use borrow.Author.Tests.{eqb-true, le-leb}
 use lib.Dec.{eqb, leb}
 use lib.ListN.{length, get_or}
-use Rattle.lists.specs.Lists.{all, absent, unless, all_below, strictly_rising}
+use Rattle.lists.specs.Lists.{absent, unless, all_below, strictly_rising}
 use Rattle.lists.proofs.Bools.{all_true}
 use Rattle.lists.proofs.Numbers.{cell_read}
 use Rattle.lists.proofs.Numbered.{below_true, below_all, absent_true, rising_true}

@@ -52,14 +52,12 @@ fn bad_block(
     requires { Stretch l e w from count × Erasing l total es.now c.now × SomeUnfit gf256 l w from count es.now c.now }
     ensures { FirstUnfit gf256 l w from count es.now c.now result }
 {
-    let mut q = 0usize;
-    while q + 1 < count {
+    for q in 0..count - 1 {
         if !fits(l, total, e, w, from + q * w, c, es) {
             return from + q * w;
         }
-        q += 1;
     }
-    from + q * w
+    from + (count - 1) * w
 }
 
 // The first block of e digits that does not fit.
@@ -87,10 +85,9 @@ pub fn bad_layer(l: Layout, total: u32, c: &[u8], es: &[u32]) -> usize
     requires { Erasing l total es.now c.now × ¬ ((j : ℕ) → j < layers l → LayerFits gf256 l es.now c.now j) }
     ensures { FirstLayer gf256 l es.now c.now result }
 {
-    let mut e = blocks::block_digits(l);
-    let mut first = bad_wide(l, total, e, c, es);
-    while 0 < e {
-        e -= 1;
+    let wide = blocks::block_digits(l);
+    let mut first = bad_wide(l, total, wide, c, es);
+    for e in (0..wide).rev() {
         first = bad_part(l, total, e, first, c, es);
     }
     first

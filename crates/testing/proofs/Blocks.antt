@@ -1,15 +1,14 @@
 -- The first broken check, block after block.
 -- Assumes nothing.
 use mathlib.Core.Path.{◌≡◌, sym, ap, ◌∙◌, subst}
-use mathlib.Core.Bool.{Bool, true, false, not, false≢true}
+use mathlib.Core.Bool.{Bool, true, false, false≢true}
 use mathlib.Core.List.{List}
 use Prim.Native.Nat.{ℕ, ◌+◌, ◌-◌, ◌*◌, ◌<◌, ◌≤◌}
 use native.Mathlib.Decide.{dec_lt}
 use native.Mathlib.Omega.{arith}
-use borrow.Author.Tests.{eqb-true, eq-eqb, not-true, not-false}
+use borrow.Author.Tests.{eqb-true, eq-eqb}
 use lib.Dec.{eqb}
 use lib.ListN.{length, get_or}
-use Rattle.algebra.specs.Field.{Ops}
 use Rattle.algebra.specs.Shape.{Field}
 use Rattle.algebra.specs.Plain.{reduced, Working}
 use Rattle.algebra.proofs.Plain.{elem_zero, elem_nil, elem_reduced, reduced_below}
@@ -18,19 +17,16 @@ use Rattle.layout.specs.declared.Layout.{Layout}
 use Rattle.layout.specs.Layout.{trays, checks, layers}
 use Rattle.codeword.specs.Codeword.{check_at}
 use Rattle.codeword.specs.Test.{FirstBad}
-use Rattle.syndrome.specs.Inner.{Room, Sums}
+use Rattle.syndrome.specs.Inner.{Sums}
 use Rattle.syndrome.proofs.Whole.{sums_are}
 use Rattle.testing.specs.Inner.{FirstIn, FirstBroken}
 
-pub sums_in : (w r : ℕ) (sums new cur row : List ℕ) → Room w r sums cur row → length new ≡ length sums → r * w ≤ length new
-sums_in w r sums new cur row g e = rw e g.sums_long
-
 -- the test of one number
-pub zero_so : (x : ℕ) (b : Bool) → b ≡ eqb x 0 → not b ≡ false → x ≡ 0
-zero_so x b e n = eqb-true x 0 (sym e ∙ not-false b n)
+pub zero_so : (x : ℕ) (b : Bool) → b ≡ eqb x 0 → b ≡ true → x ≡ 0
+zero_so x b e t = eqb-true x 0 (sym e ∙ t)
 
-pub zero_not : (x : ℕ) (b : Bool) → b ≡ eqb x 0 → not b ≡ true → ¬ (x ≡ 0)
-zero_not x b e n z = false≢true (sym (sym e ∙ not-true b n) ∙ eq-eqb x 0 z)
+pub zero_not : (x : ℕ) (b : Bool) → b ≡ eqb x 0 → b ≡ false → ¬ (x ≡ 0)
+zero_not x b e n z = false≢true (sym (sym e ∙ n) ∙ eq-eqb x 0 z)
 
 module _ {A : Type 0} {f : Field A} (W : Working f) where
   open f use {ops}

@@ -1,7 +1,6 @@
 -- What inner functions are told and give. Nothing here has to be believed.
 -- Assumes nothing.
 use Rattle.std.specs.Prelude.{◌≡◌, List, ℕ, ◌+◌, ◌*◌, ◌<◌, ◌≤◌, get_or}
-use Rattle.algebra.specs.Field.{Ops}
 use Rattle.algebra.specs.Shape.{Field}
 use Rattle.algebra.specs.Plain.{reduced}
 use Rattle.layout.specs.declared.Layout.{Layout}

@@ -2,18 +2,17 @@
 -- Assumes nothing.
 use mathlib.Core.Path.{◌≡◌, refl, sym, ap, ap₂, ◌∙◌, subst}
 use mathlib.Core.List.{List}
-use Prim.Native.Nat.{ℕ, ◌+◌, ◌*◌, ◌/◌, ◌<◌, ◌≤◌}
+use Prim.Native.Nat.{ℕ, ◌+◌, ◌*◌, ◌/◌, ◌<◌}
 use native.Mathlib.Nat.{zero-add}
 use native.Mathlib.Omega.{arith}
 use lib.Dec.{T, eqb, eqb→eq, lit<}
-use lib.ListN.{length, get_or}
-use Rattle.algebra.specs.Field.{Ops, Laws}
+use lib.ListN.{get_or}
 use Rattle.algebra.specs.Sum.{sum, pow}
 use Rattle.algebra.proofs.Ring.{ring, one_mul}
 use Rattle.algebra.proofs.Pow.{pow_zero, one_pow}
 use Rattle.algebra.proofs.Plain.{elem_plus}
 use Rattle.symbol.specs.Arithmetic.{◌⊕◌, ◌⊗◌, mulz, shift_add, power, zpow}
-use Rattle.symbol.specs.Elem.{Elem, elem, ops, z, gf256}
+use Rattle.symbol.specs.Elem.{Elem, elem, ops, gf256}
 use Rattle.symbol.proofs.Tables.{log, logs, zpow_log}
 use Rattle.symbol.proofs.Elem.{laws, elem_zero, elem_one, elem_⊕, elem_⊗, elem_power, elem_zpow}
 use Rattle.symbol.proofs.Working.{working}

@@ -15,9 +15,7 @@ fn mixed(a: u8, b: u8, c: u8, d: u8, p: u8, q: u8, r: u8, s: u8) -> u8
     ensures { result ≡ mix a b c d p q r s }
 {
     let mut v = 0u8;
-    let mut k = 8u32;
-    while 0 < k {
-        k -= 1;
+    for k in (0..8).rev() {
         v = twice(v) ^ ((masked(a, p, k) ^ masked(b, q, k)) ^ (masked(c, r, k) ^ masked(d, s, k)));
     }
     v
@@ -28,8 +26,7 @@ fn sum_three(out: &mut [u8], len: usize, src: &[u8], from: usize, gap: usize, p:
     requires { (len ≤ length out.old) × (from + gap + gap + len ≤ length src.now) }
     ensures { Run (three src.now from gap p q) out.old out.new 0 len }
 {
-    let mut j = 0usize;
-    while j < len {
+    for j in 0..len {
         out[j] = src[from + j]
             ^ mixed(
                 src[from + gap + j],
@@ -41,7 +38,6 @@ fn sum_three(out: &mut [u8], len: usize, src: &[u8], from: usize, gap: usize, p:
                 0,
                 0,
             );
-        j += 1;
     }
 }
 
@@ -60,8 +56,7 @@ fn sum_five(
     requires { (len ≤ length out.old) × (from + gap + gap + gap + gap + len ≤ length src.now) }
     ensures { Run (five src.now from gap p q r s) out.old out.new 0 len }
 {
-    let mut j = 0usize;
-    while j < len {
+    for j in 0..len {
         out[j] = src[from + j]
             ^ mixed(
                 src[from + gap + j],
@@ -73,7 +68,6 @@ fn sum_five(
                 r,
                 s,
             );
-        j += 1;
     }
 }
 
@@ -83,16 +77,14 @@ pub fn weigh_three(out: &mut [u8], len: usize, src: &[u8], from: usize, gap: usi
     requires { (len ≤ length out.old) × (from + gap + gap + len ≤ length src.now) × (m < 3) × (m ≡ 2 → Weighed gf256 3 1 src.now from gap len out.old) }
     ensures { Weighed gf256 3 m src.now from gap len out.new }
 {
-    if m == 0 {
-        sum_three(out, len, src, from, gap, 1, 1);
-        return;
+    match m {
+        0 => sum_three(out, len, src, from, gap, 1, 1),
+        1 => sum_three(out, len, src, from, gap, 214, 215),
+        _ => {
+            kernel::add(out, 0, len, src, from + gap);
+            kernel::add(out, 0, len, src, from + gap + gap);
+        }
     }
-    if m == 1 {
-        sum_three(out, len, src, from, gap, 214, 215);
-        return;
-    }
-    kernel::add(out, 0, len, src, from + gap);
-    kernel::add(out, 0, len, src, from + gap + gap);
 }
 
 // The same over racks of five: the factors are 1, z^51, z^102, z^153 and z^204 to the power m.
@@ -100,21 +92,11 @@ pub fn weigh_five(out: &mut [u8], len: usize, src: &[u8], from: usize, gap: usiz
     requires { (len ≤ length out.old) × (from + gap + gap + gap + gap + len ≤ length src.now) × (m < 5) }
     ensures { Weighed gf256 5 m src.now from gap len out.new }
 {
-    if m == 0 {
-        sum_five(out, len, src, from, gap, 1, 1, 1, 1);
-        return;
+    match m {
+        0 => sum_five(out, len, src, from, gap, 1, 1, 1, 1),
+        1 => sum_five(out, len, src, from, gap, 10, 68, 146, 221),
+        2 => sum_five(out, len, src, from, gap, 68, 221, 10, 146),
+        3 => sum_five(out, len, src, from, gap, 146, 10, 221, 68),
+        _ => sum_five(out, len, src, from, gap, 221, 146, 68, 10),
     }
-    if m == 1 {
-        sum_five(out, len, src, from, gap, 10, 68, 146, 221);
-        return;
-    }
-    if m == 2 {
-        sum_five(out, len, src, from, gap, 68, 221, 10, 146);
-        return;
-    }
-    if m == 3 {
-        sum_five(out, len, src, from, gap, 146, 10, 221, 68);
-        return;
-    }
-    sum_five(out, len, src, from, gap, 221, 146, 68, 10);
 }

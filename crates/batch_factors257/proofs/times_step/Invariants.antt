@@ -1,0 +1,8 @@
+-- Made by tools/twin.py from crates/batch_factors/proofs/times_step/Invariants.antt.
+use Rattle.symbol257.specs.Elem.{gf257}
+use Rattle.kernel.specs.Inner.{Run}
+use Rattle.batch_factors.specs.Inner.{step_at}
+use Rattle.batch_factors257.proofs.times_step.Given as goal
+
+abbrev pub invariant-loop-j : goal.invariant-loop-j
+invariant-loop-j l = Run (step_at gf257 l.initial.g l.to l.xs l.v) l.initial.g l.g l.to l.j

@@ -1,0 +1,8 @@
+-- Made by tools/twin.py from crates/batch_repair/proofs/add_rows/Invariants.antt.
+use Rattle.symbol257.specs.Elem.{gf257}
+use Rattle.kernel.specs.Inner.{Run}
+use Rattle.batch_repair.specs.Inner.{card_row}
+use Rattle.batch_repair257.proofs.add_rows.Given as goal
+
+abbrev pub invariant-loop-k : goal.invariant-loop-k
+invariant-loop-k l = Run (card_row gf257 l.card l.at l.shares l.from l.far l.k) l.initial.out l.out l.to l.len

@@ -1,0 +1,7 @@
+-- Made by tools/twin.py from crates/batch_repair/proofs/repair_groups/Invariants.antt.
+use Rattle.symbol257.specs.Elem.{gf257}
+use Rattle.batch_repair.specs.Inner.{BatchPiece}
+use Rattle.batch_repair257.proofs.repair_groups.Given as goal
+
+abbrev pub invariant-loop-k : goal.invariant-loop-k
+invariant-loop-k l = BatchPiece gf257 l.l l.many l.x l.helpers l.shares l.host l.first l.k l.initial.spare l.spare

@@ -1,0 +1,5 @@
+use Rattle.batch_restore.proofs.Rows.{eights_is}
+use Rattle.batch_restore.proofs.eights.Goals as goal
+
+pub returns : goal.returns
+returns c = search eights_is

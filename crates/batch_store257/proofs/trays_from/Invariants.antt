@@ -1,0 +1,6 @@
+-- Made by tools/twin.py from crates/batch_store/proofs/trays_from/Invariants.antt.
+use Rattle.std.proofs.Common.{◌≡◌, ℕ, ◌+◌, ◌<◌, get_or}
+use Rattle.batch_store257.proofs.trays_from.Given as goal
+
+abbrev pub invariant-loop-i : goal.invariant-loop-i
+invariant-loop-i l = (k : ℕ) → k < l.i → get_or l.list k 0 ≡ l.first + k

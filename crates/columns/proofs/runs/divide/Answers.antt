@@ -1,0 +1,17 @@
+use Rattle.std.proofs.Common.{arith, ◌+◌}
+use Rattle.field.proofs.Numbers.{codes_set, codes_at, codes_room}
+use Rattle.columns.proofs.Dividing.{divide_more}
+use Rattle.columns.proofs.runs.divide.Goals as goal
+
+pub loop-j-preserved : goal.loop-j-preserved
+loop-j-preserved g c =
+    let w = g.met.N.FieldNumber.numbers in
+    let a = c.args in
+    rw (codes_set w)
+    (divide_more g.N.FieldNumber.field _ _ _ _ _ _ _ _ _ a.len (g.N.FieldNumber.code c.product.result) _
+    c.loop-j.invariant c.loop-j-test.true c.requires.0 (codes_room w _ (omega arith))
+    (rw (
+      codes_at w c.loop-j.out (a.next + c.loop-j.j) c.index-out-next.is (omega arith),
+      codes_at w a.by.now (a.at + c.loop-j.j) c.index-by-at.is (omega arith),
+    ) c.product.ensures)
+    (rw (codes_at w a.src.now (a.from + c.loop-j.j) c.index-src-from.is (omega arith)) c.sum.ensures))

@@ -1,0 +1,15 @@
+use Rattle.std.proofs.Common.{arith, ◌+◌}
+use Rattle.field.proofs.Numbers.{codes_set, codes_at, codes_room}
+use Rattle.columns.proofs.Dividing.{scale_more}
+use Rattle.columns.proofs.runs.scale.Goals as goal
+
+pub loop-j-preserved : goal.loop-j-preserved
+loop-j-preserved g c =
+    let w = g.met.N.FieldNumber.numbers in
+    let a = c.args in
+    rw (codes_set w)
+    (scale_more g.N.FieldNumber.field _ _ _ _ _ _ a.len _ c.loop-j.invariant c.loop-j-test.true (codes_room w _ (omega arith))
+    (rw (
+      codes_at w c.loop-j.out (a.to + c.loop-j.j) c.index-out-to.is (omega arith),
+      codes_at w a.by.now (a.at + c.loop-j.j) c.index-by-at.is (omega arith),
+    ) c.product.ensures))

@@ -1,0 +1,6 @@
+use Rattle.std.proofs.Common.{refl}
+use Rattle.correcting.specs.Inner.{plain_layout}
+use Rattle.correcting.proofs.plain_layout.Goals as goal
+
+pub returns : goal.returns
+returns c = unfold plain_layout in refl

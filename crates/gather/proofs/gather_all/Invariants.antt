@@ -1,0 +1,7 @@
+use Rattle.image.specs.Image.{edition1}
+use Rattle.gather.proofs.Whole.{GatheredTo}
+use Rattle.gather.proofs.gather_all.Given as goal
+
+abbrev pub invariant-loop-x : goal.invariant-loop-x
+invariant-loop-x l =
+    GatheredTo edition1 l.l l.volume l.images l.initial.codeword l.initial.missing l.x l.codeword l.missing l.count

@@ -1,0 +1,19 @@
+use Rattle.std.proofs.Common.{arith}
+use Rattle.image.specs.Image.{edition1}
+use Rattle.gather.proofs.Taking.{place_in, tray_copied}
+use Rattle.gather.proofs.tray.copy_tray.Goals as goal
+
+pub overflow_mul-from : goal.overflow_mul-from
+overflow_mul-from c =
+    let a = c.args in
+    let h = place_in edition1 a.l a.images.now a.place _ c.image_length-size.ensures c.requires.read in
+    omega arith
+
+pub slice_bounds-copy_part-end : goal.slice_bounds-copy_part-end
+slice_bounds-copy_part-end c =
+    let a = c.args in
+    let h = place_in edition1 a.l a.images.now a.place _ c.image_length-size.ensures c.requires.read in
+    omega arith
+
+pub returns : goal.returns
+returns c = search tray_copied

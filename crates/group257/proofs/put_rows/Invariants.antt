@@ -1,0 +1,6 @@
+-- Made by tools/twin.py from crates/group/proofs/put_rows/Invariants.antt.
+use Rattle.group.specs.Inner.{PutRows}
+use Rattle.group257.proofs.put_rows.Given as goal
+
+abbrev pub invariant-loop-i : goal.invariant-loop-i
+invariant-loop-i l = PutRows l.total l.w l.start l.run l.stride l.found l.initial.spare l.spare l.i

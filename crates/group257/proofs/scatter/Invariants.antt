@@ -1,0 +1,7 @@
+-- Made by tools/twin.py from crates/group/proofs/scatter/Invariants.antt.
+use Rattle.std.proofs.Common.{◌*◌}
+use Rattle.group.specs.Inner.{Scattered}
+use Rattle.group257.proofs.scatter.Given as goal
+
+abbrev pub invariant-loop-c : goal.invariant-loop-c
+invariant-loop-c l = Scattered l.start l.run l.stride (l.c * l.run) l.src l.from l.initial.out l.out

@@ -1,8 +1,0 @@
-use borrow.Author.Rules.{rules}
-use Rattle.symbol257.specs.Elem.{gf257}
-use Rattle.image.proofs.Editions.{all_tested}
-use Rattle.image257.proofs.all_symbols.Statement.{statement}
-use Rattle.image257.proofs.all_symbols.Tie as tie
-
-pub all_symbols_spec : {M : Type 1} → statement M
-all_symbols_spec = tie.close (tie.spec (λ c κs. search rules) (λ c. search (all_tested gf257)))

@@ -1,0 +1,5 @@
+use Rattle.locating.proofs.Blocks.{rooms}
+use Rattle.locating.proofs.locate.Goals as goal
+
+pub locate_in-requires : goal.locate_in-requires
+locate_in-requires c = (c.requires, rooms)

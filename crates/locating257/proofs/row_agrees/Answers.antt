@@ -1,0 +1,10 @@
+-- Made by tools/twin.py from crates/locating/proofs/row_agrees/Answers.antt.
+use Rattle.symbol257.proofs.Working.{working}
+use Rattle.locating.proofs.Rows.{agrees_more, agrees_not}
+use Rattle.locating257.proofs.row_agrees.Goals as goal
+
+pub returns-then-difference-ne0 : goal.returns-then-difference-ne0
+returns-then-difference-ne0 c = search (agrees_not working)
+
+pub loop-j-preserved : goal.loop-j-preserved
+loop-j-preserved c = search (agrees_more working)

@@ -1,0 +1,6 @@
+use Rattle.std.proofs.Common.{rules}
+use Rattle.pieces.proofs.Blocks.{rooms, spacious}
+use Rattle.pieces.proofs.repair_large.Goals as goal
+
+pub repair_blocks-requires : goal.repair_blocks-requires
+repair_blocks-requires c = (search rules, search spacious, rooms)

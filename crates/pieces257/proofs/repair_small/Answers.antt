@@ -1,0 +1,7 @@
+-- Made by tools/twin.py from crates/pieces/proofs/repair_small/Answers.antt.
+use Rattle.std.proofs.Common.{rules}
+use Rattle.pieces.proofs.Blocks.{few_spacious, small_rooms}
+use Rattle.pieces257.proofs.repair_small.Goals as goal
+
+pub repair_blocks-requires : goal.repair_blocks-requires
+repair_blocks-requires c = (search rules, search few_spacious, small_rooms)

@@ -1,9 +1,0 @@
-use Rattle.share.proofs.Refusals.{none_seen, some_seen}
-use Rattle.share.proofs.looked.Statement.{statement}
-use Rattle.share.proofs.looked.Tie as tie
-
-pub looked_spec : {M : Type 1} → statement M
-looked_spec =
-    tie.close (tie.spec
-    (λ c. search none_seen)
-    (λ c. search some_seen))

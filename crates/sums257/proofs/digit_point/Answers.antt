@@ -1,0 +1,10 @@
+-- Made by tools/twin.py from crates/sums/proofs/digit_point/Answers.antt.
+use Rattle.symbol257.proofs.Working.{working}
+use Rattle.sums.proofs.Steps.{digit_power, power_wide}
+use Rattle.sums257.proofs.digit_point.Goals as goal
+
+pub overflow_cast-i : goal.overflow_cast-i
+overflow_cast-i c = search power_wide
+
+pub returns : goal.returns
+returns c = search (digit_power working)

@@ -1,0 +1,6 @@
+-- Made by tools/twin.py from crates/sums/proofs/rack_place/Answers.antt.
+use Rattle.sums.proofs.Steps.{place_fits}
+use Rattle.sums257.proofs.rack_place.Goals as goal
+
+pub overflow_add-result : goal.overflow_add-result
+overflow_add-result c = search place_fits
