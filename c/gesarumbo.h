@@ -61,43 +61,43 @@
  *                                       field of 256      field of 257
  *     call                            stack     code    stack     code
  *     measure                           256      511      256      511
- *     test                            3,008   23,879    4,800    8,995
- *     store                          15,040   58,869   22,080   23,051
- *     recover                        14,912   60,773   21,952   26,486
- *     recover_correcting             15,296   61,398   22,336   27,111
- *     test_kept                      21,760   61,002   35,392   26,545
- *     share                           5,504   22,019    9,216   28,964
- *     share_add                       5,440   21,923    9,152   29,556
- *     share_many                      5,504   22,038    9,216   28,983
- *     share_add_many                  5,440   21,942    9,152   29,575
- *     repair                         14,016   49,374   25,856   37,343
- *     repair_many                    14,016   49,364   25,792   37,333
- *     repair_correcting              42,496   57,054   82,624   41,179
- *     card                           11,328   35,520   21,504   18,906
- *     card_test                      11,328   36,211   21,504   20,309
- *     card_repair                    13,056   47,441   24,704   32,660
+ *     test                            3,008   23,239    4,800    8,851
+ *     store                          15,040   58,229   22,080   22,939
+ *     recover                        14,912   60,117   21,952   26,326
+ *     recover_correcting             15,296   60,760   22,336   26,969
+ *     test_kept                      21,760   60,465   35,392   26,394
+ *     share                           5,504   22,035    9,216   28,980
+ *     share_add                       5,440   21,939    9,152   29,572
+ *     share_many                      5,504   22,054    9,216   28,999
+ *     share_add_many                  5,440   21,958    9,152   29,591
+ *     repair                         14,016   48,974   25,792   36,239
+ *     repair_many                    14,016   48,964   25,792   36,229
+ *     repair_correcting              42,496   56,833   82,624   39,841
+ *     card                           11,328   35,106   21,504   18,498
+ *     card_test                      11,328   35,815   21,504   19,897
+ *     card_repair                    12,992   47,139   24,704   31,660
  *     read_part                         256    1,199      256    1,199
- *     write_image                       448    3,584      448    4,289
- *     read_image                        384    3,439      448    3,887
- *     margin                            256      510      256      510
- *     states                            512    4,130      640    4,564
- *     gather                            576    5,487      704    6,191
- *     gather_rack                       704    5,991      832    6,565
+ *     write_image                       448    3,600      448    4,305
+ *     read_image                        448    3,647      512    4,095
+ *     margin                            256    2,910      256    2,910
+ *     states                            512    4,338      640    4,772
+ *     gather                            640    5,695      768    6,399
+ *     gather_rack                       704    5,770      832    6,263
  *     scrub_reset                       320      474      320      474
- *     scrub                           3,072   24,349    4,864   10,702
+ *     scrub                           3,072   23,709    4,928   10,558
  *     scrub_reset_in_place              320      485      320      485
- *     scrub_in_place                  3,072   24,356    4,864   10,709
- *     store_batch                    17,600   19,638   27,136   10,619
- *     share_batch                       896   17,904      512   23,136
- *     repair_batch                   11,584   39,344   21,760   27,626
- *     all calls                      42,496  162,495   82,624  129,633
+ *     scrub_in_place                  3,072   23,716    4,928   10,565
+ *     store_batch                    17,600   19,654   27,136   10,635
+ *     share_batch                       896   17,920      512   23,152
+ *     repair_batch                   11,584   38,901   21,760   27,045
+ *     all calls                      42,496  162,303   82,624  128,689
  *
  *     checksum                        2,240    4,971
- *     box_store                         256    6,703
- *     box_data                          384    7,561
- *     box_recover                       384    6,039
+ *     box_store                         256    6,719
+ *     box_data                          384    7,113
+ *     box_recover                       384    5,591
  *     box_share                         192      135
- *     box_repair                        192      503
+ *     box_repair                        192      508
  *
  * From trays to records. Which trays are good is no question for the caller: gesarumbo_gather takes
  * what stands at all places of a cabinet, anything at all, and gives the symbols of the trays that

@@ -49,6 +49,8 @@ FLAGS = [
     '-mllvm', '-disable-machine-licm', '-mllvm', '-disable-postra-machine-licm', '-mllvm', '-sink-common-insts=false',
     '--no-default-config', '-no-canonical-prefixes', '-fintegrated-cc1', '-fno-crash-diagnostics', '-Werror', '-fPIC', '-O3',
 ]
+# What the attributes of functions say of the processor.
+PROCESSOR = r' "probe-stack"="inline-asm" "stack-probe-size"="\d+" "target-cpu"="x86-64"'
 STDDEF = 'typedef __SIZE_TYPE__ size_t;\n#define NULL ((void *)0)\n'
 STDINT = ''.join('typedef __%s_TYPE__ %s_t;\n' % (name.upper(), name) for name in ('uint8', 'uint16', 'uint32', 'int32', 'uint64'))
 
@@ -146,16 +148,26 @@ def stores(gives):
     ]
 
 
+def nameless(text):
+    """The module's text without the processor's name, which each group of attributes of functions that are there has in one place, and nothing else."""
+    groups = re.findall(r'^attributes #\d+ = \{.*"target-cpu".*\}$', text, flags=re.M)
+    if not groups:
+        sys.exit('the module names no processor')
+    for group in groups:
+        text = only('^%s$' % re.escape(group), only(PROCESSOR, '', group), text)
+    left = re.search(r'"(probe-stack|stack-probe-size|target-cpu|target-features|tune-cpu)"|x86', text)
+    if left:
+        sys.exit('the module names a processor in another place too: %s' % left.group(0))
+    return text
+
+
 def ported(text, target):
     """The module's text for a target, with the plain functions."""
     triple, layout, _ = TARGETS[target]
     text = only(r'^target triple = ".*"$', 'target triple = "%s"' % triple, text)
     if layout is not None:
         text = only(r'^target datalayout = ".*"$', 'target datalayout = "%s"' % layout, text)
-        # one place for each kind of function
-        text, places = re.subn(r' "probe-stack"="inline-asm" "stack-probe-size"="\d+" "target-cpu"="x86-64"', '', text)
-        if not places:
-            sys.exit('the module names no processor')
+        text = nameless(text)
     exported = set(re.findall(r'^define (?!internal)[^@]*@(\w+)\(', text, flags=re.M))
     if exported != {call.name for call in header.calls()}:
         sys.exit('the header and the module differ: %s' % ', '.join(sorted(exported ^ {call.name for call in header.calls()})))

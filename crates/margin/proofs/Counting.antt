@@ -7,10 +7,10 @@ use Prim.Native.Nat.{ℕ, zero, suc, ◌+◌, ◌≤◌, ◌<◌}
 use native.Mathlib.Numerals.{add-one}
 use native.Mathlib.Omega.{arith}
 use lib.Dec.{eqb}
-use Rattle.std.specs.Prelude.{count_by}
-use lib.ListN.{length, take, get_or}
-use lib.Seq.{take-length}
-use Rattle.std.proofs.lemmas.List.Sums.{sum_by_more}
+use lib.ListN.{length, get_or}
+use mir.Syntax.{w32}
+use mir.Val.{Fits, bool_byte}
+use Rattle.layout.specs.Layout.{tray_limit}
 use Rattle.margin.specs.Margin.{live}
 
 one_high : (t : Bool) → cond t 1 0 ≤ 1
@@ -23,6 +23,29 @@ unfolding live
 live_high states zero = omega arith
 live_high states (suc n) = omega (arith, live_high states n, one_high (eqb (get_or states n 0) 1))
 
+-- the loop that counts: an answer of true adds 1
+pub live_none : (states : List ℕ) → 0 ≡ live states 0
+unfolding live
+live_none states = refl
+
+byte_is : (t : Bool) → bool_byte t ≡ cond t 1 0
+byte_is true = refl
+byte_is false = refl
+
+module _ (states : List ℕ) (n count : ℕ) (e : count ≡ live states n) where
+  pub live_more : (t : Bool) → t ≡ eqb (get_or states n 0) 1 → count + bool_byte t ≡ live states (n + 1)
+  unfolding live
+  live_more t f = ap₂ ◌+◌ e (byte_is t ∙ ap (λ (b : Bool). cond b 1 0) f) ∙ ap (live states) (sym (add-one n))
+
+  pub live_fits : (t : Bool) → t ≡ eqb (get_or states n 0) 1 → n < length states → length states ≤ tray_limit → Fits w32 (count + bool_byte t)
+  live_fits t f h k = record { fits = omega (arith, live_more t f, live_high states (n + 1)) }
+
+  pub live_all : length states ≤ n → n ≤ length states → count ≡ live states (length states)
+  live_all h k = let q : n ≡ length states = omega arith in e ∙ ap (live states) q
+
+  pub live_few : n ≤ length states → length states ≤ tray_limit → count ≤ tray_limit
+  live_few h k = omega (arith, live_high states n)
+
 -- where all count, or none
 pub live_same : (t : Bool) (states : List ℕ) (n : ℕ) → ((i : ℕ) → i < n → eqb (get_or states i 0) 1 ≡ t) → live states n ≡ cond t n 0
 unfolding live
@@ -34,14 +57,3 @@ live_same t states (suc n) h =
     more : (t : Bool) → cond t n 0 + cond t 1 0 ≡ cond t (suc n) 0
     more true = omega arith
     more false = omega arith
-
--- the live trays are those states of the list that are 1
-live_upto : (states : List ℕ) (n : ℕ) → n ≤ length states → live states n ≡ count_by (λ s. eqb s 1) (take n states)
-unfolding live
-live_upto states zero h = refl
-live_upto states (suc n) h =
-    ap (λ y. y + cond (eqb (get_or states n 0) 1) 1 0) (live_upto states n (omega arith))
-    ∙ sym (sum_by_more (λ s. cond (eqb s 1) 1 0) states n 0 (omega arith)) ∙ ap (λ k. count_by (λ s. eqb s 1) (take k states)) (add-one n)
-
-pub live_is : (states : List ℕ) → live states (length states) ≡ count_by (λ s. eqb s 1) states
-live_is states = live_upto states (length states) (omega arith) ∙ ap (count_by (λ s. eqb s 1)) (take-length states)
