@@ -34,6 +34,10 @@ module _ (xs : List ℕ) (n : ℕ) where
   not_not true h e = false≢true h
   not_not false h e = false≢true e
 
+  pub absent_false : (k : ℕ) → k < length xs → get_or xs k 0 ≡ n → false ≡ absent xs n
+  unfolding absent
+  absent_false k h e = all_false _ _ k h (λ t. not_not (eqb (get_or xs k 0) n) t (eq-eqb _ _ e))
+
   pub absent_true : ((k : ℕ) → k < length xs → get_or xs k 0 ≡ n → ⊥) → true ≡ absent xs n
   unfolding absent
   absent_true f = sym (all_true _ _ (λ k h. ap not (ne_eqb _ _ (f k h))))
@@ -41,10 +45,6 @@ module _ (xs : List ℕ) (n : ℕ) where
   pub absent_all : absent xs n ≡ true → (k : ℕ) → k < length xs → get_or xs k 0 ≡ n → ⊥
   unfolding absent
   absent_all t k h e = not_not (eqb (get_or xs k 0) n) (all_holds (λ k. not (eqb (get_or xs k 0) n)) (length xs) t k h) (eq-eqb _ _ e)
-
-  -- an answer that is true exactly when no number is n
-  pub absent_told : {r : Bool} → Decides r ((k : ℕ) → k < length xs → get_or xs k 0 ≡ n → ⊥) → r ≡ absent xs n
-  absent_told {r} d = same_from_decides r (absent xs n) d (absent_all, λ f. sym (absent_true f))
 
 module _ (xs : List ℕ) where
   -- rising as far as k

@@ -19,11 +19,17 @@ pub fn strictly_rising(xs: &[u32]) -> bool
     xs.windows(2).all(|pair| pair[0] < pair[1])
 }
 
-// Whether n is not in the list. Not by `contains`, which is always called: a caller that needs no answer leaves this out.
+// Whether n is not in the list. By a `for`: with `contains` or `all`, `test` in layouts of few layers took up to three times
+// as long (docs/LOOK-BACK.md).
 pub fn is_absent(xs: &[u32], n: u32) -> bool
     ensures { result ≡ absent xs.now n }
 {
-    xs.iter().all(|x| *x != n)
+    for x in xs {
+        if *x == n {
+            return false;
+        }
+    }
+    true
 }
 
 // The smaller of two numbers.
